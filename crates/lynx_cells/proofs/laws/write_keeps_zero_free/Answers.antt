@@ -1,0 +1,5 @@
+use Rattle.lynx_cells.specs.Writes.{IsZeroFree-with_value}
+use Rattle.lynx_cells.proofs.laws.write_keeps_zero_free.Goals as goal
+
+pub returns : goal.returns
+returns c = IsZeroFree-with_value

@@ -1,0 +1,67 @@
+use crate::message::Message;
+use lynx_names::{ChainId, Stamp, Values};
+
+/// What a begin is answered.
+#[derive(Debug, PartialEq, Eq, Drop)]
+pub enum Answer {
+    /// The chain began; its hop 0 gave these results. `again`: it began earlier, by this very request.
+    Begun {
+        chain: ChainId,
+        stamp: Stamp,
+        results: Values,
+        again: bool,
+    },
+    /// The client used this number for another request.
+    Clash,
+    /// The set has no program of that number.
+    UnknownProgram,
+    /// Another server is the program's origin.
+    WrongOrigin,
+    /// The program has another count of parameters.
+    ArgCount,
+    /// A key parameter's cell isn't at its hop's server.
+    WrongShard,
+    /// The server's history has all the entries, or all the stamps, that it may have.
+    Full,
+    /// A chain begun here has still to return here.
+    Busy,
+    /// The first hop refused: this need, counted from 0, wasn't met. `again`: it refused earlier.
+    Refused {
+        need: u8,
+        stamp: Stamp,
+        again: bool,
+    },
+    /// The store failed, and the server answers nothing until it is reopened.
+    Stopped,
+    /// Want of memory. Nothing has changed.
+    Memory,
+}
+
+/// What a delivery is answered.
+#[derive(Debug, PartialEq, Eq, Drop)]
+pub enum Delivered {
+    /// The hop ran now. `next` is the message that it sends; a last hop sends none.
+    Done {
+        stamp: Stamp,
+        results: Values,
+        next: Option<Message>,
+    },
+    /// The hop ran before, on this very message.
+    Repeat {
+        stamp: Stamp,
+        results: Values,
+        next: Option<Message>,
+    },
+    /// It is not this hop's turn; the message is held.
+    Held,
+    /// It is not this hop's turn, and there is no room to hold the message; it may be delivered again.
+    Dropped,
+    /// Nobody of this set can have sent it.
+    Malformed,
+    /// The server's history has all the entries, or all the stamps, that it may have.
+    Full,
+    /// The store failed, and the server answers nothing until it is reopened.
+    Stopped,
+    /// Want of memory. Nothing has changed.
+    Memory,
+}

@@ -1,0 +1,52 @@
+//! What the words of an action mean, where the program's names have these values so far.
+ghost use Rattle.std.specs.Prelude.{◌≡◌, slice_index};
+ghost use Rattle.lynx_hops.specs.Meaning.{key_of, value_of, is_met, result_of};
+
+use lynx_text::{Key, Operand, Operator, Relation};
+
+/// The value at a place of a list. There is one at each place that a parsed program names.
+fn at(values: &[u64], place: u8) -> u64
+    ensures { result ≡ slice_index values.now place }
+{
+    values.get(usize::from(place)).copied().unwrap_or(0)
+}
+
+pub fn key_of(args: &[u64], key: Key) -> u64
+    ensures { result ≡ key_of args.now key }
+{
+    match key {
+        Key::Literal(key) => key,
+        Key::Param(place) => at(args, place),
+    }
+}
+
+pub fn value_of(names: &[u64], operand: Operand) -> u64
+    ensures { result ≡ value_of names.now operand }
+{
+    match operand {
+        Operand::Number(value) => value,
+        Operand::Name(place) => at(names, place),
+    }
+}
+
+pub fn result_of(operator: Operator, left: u64, right: u64) -> u64
+    ensures { result ≡ result_of operator left right }
+{
+    match operator {
+        Operator::Plus => left.wrapping_add(right),
+        Operator::Minus => left.wrapping_sub(right),
+    }
+}
+
+pub fn is_met(relation: Relation, left: u64, right: u64) -> bool
+    ensures { result ≡ is_met relation left right }
+{
+    match relation {
+        Relation::Below => left < right,
+        Relation::AtMost => left <= right,
+        Relation::Same => left == right,
+        Relation::Differs => left != right,
+        Relation::AtLeast => left >= right,
+        Relation::Above => left > right,
+    }
+}

@@ -1,0 +1,20 @@
+use crate::server::ServerId;
+use std::fmt;
+
+/// A begun chain: the `index`th of its origin, counted from 0. It is printed as `ORIGIN:INDEX`.
+#[derive(Clone, Copy, Debug, PartialEq, Eq, PartialOrd, Ord, Hash)]
+pub struct ChainId {
+    pub origin: ServerId,
+    pub index: u64,
+}
+
+impl fmt::Display for ChainId {
+    ghost use Rattle.std.specs.Prelude.{Some, ◌++◌, ◌∷◌, []};
+    ghost use Rattle.std.specs.Fmt.{decimal};
+
+    ghost output = { λ chain. Some (decimal chain.origin ++ 58 ∷ decimal chain.index) };
+
+    fn fmt<W: fmt::Write>(&self, f: &mut fmt::Formatter<W>) -> fmt::Result {
+        write!(f, "{}:{}", self.origin, self.index)
+    }
+}

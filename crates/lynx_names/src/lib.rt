@@ -1,0 +1,30 @@
+//! Names that the whole store speaks of: servers, tables, programs, clients, chains and stamps, the limits
+//! they keep, lists of values, and want of memory.
+#![tactic(auto)]
+
+pub use chain::ChainId;
+pub use client::ClientId;
+pub use items::Items;
+pub use memory::Memory;
+pub use program::ProgramId;
+pub use server::ServerId;
+pub use stamp::Stamp;
+pub use table::TableId;
+pub use try_copy::TryCopy;
+
+pub mod chain;
+pub mod client;
+pub mod items;
+pub mod limits;
+pub mod memory;
+pub mod program;
+pub mod server;
+pub mod stamp;
+pub mod table;
+pub mod try_copy;
+
+/// A list of values: the arguments of a chain, or the results of one hop.
+pub type Values = Items<u64>;
+
+#[cfg(test)]
+mod tests;

@@ -1,0 +1,27 @@
+-- Which servers a program visits, and in which hops.
+use Rattle.std.specs.Prelude.{ℕ, ◌+◌, ◌==◌, Bool, not, List, [], slice_get, unwrap_or, option_map, drop, filter}
+use Rattle.std.specs.List.{list_any, range_with_len}
+use Rattle.lynx_names.specs.declared.limits.TheConstants.{MAX_SERVERS}
+use Rattle.lynx_text.specs.declared.program.Hop.{Hop}
+use Rattle.lynx_text.specs.Set.{Set}
+use Rattle.lynx_hops.specs.Meaning.{program_at}
+
+-- the hops of the program of that number
+abbrev pub hops_of : Set → ℕ → List Hop
+hops_of set program = unwrap_or (option_map (λ found. found.hops) (program_at set program)) []
+
+-- the server of a program's first hop
+abbrev pub origin_of : Set → ℕ → ℕ
+origin_of set program = unwrap_or (option_map (λ hop. hop.server) (slice_get (hops_of set program) 0)) 0
+
+-- one of these hops is at the server
+abbrev pub visits : List Hop → ℕ → Bool
+visits hops server = list_any (λ hop. hop.server == server) hops
+
+-- the servers that a program visits, rising
+unfoldable pub visited : Set → ℕ → List ℕ
+visited set program = filter (λ server. visits (hops_of set program) server) (range_with_len 0 MAX_SERVERS)
+
+-- no later hop of the program is at the server
+abbrev pub is_last_at : Set → ℕ → ℕ → ℕ → Bool
+is_last_at set server program hop = not (visits (drop (hop + 1) (hops_of set program)) server)

@@ -1,0 +1,226 @@
+//! What a begin is answered, and the entry that it adds.
+ghost use Rattle.std.specs.Prelude.{◌≡◌, ◌+◌, ◌↔◌, true, false, max, map, take, IfOk, MatchOption, None, Some, [], option_copied};
+ghost use Rattle.lynx_hops.specs.Meaning.{meaning};
+ghost use Rattle.lynx_server.specs.Turns.{numbered, numbers_of};
+ghost use Rattle.lynx_server.specs.Tables.{tables_of, clock_of};
+ghost use Rattle.lynx_server.specs.Lawful.{is_record_of, record_of};
+ghost use Rattle.lynx_server.specs.Answers.{only, same_call, recorded_answer, is_full, is_busy, begun_by, answer};
+
+use crate::checks::request_fault;
+use crate::tables::{clock_of, tables_of};
+use crate::turns::{begun_count, number_for, turn_of};
+use crate::visits::visited;
+use lynx_entry::{Answer, BegunEntry, Entry, NumberAt, Numbers, RefusedEntry, Request};
+use lynx_hops::{HopFault, run_hop};
+use lynx_names::limits::MAX_ENTRIES;
+use lynx_names::{ChainId, Memory, ProgramId, ServerId, Stamp, TryCopy};
+use lynx_text::ChainSet;
+use std::alloc::Global;
+
+/// What comes of a begin: its answer, and the entry that it adds, if it adds one.
+#[derive(Debug, Drop)]
+pub struct Begins {
+    pub answer: Answer,
+    pub added: Option<Entry>,
+}
+
+/// The entry keeps the answer to a request of this client and number.
+fn is_record_of(request: &Request, entry: &Entry) -> bool
+    ensures { result ≡ is_record_of request.now entry.now }
+{
+    match entry {
+        Entry::Begun(begun) => {
+            begun.request.client == request.client && begun.request.number == request.number
+        }
+        Entry::Refused(refused) => {
+            refused.request.client == request.client && refused.request.number == request.number
+        }
+        Entry::Hop(_) => false,
+    }
+}
+
+/// The entry that keeps the answer to a request of this client and number.
+fn record_of<'a>(request: &Request, history: &'a [Entry]) -> Option<&'a Entry>
+    ensures { option_copied result ≡ record_of request.now history.now }
+{
+    history.iter().find(|entry| is_record_of(request, entry))
+}
+
+/// The same program with the same arguments.
+fn same_call(left: &Request, right: &Request) -> bool
+    ensures { result ≡ same_call left.now right.now }
+{
+    left.program == right.program && left.args == right.args
+}
+
+/// The answer that an entry keeps, if the request is the very one.
+fn recorded_answer(alloc: Global, entry: &Entry, request: &Request) -> Result<Answer, Memory>
+    ensures { IfOk result (λ answer. answer ≡ recorded_answer entry.now request.now) }
+{
+    match entry {
+        Entry::Begun(begun) if same_call(&begun.request, request) => Ok(Answer::Begun {
+            chain: begun.chain,
+            stamp: begun.stamp,
+            results: begun.results.copy(alloc)?,
+            again: true,
+        }),
+        Entry::Refused(refused) if same_call(&refused.request, request) => Ok(Answer::Refused {
+            need: refused.need,
+            stamp: refused.stamp,
+            again: true,
+        }),
+        _ => Ok(Answer::Clash),
+    }
+}
+
+/// The stamp of the next entry, above the clock and what it was told. None where the history has all the
+/// entries, or all the stamps, that it may have.
+pub fn next_stamp(history: &[Entry], told: Stamp) -> Option<Stamp>
+    ensures { MatchOption result (is_full history.now told ≡ true) (λ stamp. (is_full history.now told ≡ false) × (stamp ≡ max (clock_of history.now) told + 1)) }
+{
+    if history.len() as u64 >= MAX_ENTRIES {
+        return None;
+    }
+    clock_of(history).above(told)
+}
+
+/// A chain begun here has still to return here.
+fn is_busy(set: &ChainSet, server: ServerId, history: &[Entry]) -> bool
+    ensures { result ≡ is_busy set.now server history.now }
+{
+    turn_of(set, server, history, server) != begun_count(history)
+}
+
+/// One number for each of the servers.
+fn numbers_for(
+    alloc: Global,
+    set: &ChainSet,
+    history: &[Entry],
+    servers: &[ServerId],
+) -> Result<Numbers, Memory>
+    ensures { IfOk result (λ numbers. numbers ≡ map (numbered set.now history.now) servers.now) }
+{
+    let mut numbers = Numbers::new(alloc);
+    for server in servers {
+        numbers.push(NumberAt {
+            server: *server,
+            number: number_for(set, history, *server) as u64,
+        })?;
+    }
+    Ok(numbers)
+}
+
+/// One number for each server that the program visits.
+fn numbers_of(
+    alloc: Global,
+    set: &ChainSet,
+    history: &[Entry],
+    program: ProgramId,
+) -> Result<Numbers, Memory>
+    ensures { IfOk result (λ numbers. numbers ≡ numbers_of set.now history.now program) }
+{
+    let servers = visited(alloc, set, program)?;
+    numbers_for(alloc, set, history, servers.as_slice())
+}
+
+/// Runs hop 0 of a new chain, whose entry has that stamp.
+fn begin_new(
+    alloc: Global,
+    set: &ChainSet,
+    server: ServerId,
+    history: &[Entry],
+    request: &Request,
+    seen: Stamp,
+    stamp: Stamp,
+) -> Result<Begins, Memory>
+    requires { stamp ≡ max (clock_of history.now) seen + 1 }
+    ensures { IfOk result (λ begins. begins ≡ begun_by set.now server history.now request.now seen
+        (meaning set.now request.now.program 0 request.now.args [] (tables_of set.now history.now))) }
+{
+    let cells = tables_of(alloc, set, history)?;
+    match run_hop(
+        alloc,
+        set,
+        request.program,
+        0,
+        request.args.as_slice(),
+        &[],
+        &cells,
+    ) {
+        Ok(ran) => {
+            let (results, _) = ran.spend();
+            let chain = ChainId {
+                origin: server,
+                index: begun_count(history) as u64,
+            };
+            Ok(Begins {
+                answer: Answer::Begun {
+                    chain,
+                    stamp,
+                    results: results.copy(alloc)?,
+                    again: false,
+                },
+                added: Some(Entry::Begun(BegunEntry {
+                    request: request.copy(alloc)?,
+                    seen,
+                    chain,
+                    numbers: numbers_of(alloc, set, history, request.program)?,
+                    stamp,
+                    results,
+                })),
+            })
+        }
+        Err(HopFault::Refused(need)) => Ok(Begins {
+            answer: Answer::Refused {
+                need,
+                stamp,
+                again: false,
+            },
+            added: Some(Entry::Refused(RefusedEntry {
+                request: request.copy(alloc)?,
+                seen,
+                need,
+                stamp,
+            })),
+        }),
+        Err(HopFault::Memory) => Err(Memory),
+    }
+}
+
+/// What a server with this history answers to a begin, and the entry that it adds. In this order: a request that
+/// is recorded; what is wrong with it; no room; a chain that has still to return here; else hop 0 runs. The
+/// history is gone over a few times, and its tables are run from the first entry on.
+pub fn answer(
+    alloc: Global,
+    set: &ChainSet,
+    server: ServerId,
+    history: &[Entry],
+    request: &Request,
+    seen: Stamp,
+) -> Result<Begins, Memory>
+    ensures { IfOk result (λ begins. begins ≡ answer set.now server history.now request.now seen) }
+{
+    if let Some(entry) = record_of(request, history) {
+        return Ok(only(recorded_answer(alloc, entry, request)?));
+    }
+    if let Some(fault) = request_fault(set, server, request) {
+        return Ok(only(fault));
+    }
+    let Some(stamp) = next_stamp(history, seen) else {
+        return Ok(only(Answer::Full));
+    };
+    if is_busy(set, server, history) {
+        return Ok(only(Answer::Busy));
+    }
+    begin_new(alloc, set, server, history, request, seen, stamp)
+}
+
+/// An answer that adds nothing.
+fn only(answer: Answer) -> Begins
+    ensures { result ≡ only answer }
+{
+    Begins {
+        answer,
+        added: None,
+    }
+}

@@ -1,0 +1,176 @@
+//! What a delivery is answered, and the entry that it adds.
+ghost use Rattle.std.specs.Prelude.{◌≡◌, ◌+◌, max, IfOk, None, [], option_copied, unwrap_or};
+ghost use Rattle.lynx_hops.specs.Meaning.{meaning};
+ghost use Rattle.lynx_server.specs.Tables.{tables_of, clock_of};
+ghost use Rattle.lynx_server.specs.Lawful.{is_hop_of, hop_entry_of, number_at};
+ghost use Rattle.lynx_server.specs.Turns.{turn_of};
+ghost use Rattle.lynx_server.specs.Deliveries as spec;
+ghost use Rattle.lynx_server.specs.Deliveries.{repeated, done_by, deliver_new, Gives};
+
+use crate::answers::next_stamp;
+use crate::checks::is_well_formed;
+use crate::messages::next_of;
+use crate::tables::tables_of;
+use crate::turns::turn_of;
+use lynx_entry::{Delivered, Entry, HopEntry, Message, NumberAt};
+use lynx_hops::{HopFault, run_hop};
+use lynx_names::{ChainId, Memory, ServerId, Stamp, TryCopy};
+use lynx_text::ChainSet;
+use std::alloc::Global;
+
+/// What comes of a delivery: its answer, and the entry that it adds, if it adds one.
+#[derive(Debug, Drop)]
+pub struct Delivery {
+    pub delivered: Delivered,
+    pub added: Option<Entry>,
+}
+
+/// An answer that adds nothing.
+fn only(delivered: Delivered) -> Delivery
+    ensures delivered { result.delivered ≡ delivered }
+    ensures added { result.added ≡ None }
+{
+    Delivery {
+        delivered,
+        added: None,
+    }
+}
+
+/// The entry is of this hop of this chain, which is not its first.
+fn is_hop_of(chain: ChainId, hop: u8, entry: &Entry) -> bool
+    ensures { result ≡ is_hop_of chain hop entry.now }
+{
+    match entry {
+        Entry::Begun(_) | Entry::Refused(_) => false,
+        Entry::Hop(ran) => ran.message.chain == chain && ran.message.hop == hop,
+    }
+}
+
+/// The entry of that hop of the chain.
+fn hop_entry_of(chain: ChainId, hop: u8, history: &[Entry]) -> Option<&Entry>
+    ensures { option_copied result ≡ hop_entry_of chain hop history.now }
+{
+    history.iter().find(|entry| is_hop_of(chain, hop, entry))
+}
+
+/// The number that the chain has for the server.
+fn number_at(numbers: &[NumberAt], server: ServerId) -> Option<u64>
+    ensures { result ≡ number_at numbers.now server }
+{
+    match numbers.iter().find(|found| found.server == server) {
+        Some(found) => Some(found.number),
+        None => None,
+    }
+}
+
+/// The number that the message's chain has for this server, which it visits.
+fn own_number(message: &Message, server: ServerId) -> u64
+    ensures { result ≡ unwrap_or (number_at message.now.numbers server) 0 }
+{
+    number_at(message.numbers.as_slice(), server).unwrap_or(0)
+}
+
+/// The answer for a hop that ran before.
+fn repeated(
+    alloc: Global,
+    set: &ChainSet,
+    message: &Message,
+    entry: &Entry,
+) -> Result<Delivered, Memory>
+    ensures { IfOk result (λ delivered. delivered ≡ repeated set.now message.now entry.now) }
+{
+    match entry {
+        Entry::Hop(ran) if ran.message == *message => Ok(Delivered::Repeat {
+            stamp: ran.stamp,
+            results: ran.results.copy(alloc)?,
+            next: next_of(alloc, set, entry)?,
+        }),
+        _ => Ok(Delivered::Malformed),
+    }
+}
+
+/// Runs a hop whose turn it is, and whose entry has that stamp.
+fn run_later_hop(
+    alloc: Global,
+    set: &ChainSet,
+    history: &[Entry],
+    message: &Message,
+    stamp: Stamp,
+) -> Result<Delivery, Memory>
+    requires { stamp ≡ max (clock_of history.now) message.now.stamp + 1 }
+    ensures { IfOk result (λ delivery. Gives delivery (done_by set.now history.now [] message.now
+        (meaning set.now message.now.program message.now.hop message.now.args message.now.results (tables_of set.now history.now)))) }
+{
+    let cells = tables_of(alloc, set, history)?;
+    let hop = usize::from(message.hop);
+    let (args, earlier) = (message.args.as_slice(), message.results.as_slice());
+    match run_hop(alloc, set, message.program, hop, args, earlier, &cells) {
+        Ok(ran) => {
+            let (results, _) = ran.spend();
+            let again = results.copy(alloc)?;
+            let entry = Entry::Hop(HopEntry {
+                message: message.copy(alloc)?,
+                stamp,
+                results,
+            });
+            Ok(Delivery {
+                delivered: Delivered::Done {
+                    stamp,
+                    results: again,
+                    next: next_of(alloc, set, &entry)?,
+                },
+                added: Some(entry),
+            })
+        }
+        Err(HopFault::Refused(_)) => Ok(only(Delivered::Malformed)),
+        Err(HopFault::Memory) => Err(Memory),
+    }
+}
+
+/// What a server with this history, which holds no messages and has no room for any, answers to a delivery, and
+/// the entry that it adds. In this order: a message that nobody can have sent; a hop that ran; a hop whose turn
+/// it is not; no room; else the hop runs. The history is gone over a few times, and its tables are run from the
+/// first entry on.
+pub fn deliver(
+    alloc: Global,
+    set: &ChainSet,
+    server: ServerId,
+    history: &[Entry],
+    message: &Message,
+) -> Result<Delivery, Memory>
+    ensures { IfOk result (λ delivery. Gives delivery (spec.delivery set.now server 0 history.now [] message.now)) }
+{
+    if !is_well_formed(alloc, set, server, history, message)? {
+        return Ok(only(Delivered::Malformed));
+    }
+    if let Some(entry) = hop_entry_of(message.chain, message.hop, history) {
+        let delivered = repeated(alloc, set, message, entry)?;
+        return Ok(only(delivered));
+    }
+    deliver_by_turn(alloc, set, server, history, message)
+}
+
+/// A well formed message of a hop that hasn't run.
+fn deliver_by_turn(
+    alloc: Global,
+    set: &ChainSet,
+    server: ServerId,
+    history: &[Entry],
+    message: &Message,
+) -> Result<Delivery, Memory>
+    ensures { IfOk result (λ delivery. Gives delivery (deliver_new set.now server 0 history.now [] message.now None)) }
+{
+    let number = own_number(message, server);
+    let origin = message.chain.origin;
+    let turn = turn_of(set, server, history, origin) as u64;
+    if number < turn {
+        return Ok(only(Delivered::Malformed));
+    }
+    if number > turn {
+        return Ok(only(Delivered::Dropped));
+    }
+    let Some(stamp) = next_stamp(history, message.stamp) else {
+        return Ok(only(Delivered::Full));
+    };
+    run_later_hop(alloc, set, history, message, stamp)
+}

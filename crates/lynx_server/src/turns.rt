@@ -1,0 +1,68 @@
+//! Numbers, by which chains of one origin keep their order at each server, and turns.
+ghost use Rattle.std.specs.Prelude.{◌≡◌, ◌∷◌, ◌++◌, count_by, IfOk, length, ◌≤◌, ◌^◌, ◌<◌};
+ghost use Rattle.lynx_server.specs.Turns.{is_begun, begun_count, begins_visiting, number_for, leaves, turn_of};
+
+use crate::visits::{hops_of, is_last_at, visits};
+use lynx_entry::Entry;
+use lynx_names::ServerId;
+use lynx_text::ChainSet;
+
+fn is_begun(entry: &Entry) -> bool
+    ensures { result ≡ is_begun entry.now }
+{
+    matches!(entry, Entry::Begun(_))
+}
+
+/// How many chains began.
+pub fn begun_count(history: &[Entry]) -> usize
+    ensures { result ≡ begun_count history.now }
+{
+    history.iter().filter(|entry| is_begun(entry)).count()
+}
+
+/// A chain began that visits the server.
+fn begins_visiting(set: &ChainSet, server: ServerId, entry: &Entry) -> bool
+    ensures { result ≡ begins_visiting set.now server entry.now }
+{
+    match entry {
+        Entry::Begun(begun) => visits(hops_of(set, begun.request.program), server),
+        Entry::Refused(_) | Entry::Hop(_) => false,
+    }
+}
+
+/// The number that a chain which begins after this history has for a server that it visits.
+pub fn number_for(set: &ChainSet, history: &[Entry], server: ServerId) -> usize
+    ensures { result ≡ number_for set.now history.now server }
+{
+    history
+        .iter()
+        .filter(|entry| begins_visiting(set, server, entry))
+        .count()
+}
+
+/// A chain of that origin ran its last hop at the server.
+fn leaves(set: &ChainSet, server: ServerId, origin: ServerId, entry: &Entry) -> bool
+    ensures { result ≡ leaves set.now server origin entry.now }
+{
+    match entry {
+        Entry::Begun(begun) => {
+            begun.chain.origin == origin && is_last_at(set, server, begun.request.program, 0)
+        }
+        Entry::Refused(_) => false,
+        Entry::Hop(ran) => {
+            let message = &ran.message;
+            message.chain.origin == origin
+                && is_last_at(set, server, message.program, usize::from(message.hop))
+        }
+    }
+}
+
+/// Whose turn it is at the server, among the chains of that origin.
+pub fn turn_of(set: &ChainSet, server: ServerId, history: &[Entry], origin: ServerId) -> usize
+    ensures { result ≡ turn_of set.now server history.now origin }
+{
+    history
+        .iter()
+        .filter(|entry| leaves(set, server, origin, entry))
+        .count()
+}

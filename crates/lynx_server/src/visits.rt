@@ -1,0 +1,69 @@
+//! Which servers a program visits, and in which hops.
+ghost use Rattle.std.specs.Prelude.{◌≡◌, ◌≤◌, filter, IfOk};
+ghost use Rattle.std.specs.List.{range_with_len};
+ghost use Rattle.lynx_server.specs.Visits.{hops_of, origin_of, visits, visited, is_last_at};
+
+use lynx_names::limits::MAX_SERVERS;
+use lynx_names::{Memory, ProgramId, ServerId};
+use lynx_text::{ChainSet, Hop};
+use std::alloc::Global;
+
+/// The hops of the program, none where the set hasn't it.
+pub fn hops_of(set: &ChainSet, program: ProgramId) -> &[Hop]
+    ensures { result.now ≡ hops_of set.now program }
+{
+    match set.program(program) {
+        Some(program) => program.hops.as_slice(),
+        None => &[],
+    }
+}
+
+/// The server of the program's first hop.
+pub fn origin_of(set: &ChainSet, program: ProgramId) -> ServerId
+    ensures { result ≡ origin_of set.now program }
+{
+    match hops_of(set, program).first() {
+        Some(hop) => hop.server,
+        None => ServerId::first(),
+    }
+}
+
+/// One of these hops is at the server.
+pub fn visits(hops: &[Hop], server: ServerId) -> bool
+    ensures { result ≡ visits hops.now server }
+{
+    hops.iter().any(|hop| hop.server == server)
+}
+
+/// No later hop of the program is at the server.
+pub fn is_last_at(set: &ChainSet, server: ServerId, program: ProgramId, hop: usize) -> bool
+    ensures { result ≡ is_last_at set.now server program hop }
+{
+    match hops_of(set, program).get(hop.saturating_add(1)..) {
+        Some(later) => !visits(later, server),
+        None => true,
+    }
+}
+
+/// Those of the first servers that the hops visit, rising.
+fn visited_below(alloc: Global, hops: &[Hop], end: u8) -> Result<Vec<ServerId>, Memory>
+    requires { end ≤ MAX_SERVERS }
+    ensures { IfOk result (λ servers. servers.items ≡ filter (λ server. visits hops.now server) (range_with_len 0 end)) }
+{
+    let mut servers = Vec::new(alloc);
+    for number in 0..end {
+        let server = ServerId::at(number);
+        if visits(hops, server) {
+            servers.push(server)?;
+        }
+    }
+    Ok(servers)
+}
+
+/// The servers that the program visits, rising.
+#[tactic(auto, unfolding(crate::specs::Visits::visited))]
+pub fn visited(alloc: Global, set: &ChainSet, program: ProgramId) -> Result<Vec<ServerId>, Memory>
+    ensures { IfOk result (λ servers. servers.items ≡ visited set.now program) }
+{
+    visited_below(alloc, hops_of(set, program), MAX_SERVERS)
+}

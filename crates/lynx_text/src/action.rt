@@ -1,0 +1,74 @@
+use lynx_names::{Memory, TableId, TryCopy};
+use std::alloc::Global;
+
+/// The key of a cell: a number, or a parameter of the program, by its place.
+#[derive(Clone, Copy, Debug, PartialEq, Eq)]
+pub enum Key {
+    Literal(u64),
+    Param(u8),
+}
+
+/// A value: a number, or a name of the program, by its place: parameters first, then bound names in order.
+#[derive(Clone, Copy, Debug, PartialEq, Eq)]
+pub enum Operand {
+    Number(u64),
+    Name(u8),
+}
+
+/// What `let` does with its two values, modulo 2^64.
+#[derive(Clone, Copy, Debug, PartialEq, Eq)]
+pub enum Operator {
+    Plus,
+    Minus,
+}
+
+/// What `need` asks of its two values.
+#[derive(Clone, Copy, Debug, PartialEq, Eq)]
+pub enum Relation {
+    Below,
+    AtMost,
+    Same,
+    Differs,
+    AtLeast,
+    Above,
+}
+
+/// One line of a hop. `Get` and `Let` bind the next name.
+#[derive(Clone, Copy, Debug, PartialEq, Eq)]
+pub enum Action {
+    Get {
+        table: TableId,
+        key: Key,
+    },
+    Set {
+        table: TableId,
+        key: Key,
+        value: Operand,
+    },
+    Add {
+        table: TableId,
+        key: Key,
+        value: Operand,
+    },
+    Sub {
+        table: TableId,
+        key: Key,
+        value: Operand,
+    },
+    Let {
+        left: Operand,
+        operator: Operator,
+        right: Operand,
+    },
+    Need {
+        left: Operand,
+        relation: Relation,
+        right: Operand,
+    },
+}
+
+impl TryCopy for Action {
+    fn copy(&self, _alloc: Global) -> Result<Action, Memory> {
+        Ok(*self)
+    }
+}

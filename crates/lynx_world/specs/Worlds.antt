@@ -1,0 +1,32 @@
+-- A world: what all servers have done, in one order.
+use Rattle.std.specs.Prelude.{◌≡◌, ℕ, ◌<◌, ◌==◌, if◌then◌else◌, List, [], length, slice_index_or, Option, Some, None}
+use Rattle.std.specs.List.{filter_map}
+use Rattle.lynx_text.specs.Set.{Set}
+use Rattle.lynx_entry.specs.declared.entry.Entry.{Entry}
+use Rattle.lynx_entry.specs.declared.message.Message.{Message}
+use Rattle.lynx_entry.specs.Entry.{History}
+use Rattle.lynx_server.specs.Messages.{next_message}
+use Rattle.lynx_world.specs.declared.placed.Placed.{Placed}
+
+-- A set, the entries of all its servers in one list, and what each server holds; one past the end holds nothing.
+pub record WorldState : Type 0 where
+  pub set : Set
+  pub list : List Placed
+  pub held : List (List Message)
+
+-- the entry, if it is of that server
+abbrev pub entry_at : ℕ → Placed → Option Entry
+entry_at server placed = if placed.server == server then Some placed.entry else None
+
+-- the history of one server
+abbrev pub history_of : ℕ → List Placed → History
+history_of server list = filter_map (entry_at server) list
+
+-- the messages that were sent
+abbrev pub messages_of : Set → List Placed → List Message
+messages_of set list = filter_map (λ placed. next_message set placed.entry) list
+
+-- these are the histories of the servers, one for each
+pub record AreHistories (servers : ℕ) (histories : List History) (list : List Placed) : Type 0 where
+  pub whole : length histories ≡ servers
+  pub each : (server : ℕ) → server < servers → slice_index_or histories server [] ≡ history_of server list

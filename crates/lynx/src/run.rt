@@ -1,10 +1,15 @@
 //! A run: a set text and a script in, lines out.
-ghost use Rattle.std.specs.Prelude.{OnOk};
+ghost use Rattle.std.specs.Prelude.{◌≡◌, ℕ, List, [], OnOk, slice_get, unwrap_or};
+ghost use Rattle.std.specs.List.Sorted.{IsPermutation, IsSorted};
+ghost use Rattle.lynx_world.specs.Tables.{cells_of, triple_cmp};
+ghost use Rattle.lynx_world.specs.Steps.{step};
+ghost use Rattle.lynx.specs.Printed.{line, outcome_text};
+ghost use Rattle.lynx.specs.Runs.{world_after, outcome_lines, cell_lines};
 ghost use Rattle.std.specs.Io.KnownBytes.{Appends};
 
 use crate::printed::{cell_line, outcome_line};
 use crate::script::parse_script;
-use lynx_names::Memory;
+use lynx_names::{Memory, TableId};
 use lynx_text::{ChainSet, FaultKind, TextFault, parse};
 use lynx_world::{Event, Outcome, World};
 use std::alloc::{AllocError, Global};
@@ -58,34 +63,73 @@ fn write_line<W: Write>(writer: &mut W, line: &[u8]) -> Result<(), RunFault>
     writer.write_all(line).map_err(|_| RunFault::Write)
 }
 
+/// Runs one event, and writes its line.
+fn run_event<W: Write>(
+    alloc: Global,
+    world: &mut World,
+    event: Event,
+    writer: &mut W,
+) -> Result<(), RunFault>
+    ensures worlds { OnOk result (world.new ≡ (step 0 world.old event).world) }
+    ensures lines { OnOk result (Appends (W.contents writer.old) (W.contents writer.new) (line (outcome_text (step 0 world.old event).outcome))) }
+{
+    let outcome = world.apply(alloc, event);
+    if let Outcome::Memory = outcome {
+        return Err(RunFault::Memory);
+    }
+    let line = outcome_line(alloc, &outcome)?;
+    write_line(writer, line.as_bytes())
+}
+
 /// Runs the events in order, and writes a line for each.
-fn run_events<W: Write>(
+pub fn run_events<W: Write>(
     alloc: Global,
     world: &mut World,
     events: Vec<Event>,
     writer: &mut W,
-) -> Result<(), RunFault> {
+) -> Result<(), RunFault>
+    ensures worlds { OnOk result (world.new ≡ world_after world.old events.items) }
+    ensures lines { OnOk result (Appends (W.contents writer.old) (W.contents writer.new) (outcome_lines world.old events.items)) }
+{
     for event in events {
-        let outcome = world.apply(alloc, event);
-        if let Outcome::Memory = outcome {
-            return Err(RunFault::Memory);
-        }
-        let line = outcome_line(alloc, &outcome)?;
-        write_line(writer, line.as_bytes())?;
+        run_event(alloc, world, event, writer)?;
     }
     Ok(())
 }
 
 /// Writes a line for each nonzero cell, tables in order of declaration, keys rising.
-fn write_cells<W: Write>(alloc: Global, world: &World, writer: &mut W) -> Result<(), RunFault> {
+pub fn write_cells<W: Write>(alloc: Global, world: &World, writer: &mut W) -> Result<(), RunFault>
+    ensures { OnOk result ((cells : List (ℕ × ℕ × ℕ)) × IsPermutation (cells_of world.now) cells × IsSorted triple_cmp cells
+        × Appends (W.contents writer.old) (W.contents writer.new) (cell_lines world.now.set.tables cells)) }
+{
     let cells = world.cells(alloc)?;
-    for (table, key, value) in cells.as_slice() {
-        if let Some(name) = world.set().tables().get_index(table.index()) {
-            let line = cell_line(alloc, name.as_bytes(), *key, *value)?;
-            write_line(writer, line.as_slice())?;
-        }
+    write_each_cell(alloc, world.set(), cells.as_slice(), writer)
+}
+
+/// Writes a line for each of the cells.
+fn write_each_cell<W: Write>(
+    alloc: Global,
+    set: &ChainSet,
+    cells: &[(TableId, u64, u64)],
+    writer: &mut W,
+) -> Result<(), RunFault>
+    ensures { OnOk result (Appends (W.contents writer.old) (W.contents writer.new) (cell_lines set.now.tables cells.now)) }
+{
+    for (table, key, value) in cells {
+        let line = cell_line(alloc, table_name(set, *table), *key, *value)?;
+        write_line(writer, line.as_slice())?;
     }
     Ok(())
+}
+
+/// The name of a table of the set.
+fn table_name(set: &ChainSet, table: TableId) -> &[u8]
+    ensures { result.now ≡ unwrap_or (slice_get set.now.tables table) [] }
+{
+    match set.tables().get_index(table.index()) {
+        Some(name) => name.as_bytes(),
+        None => &[],
+    }
 }
 
 /// Judges the set text and then the script, runs the script in a new world, and writes a line for each event and

@@ -20,7 +20,7 @@ use Rattle.lynx_entry.specs.declared.message.NumberAt.{NumberAt}
 use Rattle.lynx_entry.specs.declared.entry.Entry.{Entry}
 use Rattle.lynx_entry.specs.declared.entry.Entry.TheVariants.{Begun, Refused, Hop as HopRan}
 use Rattle.lynx_entry.specs.Entry.{History}
-use Rattle.lynx_server.specs.Visits.{origin_of, visited}
+use Rattle.lynx_server.specs.Visits.{is_origin, visited}
 
 -- a key that is a parameter names a cell of the server; a literal was judged with the set's text
 abbrev pub is_key_at : Set → ℕ → List ℕ → ℕ → Key → Bool
@@ -43,7 +43,7 @@ are_keys_placed set args hops = list_all (λ hop. list_all (is_action_at set hop
 abbrev pub request_fault_in : Set → ℕ → Request → Option Program → Option Answer
 request_fault_in set server request None = Some UnknownProgram
 request_fault_in set server request (Some program) =
-    if not (origin_of set request.program == server) then Some WrongOrigin
+    if not (is_origin set request.program server) then Some WrongOrigin
     else (if not (length request.args == program.parameters) then Some ArgCount
     else (if not (are_keys_placed set request.args program.hops) then Some WrongShard
     else None))
@@ -82,7 +82,7 @@ abbrev pub fits : Set → ℕ → Message → Program → Hop → List ℕ → B
 fits set server message program hop servers =
     nat_lt 0 message.hop
     && (hop.server == server)
-    && (origin_of set message.program == message.chain.origin)
+    && is_origin set message.program message.chain.origin
     && (program.parameters == length message.args)
     && are_keys_placed set message.args program.hops
     && pointwise nat_eq (map (λ number. number.server) message.numbers) servers

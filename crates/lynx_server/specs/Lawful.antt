@@ -1,5 +1,5 @@
 -- When an entry may come next in a server's history.
-use Rattle.std.specs.Prelude.{◌≡◌, ℕ, ◌+◌, ◌<◌, ◌==◌, ◌&&◌, Bool, false, max, List, [], length, Option, Some, IsTrue, IsNone, Ok, Err, find, option_map}
+use Rattle.std.specs.Prelude.{◌≡◌, ℕ, ◌+◌, ◌<◌, ◌==◌, ◌&&◌, Bool, false, max, List, [], length, Option, Some, None, IsTrue, IsNone, Ok, Err, find, option_map, unwrap_or}
 use Rattle.lynx_names.specs.declared.limits.TheConstants.{MAX_ENTRIES, STAMP_LIMIT}
 use Rattle.lynx_names.specs.declared.chain.ChainId.{ChainId}
 use Rattle.lynx_cells.specs.Database.{Database}
@@ -11,6 +11,7 @@ use Rattle.lynx_entry.specs.declared.entry.HopEntry.{HopEntry}
 use Rattle.lynx_entry.specs.declared.entry.Entry.{Entry}
 use Rattle.lynx_entry.specs.declared.entry.Entry.TheVariants.{Begun, Refused, Hop}
 use Rattle.lynx_entry.specs.declared.message.NumberAt.{NumberAt}
+use Rattle.lynx_entry.specs.declared.message.Message.{Message}
 use Rattle.lynx_entry.specs.declared.request.Request.{Request}
 use Rattle.lynx_entry.specs.Entry.{History}
 use Rattle.lynx_server.specs.Turns.{begun_count, number_for, numbers_of, turn_of}
@@ -71,7 +72,7 @@ pub record IsLawfulHop (set : Set) (server : ℕ) (history : History) (ran : Hop
   pub stamp : ran.stamp ≡ max (clock_of history) ran.message.stamp + 1
   pub well_formed : IsTrue (is_well_formed set server history ran.message)
   pub new : IsNone (hop_entry_of ran.message.chain ran.message.hop history)
-  pub in_turn : number_at ran.message.numbers server ≡ Some (turn_of set server history ran.message.chain.origin)
+  pub in_turn : unwrap_or (number_at ran.message.numbers server) 0 ≡ turn_of set server history ran.message.chain.origin
   pub results : (db : Database) × (meaning set ran.message.program ran.message.hop ran.message.args ran.message.results (tables_of set history) ≡ Ok (ran.results, db))
 
 -- The entry may come next after the history, at that server.
@@ -79,3 +80,19 @@ abbrev pub IsLawful : Set → ℕ → History → Entry → Type 0
 IsLawful set server history (Begun begun) = IsLawfulBegun set server history begun
 IsLawful set server history (Refused refused) = IsLawfulRefused set server history refused
 IsLawful set server history (Hop ran) = IsLawfulHop set server history ran
+
+-- the message of a later hop's entry, none of the other entries
+abbrev pub message_of : Entry → Option Message
+message_of (Begun begun) = None
+message_of (Refused refused) = None
+message_of (Hop ran) = Some ran.message
+
+-- the entry may come next, and its hop ran on this message
+pub record Runs (set : Set) (server : ℕ) (history : History) (message : Message) (entry : Entry) : Type 0 where
+  pub lawful : IsLawful set server history entry
+  pub of_message : message_of entry ≡ Some message
+
+-- the entry may come next, and it is of no message
+pub record Starts (set : Set) (server : ℕ) (history : History) (entry : Entry) : Type 0 where
+  pub lawful : IsLawful set server history entry
+  pub of_none : message_of entry ≡ None

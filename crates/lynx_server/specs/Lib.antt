@@ -6,3 +6,4 @@ pub mod Checks
 pub mod Lawful
 pub mod Answers
 pub mod Deliveries
+pub mod Steps

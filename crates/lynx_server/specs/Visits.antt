@@ -1,5 +1,5 @@
 -- Which servers a program visits, and in which hops.
-use Rattle.std.specs.Prelude.{ℕ, ◌+◌, ◌==◌, Bool, not, List, [], slice_get, unwrap_or, option_map, drop, filter}
+use Rattle.std.specs.Prelude.{ℕ, ◌+◌, ◌==◌, Bool, false, not, List, [], ◌∷◌, unwrap_or, option_map, drop, filter}
 use Rattle.std.specs.List.{list_any, range_with_len}
 use Rattle.lynx_names.specs.declared.limits.TheConstants.{MAX_SERVERS}
 use Rattle.lynx_text.specs.declared.program.Hop.{Hop}
@@ -10,9 +10,14 @@ use Rattle.lynx_hops.specs.Meaning.{program_at}
 abbrev pub hops_of : Set → ℕ → List Hop
 hops_of set program = unwrap_or (option_map (λ found. found.hops) (program_at set program)) []
 
--- the server of a program's first hop
-abbrev pub origin_of : Set → ℕ → ℕ
-origin_of set program = unwrap_or (option_map (λ hop. hop.server) (slice_get (hops_of set program) 0)) 0
+-- the first of these hops is at the server
+abbrev pub starts_at : List Hop → ℕ → Bool
+starts_at [] server = false
+starts_at (hop ∷ hops) server = hop.server == server
+
+-- the server is the program's origin: that of its first hop
+abbrev pub is_origin : Set → ℕ → ℕ → Bool
+is_origin set program server = starts_at (hops_of set program) server
 
 -- one of these hops is at the server
 abbrev pub visits : List Hop → ℕ → Bool

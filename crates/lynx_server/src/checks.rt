@@ -5,7 +5,7 @@ ghost use Rattle.std.specs.Cmp.Lexicographic.{pointwise};
 ghost use Rattle.lynx_hops.specs.Meaning.{program_at};
 ghost use Rattle.lynx_server.specs.Checks.{is_key_at, is_action_at, are_keys_placed, request_fault, binds, result_count, begins, fits, fits_program, has_begun, is_well_formed};
 
-use crate::visits::{origin_of, visited};
+use crate::visits::{is_origin, visited};
 use lynx_entry::{Answer, Entry, Message, NumberAt, Request};
 use lynx_hops::value::key_of;
 use lynx_names::{Memory, ServerId, TableId, Values};
@@ -58,7 +58,7 @@ pub fn request_fault(set: &ChainSet, server: ServerId, request: &Request) -> Opt
     let Some(program) = set.program(request.program) else {
         return Some(Answer::UnknownProgram);
     };
-    if origin_of(set, request.program) != server {
+    if !is_origin(set, request.program, server) {
         Some(Answer::WrongOrigin)
     } else if request.args.len() != program.parameters {
         Some(Answer::ArgCount)
@@ -142,7 +142,7 @@ fn fits(
     let hops = program.hops.as_slice();
     message.hop > 0
         && hop.server == server
-        && origin_of(set, message.program) == message.chain.origin
+        && is_origin(set, message.program, message.chain.origin)
         && program.parameters == message.args.len()
         && are_keys_placed(set, message.args.as_slice(), hops)
         && are_for(message.numbers.as_slice(), servers)

@@ -1,7 +1,7 @@
 //! Which servers a program visits, and in which hops.
 ghost use Rattle.std.specs.Prelude.{◌≡◌, ◌≤◌, filter, IfOk};
 ghost use Rattle.std.specs.List.{range_with_len};
-ghost use Rattle.lynx_server.specs.Visits.{hops_of, origin_of, visits, visited, is_last_at};
+ghost use Rattle.lynx_server.specs.Visits.{hops_of, is_origin, visits, visited, is_last_at};
 
 use lynx_names::limits::MAX_SERVERS;
 use lynx_names::{Memory, ProgramId, ServerId};
@@ -18,13 +18,13 @@ pub fn hops_of(set: &ChainSet, program: ProgramId) -> &[Hop]
     }
 }
 
-/// The server of the program's first hop.
-pub fn origin_of(set: &ChainSet, program: ProgramId) -> ServerId
-    ensures { result ≡ origin_of set.now program }
+/// The server is the program's origin: that of its first hop.
+pub fn is_origin(set: &ChainSet, program: ProgramId, server: ServerId) -> bool
+    ensures { result ≡ is_origin set.now program server }
 {
-    match hops_of(set, program).first() {
-        Some(hop) => hop.server,
-        None => ServerId::first(),
+    match hops_of(set, program) {
+        [] => false,
+        [hop, ..] => hop.server == server,
     }
 }
 

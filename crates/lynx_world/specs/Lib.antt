@@ -1,3 +1,6 @@
 pub mod Worlds
 pub mod Steps
 pub mod Tables
+pub mod Legal
+pub mod LegalSteps
+pub mod Order

@@ -8,6 +8,7 @@ pub use world::World;
 mod adding;
 mod cells;
 pub mod event;
+pub mod laws;
 pub mod placed;
 mod sending;
 pub mod world;

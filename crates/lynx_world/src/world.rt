@@ -1,4 +1,4 @@
-ghost use Rattle.std.specs.Prelude.{◌≡◌, ◌⊎◌, ◌<◌, [], IfOk, OnOk, OnErr};
+ghost use Rattle.std.specs.Prelude.{◌≡◌, ◌⊎◌, ◌<◌, [], IfOk, IfSome, OnOk, OnErr};
 
 use crate::adding::{add_entry, empty_histories};
 use crate::cells::all_cells;
@@ -24,18 +24,20 @@ pub struct World {
 
 impl Model for World {
     ghost use Rattle.std.specs.Prelude.{[]};
-    ghost use Rattle.lynx_world.specs.Worlds.{WorldState, AreHistories};
+    ghost use Rattle.lynx_world.specs.Worlds.{WorldState};
+    ghost use Rattle.lynx_world.specs.Legal.{IsKept};
 
     ghost Value = { WorldState };
 
     ghost view = { λ world. record { set = world.set; list = world.list.items; held = [] } };
 
-    ghost invariant = { λ world. AreHistories world.set.servers world.histories.items world.list.items };
+    ghost invariant = { λ world. IsKept world.set world.histories.items world.list.items };
 }
 
 impl World {
     ghost use Rattle.std.specs.List.Sorted.{IsPermutation, IsSorted};
     ghost use Rattle.lynx_world.specs.Worlds.{history_of};
+    ghost use Rattle.lynx_world.specs.Legal.{IsLegal, MayFollow};
     ghost use Rattle.lynx_world.specs.Tables.{cells_of, triple_cmp};
     ghost use Rattle.lynx_world.specs.Steps.{step, with_entry, is_server, sent_message, destination_of};
 
@@ -59,14 +61,16 @@ impl World {
 
     /// All that the servers did, in order.
     pub fn list(&self) -> &[Placed]
-        ensures { result.now ≡ self.now.list }
+        ensures value { result.now ≡ self.now.list }
+        ensures legal { IsLegal self.now.set self.now.list }
     {
         self.list.as_slice()
     }
 
     /// Adds the entry at the end, if there is one.
     fn add(&mut self, alloc: Global, server: ServerId, added: Option<Entry>) -> Result<(), Memory>
-        requires { server < self.old.set.servers }
+        requires there { server < self.old.set.servers }
+        requires may_follow { IfSome added (λ entry. MayFollow self.old.set self.old.list (record { server = server; entry = entry })) }
         ensures ok { OnOk result (self.new ≡ record self.old { list = with_entry server added self.old.list }) }
         ensures err { OnErr result (self.new ≡ self.old) }
     {

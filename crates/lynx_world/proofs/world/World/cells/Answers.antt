@@ -8,5 +8,5 @@ use Rattle.lynx_world.proofs.world.World.cells.Goals as goal
 pub returns-clause-all : goal.returns-clause-all
 returns-clause-all c =
     let same : c.in_ok-cells.cells.items ≡ cells_of c.args.self.now =
-    c.in_ok-cells.ensures ∙ ap (flat_map (cells_after c.self.inside.set)) c.deref.ensures.value ∙ cells_of_histories c.self.inside.set _ _ c.self.invariant ∙ ap cells_of c.self.view_is in
+    c.in_ok-cells.ensures ∙ ap (flat_map (cells_after c.self.inside.set)) c.deref.ensures.value ∙ cells_of_histories c.self.inside.set _ _ c.self.invariant.each_history ∙ ap cells_of c.self.view_is in
     subst (λ (cells : List (ℕ × ℕ × ℕ)). IsPermutation cells c.sort_unstable.new.self.items) same c.sort_unstable.ensures.permutation

@@ -6,4 +6,6 @@ pub use run::{HopFault, run_hop};
 
 pub mod ran;
 pub mod run;
+#[cfg(test)]
+mod tests;
 pub mod value;

@@ -1,0 +1,5 @@
+pub mod Acts
+pub mod Changes
+pub mod Writes
+pub mod Commuting
+pub mod Framing

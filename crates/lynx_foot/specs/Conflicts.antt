@@ -1,0 +1,46 @@
+-- When two hops conflict, and when they may.
+use Rattle.std.specs.Prelude.{◌≡◌, ℕ, List, All, Any, IsTrue, not, Option, Some, option_map}
+use Rattle.lynx_shards.specs.Shards.{server_of}
+use Rattle.lynx_text.specs.declared.action.Key.{Key}
+use Rattle.lynx_text.specs.declared.action.Key.TheVariants.{Literal, Param}
+use Rattle.lynx_text.specs.Set.{Set}
+use Rattle.lynx_hops.specs.Meaning.{hop_at}
+use Rattle.lynx_foot.specs.declared.foot.Foot.{Foot}
+use Rattle.lynx_foot.specs.declared.touch.Touch.{Touch}
+use Rattle.lynx_foot.specs.Kinds.{commute}
+use Rattle.lynx_foot.specs.Feet.{footprint_of, touches_of}
+
+-- two touches of one cell, of kinds that don't commute
+pub record Clash (left right : Touch) : Type 0 where
+  pub same_table : left.table ≡ right.table
+  pub same_key : left.key ≡ right.key
+  pub kinds_clash : IsTrue (not (commute left.kind right.kind))
+
+-- some touch of one clashes with some touch of the other
+abbrev pub Conflicts : List Touch → List Touch → Type 0
+Conflicts lefts rights = Any (λ left. Any (λ right. Clash left right) rights) lefts
+
+-- keys that aren't two different literals
+abbrev pub MayMeet : Key → Key → Type 0
+MayMeet (Literal left) (Literal right) = left ≡ right
+MayMeet (Literal left) (Param right) = Unit {0}
+MayMeet (Param left) right = Unit {0}
+
+-- two feet of one table, with keys that aren't two different literals and kinds that don't commute
+pub record MayClash (left right : Foot) : Type 0 where
+  pub same_table : left.table ≡ right.table
+  pub keys_may_meet : MayMeet left.key right.key
+  pub kinds_clash : IsTrue (not (commute left.kind right.kind))
+
+-- the server of a hop
+abbrev pub server_at : Set → ℕ → ℕ → Option ℕ
+server_at set program hop = option_map (λ found. found.server) (hop_at set program hop)
+
+-- two hops at one server, some foot of one of which may clash with some foot of the other
+pub record MayConflict (set : Set) (left_program left_hop right_program right_hop : ℕ) : Type 0 where
+  pub same_server : server_at set left_program left_hop ≡ server_at set right_program right_hop
+  pub feet_may_clash : Any (λ left. Any (λ right. MayClash left right) (footprint_of set right_program right_hop)) (footprint_of set left_program left_hop)
+
+-- each touch of the hop is of a key that its server keeps
+abbrev pub KeysLieAtServer : Set → ℕ → ℕ → List ℕ → Type 0
+KeysLieAtServer set program hop args = All (λ touch. server_at set program hop ≡ Some (server_of set.shards touch.table touch.key)) (touches_of set program hop args)

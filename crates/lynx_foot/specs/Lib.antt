@@ -1,0 +1,5 @@
+pub mod Kinds
+pub mod Feet
+pub mod Conflicts
+pub mod Tests
+pub mod ConflictLaws

@@ -1,0 +1,28 @@
+//! The laws of conflict, each the contract of a function that does nothing. `specs/ConflictLaws.antt` has the
+//! lemmas.
+ghost use Rattle.std.specs.Prelude.{ℕ, List};
+ghost use Rattle.lynx_text.specs.Set.{Set};
+ghost use Rattle.lynx_foot.specs.declared.touch.Touch.{Touch};
+ghost use Rattle.lynx_foot.specs.Feet.{touches_of};
+ghost use Rattle.lynx_foot.specs.Conflicts.{Conflicts, KeysLieAtServer, MayConflict};
+
+/// Conflict needs no order.
+pub fn conflict_needs_no_order()
+    ensures { (lefts rights : List Touch) → Conflicts lefts rights → Conflicts rights lefts }
+{}
+
+/// Nor does a conflict that may be.
+pub fn may_conflict_needs_no_order()
+    ensures { (set : Set) (left_program left_hop right_program right_hop : ℕ)
+        → MayConflict set left_program left_hop right_program right_hop
+        → MayConflict set right_program right_hop left_program left_hop }
+{}
+
+/// Where the keys of two hops lie at the hops' servers, hops that conflict may conflict.
+pub fn hops_that_conflict_may_conflict()
+    ensures { (set : Set) (left_program left_hop right_program right_hop : ℕ) (left_args right_args : List ℕ)
+        → KeysLieAtServer set left_program left_hop left_args
+        → KeysLieAtServer set right_program right_hop right_args
+        → Conflicts (touches_of set left_program left_hop left_args) (touches_of set right_program right_hop right_args)
+        → MayConflict set left_program left_hop right_program right_hop }
+{}

@@ -64,72 +64,103 @@ fn with_args(
     Ok(answer)
 }
 
-#[test]
-fn payments_and_puts(rt: HostRuntime) -> Result<(), Fail> {
-    let set = parse(rt.alloc(), PAYMENT.as_bytes())?;
-    let put = (PUT, 0);
-    assert!(rt; may(&set, put, (PAY, 0))?);
-    assert!(rt; !may(&set, put, (SEED, 0))?);
-    assert!(rt; !may(&set, put, (PAY, 1))?);
-    assert!(rt; may(&set, (PAY, 0), (PAY, 0))?);
-    assert!(rt; !may(&set, put, put)?);
-    assert!(rt; !may(&set, put, (PAY, 2))?);
+/// Two hops, each a program and the hop's number, and whether they may conflict.
+type MayCase = ((u8, usize), (u8, usize), bool);
 
-    assert!(rt; !with_args(&set, put, &[5], (PAY, 0), &[30])?);
-    assert!(rt; with_args(&set, put, &[0], (PAY, 0), &[30])?);
-    assert!(rt; with_args(&set, (PAY, 0), &[30], put, &[0])?);
-    assert!(rt; !with_args(&set, put, &[0], (SEED, 0), &[30])?);
-    assert!(rt; with_args(&set, (PAY, 0), &[1], (PAY, 0), &[2])?);
-    assert!(rt; !with_args(&set, put, &[7], put, &[7])?);
+/// Whether each two hops may conflict as the case says, in either order.
+fn all_may(set: &ChainSet, cases: &[MayCase]) -> Result<bool, Fail> {
+    for &(left, right, want) in cases {
+        if may(set, left, right)? != want || may(set, right, left)? != want {
+            return Ok(false);
+        }
+    }
+    Ok(true)
+}
+
+/// The first hops of two programs with their arguments, and whether they conflict.
+type ConflictCase = (u8, &'static [u64], u8, &'static [u64], bool);
+
+/// Whether each two first hops conflict as the case says, in either order.
+fn all_conflict(set: &ChainSet, cases: &[ConflictCase]) -> Result<bool, Fail> {
+    for &(left, left_args, right, right_args, want) in cases {
+        let (left, right) = ((left, 0), (right, 0));
+        if with_args(set, left, left_args, right, right_args)? != want
+            || with_args(set, right, right_args, left, left_args)? != want
+        {
+            return Ok(false);
+        }
+    }
+    Ok(true)
+}
+
+const MAY_OF_PAYMENTS: &[MayCase] = &[
+    ((PUT, 0), (PAY, 0), true),
+    ((PUT, 0), (SEED, 0), false),
+    ((PUT, 0), (PAY, 1), false),
+    ((PAY, 0), (PAY, 0), true),
+    ((PUT, 0), (PUT, 0), false),
+    ((PUT, 0), (PAY, 2), false),
+];
+
+#[test]
+fn payments_and_puts_may_conflict(rt: HostRuntime) -> Result<(), Fail> {
+    let set = parse(rt.alloc(), PAYMENT.as_bytes())?;
+    assert!(rt; all_may(&set, MAY_OF_PAYMENTS)?);
     Ok(())
 }
+
+const CONFLICTS_OF_PAYMENTS: &[ConflictCase] = &[
+    (PUT, &[5], PAY, &[30], false),
+    (PUT, &[0], PAY, &[30], true),
+    (PUT, &[0], SEED, &[30], false),
+    (PAY, &[1], PAY, &[2], true),
+    (PUT, &[7], PUT, &[7], false),
+];
+
+#[test]
+fn payments_and_puts_conflict(rt: HostRuntime) -> Result<(), Fail> {
+    let set = parse(rt.alloc(), PAYMENT.as_bytes())?;
+    assert!(rt; all_conflict(&set, CONFLICTS_OF_PAYMENTS)?);
+    Ok(())
+}
+
+const MAY_OF_KEYS: &[MayCase] = &[
+    ((ONE, 0), (ONE, 0), true),
+    ((ONE, 0), (TWO, 0), false),
+    ((ONE, 0), (ANY, 0), true),
+    ((ONE, 0), (FAR, 0), false),
+    ((ONE, 0), (OTHER, 0), false),
+    ((ANY, 0), (ANY, 0), false),
+    ((ANY, 0), (FAR, 0), false),
+    ((ANY, 0), (LAST, 0), true),
+    ((LAST, 0), (LAST, 0), true),
+    ((OTHER, 0), (LAST, 0), false),
+];
 
 #[test]
 fn hops_that_may_conflict(rt: HostRuntime) -> Result<(), Fail> {
     let set = keys(rt.alloc())?;
-    for (left, right, want) in [
-        (ONE, ONE, true),
-        (ONE, TWO, false),
-        (ONE, ANY, true),
-        (ONE, FAR, false),
-        (ONE, OTHER, false),
-        (ANY, ANY, false),
-        (ANY, FAR, false),
-        (ANY, LAST, true),
-        (LAST, LAST, true),
-        (OTHER, LAST, false),
-    ] {
-        assert_eq!(rt; may(&set, (left, 0), (right, 0))?, want, "{left} {right}");
-        assert_eq!(rt; may(&set, (right, 0), (left, 0))?, want, "{right} {left}");
-    }
+    assert!(rt; all_may(&set, MAY_OF_KEYS)?);
     Ok(())
 }
+
+const CONFLICTS_OF_KEYS: &[ConflictCase] = &[
+    (ONE, &[7, 9], ANY, &[9, 1], true),
+    (ONE, &[7, 9], ANY, &[1, 9], false),
+    (ONE, &[1, 2], ONE, &[3, 4], true),
+    (ONE, &[1, 2], TWO, &[1, 2], false),
+    (ONE, &[7, 9], OTHER, &[1, 1], false),
+    (ANY, &[5, 6], LAST, &[7, 6], true),
+    (ANY, &[5, 6], LAST, &[6, 5], false),
+    (ANY, &[5, 6], ANY, &[5, 6], false),
+    (LAST, &[0, 6], LAST, &[0, 1], true),
+    (LAST, &[0, 6], LAST, &[0, 7], false),
+];
 
 #[test]
 fn hops_that_conflict(rt: HostRuntime) -> Result<(), Fail> {
     let set = keys(rt.alloc())?;
-    for (left, left_args, right, right_args, want) in [
-        (ONE, [7, 9], ANY, [9, 1], true),
-        (ONE, [7, 9], ANY, [1, 9], false),
-        (ONE, [1, 2], ONE, [3, 4], true),
-        (ONE, [1, 2], TWO, [1, 2], false),
-        (ONE, [7, 9], OTHER, [1, 1], false),
-        (ANY, [5, 6], LAST, [7, 6], true),
-        (ANY, [5, 6], LAST, [6, 5], false),
-        (ANY, [5, 6], ANY, [5, 6], false),
-        (LAST, [0, 6], LAST, [0, 1], true),
-        (LAST, [0, 6], LAST, [0, 7], false),
-    ] {
-        let (left, right) = ((left, 0), (right, 0));
-        assert_eq!(rt;
-            with_args(&set, left, &left_args, right, &right_args)?,
-            want
-        );
-        assert_eq!(rt;
-            with_args(&set, right, &right_args, left, &left_args)?,
-            want
-        );
-    }
+    assert!(rt; all_conflict(&set, CONFLICTS_OF_KEYS)?);
     Ok(())
 }
 

@@ -6,7 +6,7 @@ use Rattle.std.proofs.lemmas.Bool.{false≢true, eqb-true, eq-eqb}
 use Rattle.std.proofs.lemmas.List.{at_drop_more}
 use Rattle.lynx_shards.specs.declared.range.Range.{Range}
 use Rattle.lynx_shards.specs.declared.fault.ShardFault.TheVariants.{Gap}
-use Rattle.std.proofs.lemmas.Bool.Decides.{nat_tests}
+use Rattle.std.proofs.lemmas.Bool.Decides.{nat_tests, same_from_decides, Decides-eqb}
 use Rattle.lynx_shards.specs.declared.shard.Shard.{Shard}
 use Rattle.lynx_shards.specs.Ranges.{last_key, next_key, range_fault, first_fault, table_fault, Cuts, Covers, EachCovers}
 
@@ -75,3 +75,14 @@ pub fault_after : (servers : ℕ) (before : Option ℕ) (ranges : List Range) (i
 fault_after servers before ranges i d lt none =
     at_drop_more (table_fault servers before) ranges i d lt
     ∙ ap (λ f. first_fault f (table_fault servers (Some (get_or ranges i d).high) (drop (i + 1) ranges))) none
+
+next_greatest : (last : ℕ) → eqb last 18446744073709551615 ≡ eqb (last + 1) (2 ^ 64)
+next_greatest last = same_from_decides _ _ (Decides-eqb last 18446744073709551615) (λ e. let k : last + 1 ≡ 2 ^ 64 = eqb-true _ _ e in omega arith, λ e. eq-eqb (last + 1) (2 ^ 64) (omega arith))
+
+-- the test for the greatest key is one for the key after it
+pub whole_test : (last : Option ℕ) (shards : List Shard) (r : Bool) → last ≡ last_key None shards → r ≡ option_eq eqb last (Some 18446744073709551615) → r ≡ eqb (next_key (last_key None shards)) (2 ^ 64)
+whole_test last shards r is asked = asked ∙ by last ∙ ap (λ (l : Option ℕ). eqb (next_key l) (2 ^ 64)) is
+  where
+    by : (l : Option ℕ) → option_eq eqb l (Some 18446744073709551615) ≡ eqb (next_key l) (2 ^ 64)
+    by None = refl
+    by (Some k) = next_greatest k

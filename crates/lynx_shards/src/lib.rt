@@ -2,7 +2,7 @@
 #![tactic(auto)]
 
 pub use fault::ShardFault;
-pub use map::ShardMap;
+pub use map::{ShardMap, each_key_has_one_shard};
 pub use range::{Range, range_fault};
 pub use shard::Shard;
 pub use table::TableShards;

@@ -1,6 +1,6 @@
-ghost use Rattle.std.specs.Prelude.{◌≡◌, ◌≤◌, ◌++◌, ◌∷◌, [], None, map, IfOk, OnOk, OnErr};
+ghost use Rattle.std.specs.Prelude.{ℕ, List, ◌<◌, ◌^◌, ◌≡◌, ◌≤◌, ◌++◌, ◌∷◌, [], None, map, IfOk, OnOk, OnErr};
 ghost use Rattle.lynx_names.specs.declared.limits.TheConstants.{MAX_SERVERS};
-ghost use Rattle.lynx_shards.specs.Shards.{server_in, server_of};
+ghost use Rattle.lynx_shards.specs.Shards.{OneHas, server_in, server_of};
 
 use crate::fault::ShardFault;
 use crate::range::Range;
@@ -127,3 +127,8 @@ fn server_in(shards: &[Shard], key: u64) -> ServerId
         None => ServerId::first(),
     }
 }
+
+/// In shards that cover all keys, each key is in just one, and that one's server keeps it.
+pub fn each_key_has_one_shard()
+    ensures { (shards : List Shard) (key : ℕ) → Covers shards → key < 2 ^ 64 → OneHas shards key (server_in shards key) }
+{}

@@ -1,4 +1,4 @@
-ghost use Rattle.std.specs.Prelude.{◌≡◌, ◌+◌, ◌≤◌, ◌++◌, ◌∷◌, [], length, None, IsTrue, ◌↔◌, ◌^◌, OnOk, OnErr, ℕ};
+ghost use Rattle.std.specs.Prelude.{◌≡◌, ◌+◌, ◌≤◌, ◌++◌, ◌∷◌, [], length, None, IsTrue, ◌==◌, ◌↔◌, ◌^◌, OnOk, OnErr, ℕ};
 ghost use Rattle.lynx_names.specs.declared.limits.TheConstants.{MAX_SERVERS};
 
 use crate::fault::ShardFault;
@@ -56,7 +56,8 @@ impl TableShards {
 
     /// Whether the shards cover all keys.
     pub fn is_whole(&self) -> bool
-        ensures { IsTrue result ↔ Covers self.now }
+        ensures covers { IsTrue result ↔ Covers self.now }
+        ensures test { result ≡ (next_key (last_key None self.now) == 2 ^ 64) }
     {
         self.last == Some(u64::MAX)
     }

@@ -1,9 +1,9 @@
 -- The zeros behind a name.
-use Rattle.std.proofs.Common.{◌≡◌, ℕ, ◌+◌, ◌-◌, ◌≤◌, List, [], ◌∷◌, ◌++◌, length, take, drop, replicate, refl, sym, ap, ◌∙◌, Bool, true, false, arith}
+use Rattle.std.proofs.Common.{◌≡◌, ℕ, ◌+◌, ◌-◌, ◌≤◌, List, [], ◌∷◌, ◌++◌, length, drop, replicate, ap, ◌∙◌, true, arith}
 use Rattle.std.proofs.lemmas.List.{length-append, drop_at, drop-replicate, length-replicate}
 use Rattle.std.proofs.lemmas.Bool.Decides.{nat_tests}
 use Rattle.lynx_text.specs.Word.{is_name}
-use Rattle.lynx_text.specs.Name.{IsPadded, name_bytes}
+use Rattle.lynx_text.specs.Name.{IsPadded}
 
 -- a name has no more than 24 bytes
 pub length-name : (word : List ℕ) → is_name word ≡ true → length word ≤ 24

@@ -1,12 +1,27 @@
 -- Copies of maps and sets whose keys are names.
-use Rattle.std.proofs.Common.{◌≡◌, ℕ, ◌+◌, ◌<◌, List, [], ◌∷◌, ◌++◌, Bool, true, false, cond, ◌||◌, map, length, get_or, take, drop, refl, sym, ap, subst, ◌∙◌, rules}
+use Rattle.std.proofs.Common.{◌≡◌, ℕ, ◌+◌, ◌<◌, List, [], ◌∷◌, ◌++◌, Bool, false, cond, ◌||◌, map, length, get_or, take, drop, refl, sym, ap, subst, ◌∙◌, rules}
 use Rattle.std.specs.List.{IsDistinct, AllByRecursion, list_any}
 use Rattle.std.proofs.lemmas.Map.Keys.{IsDistinct-head, IsDistinct-tail}
 use Rattle.std.proofs.lemmas.List.{take-append-drop, drop_more, take_more}
 use Rattle.std.proofs.Common.{append_assoc}
+use Rattle.std.proofs.Common.{◌-◌, ◌&&◌, eqb, true, replicate, Decides}
+use Rattle.std.specs.Prelude.{position}
+use Rattle.std.specs.Str.{bytes_eq}
+use Rattle.std.proofs.lemmas.Slice.Eq.{bytes_eq-Decides}
+use Rattle.std.proofs.lemmas.Bool.{eqb-true, eq-eqb}
+use Rattle.std.proofs.lemmas.Bool.Decides.{same_from_decides}
+use Rattle.std.proofs.lemmas.List.{take_at}
+use Rattle.std.proofs.Common.{◌≤◌, ltb, None, arith}
+use Rattle.std.specs.List.{position_or_len}
+use Rattle.std.proofs.lemmas.Bool.{ltb-false}
+use Rattle.std.proofs.lemmas.List.Sums.{fails_before_first}
+use Rattle.std.proofs.lemmas.List.Folds.{list_any_none}
+use Rattle.lynx_text.proofs.Pieces.{cond_none}
+use Rattle.lynx_text.specs.Reading.{place_of}
 use Rattle.indexmap.specs.IndexMap.{insert_entry}
 use Rattle.indexmap.specs.IndexSet.{insert_key}
 use Rattle.lynx_text.specs.contracts.name.NamePartialEq.TheImpl.{eq-value}
+use Rattle.lynx_text.specs.WordLaws.{and_true}
 
 abbrev pub same_name : List ℕ → List ℕ → Bool
 same_name a b = eq-value.it a b
@@ -55,3 +70,53 @@ copied-next copied left rest all made name value given whole next same distinct 
     let split : copied ++ (name, value) ∷ rest ≡ all = ap (λ es. copied ++ es) (sym next) ∙ whole in
     let new : insert_entry same_name copied name value ≡ copied ++ (name, value) ∷ [] = insert_entry-next copied name value rest (subst (λ es. IsDistinct same_name (map (λ entry. entry.0) es)) (sym split) distinct) in
     ap (λ es. es ++ rest) (inserted ∙ ap (insert_entry same_name copied name) same ∙ new) ∙ append_assoc copied ((name, value) ∷ []) rest ∙ split
+
+same_name-exact : (a b : List ℕ) → same_name a b ≡ true → a ≡ b
+same_name-exact a b h =
+    let both = and_true (bytes_eq (a ++ replicate (24 - length a) 0) (b ++ replicate (24 - length b) 0)) (eqb (length a) (length b)) h in
+    let padded : a ++ replicate (24 - length a) 0 ≡ b ++ replicate (24 - length b) 0 = (bytes_eq-Decides _ _).0 both.0 in
+    let long : length a ≡ length b = eqb-true _ _ both.1 in
+    sym (take_at a (replicate (24 - length a) 0) (length a) refl) ∙ ap (take (length a)) padded ∙ take_at b (replicate (24 - length b) 0) (length a) (sym long)
+
+same_name-refl : (a : List ℕ) → same_name a a ≡ true
+same_name-refl a =
+    let whole : List ℕ = a ++ replicate (24 - length a) 0 in
+    let bytes : bytes_eq whole whole ≡ true = (bytes_eq-Decides whole whole).1 refl in
+    let long : eqb (length a) (length a) ≡ true = eq-eqb _ _ refl in
+    ap (λ b. b && eqb (length a) (length a)) bytes ∙ long
+
+-- names are the same where their bytes are
+pub same_name-is : (a b : List ℕ) → same_name a b ≡ bytes_eq a b
+same_name-is a b =
+    let same : Decides (same_name a b) (a ≡ b) = (same_name-exact a b, λ e. subst (λ x. same_name a x ≡ true) e (same_name-refl a)) in
+    same_from_decides (same_name a b) (bytes_eq a b) same (bytes_eq-Decides a b)
+
+-- and so are their places
+pub place-same : (names : List (List ℕ)) (name : List ℕ) → position (λ known. same_name known name) names ≡ place_of names name
+place-same names name = ap (λ (p : List ℕ → Bool). position p names) (λ i known. same_name-is known name i)
+
+pub place-same_turned : (names : List (List ℕ)) (name : List ℕ) → position (λ known. same_name name known) names ≡ place_of names name
+place-same_turned names name = ap (λ (p : List ℕ → Bool). position p names) (λ i known. same_name-symm name known i) ∙ place-same names name
+
+-- where no place is found no key is the same
+pub none_same : (names : List (List ℕ)) (name : List ℕ) → place_of names name ≡ None → list_any (same_name name) names ≡ false
+none_same names name none =
+    let absent : position (same_name name) names ≡ None = place-same_turned names name ∙ none in
+    let past : length names ≤ position_or_len (same_name name) names = ltb-false _ _ (cond_none (ltb (position_or_len (same_name name) names) (length names)) (position_or_len (same_name name) names) absent) in
+    list_any_none (same_name name) names (λ k d lt. fails_before_first (same_name name) names k d (omega arith))
+
+-- a new key goes last
+pub insert_key-new : (names : List (List ℕ)) (name : List ℕ) → place_of names name ≡ None → insert_key same_name names name ≡ names ++ name ∷ []
+insert_key-new names name none = ap (λ b. cond b names (names ++ name ∷ [])) (none_same names name none)
+
+or_false : (a b : Bool) → (a || b) ≡ false → (a ≡ false) × (b ≡ false)
+or_false true b e = absurd cc
+or_false false b e = (refl, e)
+
+-- and so does the entry of a new key
+pub insert_entry-new : {W : Type 0} (entries : List (List ℕ × W)) (name : List ℕ) (value : W) → list_any (same_name name) (map (λ entry. entry.0) entries) ≡ false → insert_entry same_name entries name value ≡ entries ++ (name, value) ∷ []
+insert_entry-new [] name value none = refl
+insert_entry-new (entry ∷ entries) name value none =
+    let parts = or_false (same_name name entry.0) (list_any (same_name name) (map (λ e. e.0) entries)) none in
+    ap (λ b. cond b ((entry.0, value) ∷ entries) (entry ∷ insert_entry same_name entries name value)) parts.0
+    ∙ ap (λ es. entry ∷ es) (insert_entry-new entries name value parts.1)

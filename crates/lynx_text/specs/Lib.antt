@@ -1,4 +1,13 @@
+pub mod Gives
+pub mod Digits
 pub mod Lines
 pub mod Name
+pub mod Parts
+pub mod Places
+pub mod Plain
+pub mod Reading
+pub mod Rules
 pub mod Set
+pub mod Text
 pub mod Word
+pub mod WordLaws

@@ -1,10 +1,15 @@
 //! The lines of a hop's actions.
 
-ghost use Rattle.std.specs.Prelude.{◌<◌, OnOk};
+ghost use Rattle.std.specs.Prelude.{◌<◌, ◌≡◌, option_map, OnOk};
 ghost use Rattle.lynx_names.specs.declared.limits.TheConstants.{MAX_ACTIONS};
+ghost use Rattle.lynx_text.specs.Gives.{Gives};
+ghost use Rattle.lynx_text.specs.Lines.{texts};
+ghost use Rattle.lynx_text.specs.Places.{place};
+ghost use Rattle.lynx_text.specs.Reading.{operator_of, relation_of, binding, plain, changing, get_of, change_of, let_of, need_of, action_of};
 
 use crate::action::{Action, Key, Operand, Operator, Relation};
 use crate::fault::FaultKind;
+use crate::lines::{four_words, three_words};
 use crate::name::Name;
 use crate::scope::Scope;
 use lynx_names::TableId;
@@ -17,30 +22,38 @@ pub(crate) struct ActionLine {
 }
 
 /// The action of a line's words.
+#[tactic(auto, unfolding(crate::specs::Reading::action_of))]
 pub(crate) fn read_action(words: &[&[u8]], scope: &Scope) -> Result<ActionLine, FaultKind>
-    ensures { OnOk result (scope.now.actions < MAX_ACTIONS) }
+    ensures value { Gives (λ line. line) result (action_of (place scope.now) (texts words.now)) }
+    ensures room { OnOk result (scope.now.actions < MAX_ACTIONS) }
 {
     let [verb, rest @ ..] = words else {
         return Err(FaultKind::BadLine);
     };
-    match *verb {
-        b"get" => read_get(rest, scope),
-        b"set" => read_set(rest, scope),
-        b"add" => read_add(rest, scope),
-        b"sub" => read_sub(rest, scope),
-        b"let" => read_let(rest, scope),
-        b"need" => read_need(rest, scope),
-        _ => Err(FaultKind::BadLine),
+    if *verb == b"get".as_slice() {
+        read_get(rest, scope)
+    } else if *verb == b"set".as_slice() {
+        read_set(rest, scope)
+    } else if *verb == b"add".as_slice() {
+        read_add(rest, scope)
+    } else if *verb == b"sub".as_slice() {
+        read_sub(rest, scope)
+    } else if *verb == b"let".as_slice() {
+        read_let(rest, scope)
+    } else if *verb == b"need".as_slice() {
+        read_need(rest, scope)
+    } else {
+        Err(FaultKind::BadLine)
     }
 }
 
 /// `get NAME TABLE KEY`
+#[tactic(auto, using(crate::proofs::Shapes::get_of_other), unfolding(crate::specs::Reading::get_of))]
 fn read_get(words: &[&[u8]], scope: &Scope) -> Result<ActionLine, FaultKind>
-    ensures { OnOk result (scope.now.actions < MAX_ACTIONS) }
+    ensures value { Gives (λ line. line) result (get_of (place scope.now) (texts words.now)) }
+    ensures room { OnOk result (scope.now.actions < MAX_ACTIONS) }
 {
-    let [name, table, key] = words else {
-        return Err(FaultKind::BadLine);
-    };
+    let (name, table, key) = three_words(words)?;
     scope.has_room()?;
     let name = scope.new_name(name)?;
     let table = scope.table(table)?;
@@ -51,7 +64,8 @@ fn read_get(words: &[&[u8]], scope: &Scope) -> Result<ActionLine, FaultKind>
 
 /// `set TABLE KEY VALUE`
 fn read_set(words: &[&[u8]], scope: &Scope) -> Result<ActionLine, FaultKind>
-    ensures { OnOk result (scope.now.actions < MAX_ACTIONS) }
+    ensures value { Gives (λ line. line) result (option_map (changing Action.Set) (change_of (place scope.now) (texts words.now))) }
+    ensures room { OnOk result (scope.now.actions < MAX_ACTIONS) }
 {
     let (table, key, value) = read_change(words, scope)?;
     Ok(plain(Action::Set { table, key, value }))
@@ -59,7 +73,8 @@ fn read_set(words: &[&[u8]], scope: &Scope) -> Result<ActionLine, FaultKind>
 
 /// `add TABLE KEY VALUE`
 fn read_add(words: &[&[u8]], scope: &Scope) -> Result<ActionLine, FaultKind>
-    ensures { OnOk result (scope.now.actions < MAX_ACTIONS) }
+    ensures value { Gives (λ line. line) result (option_map (changing Action.Add) (change_of (place scope.now) (texts words.now))) }
+    ensures room { OnOk result (scope.now.actions < MAX_ACTIONS) }
 {
     let (table, key, value) = read_change(words, scope)?;
     Ok(plain(Action::Add { table, key, value }))
@@ -67,19 +82,20 @@ fn read_add(words: &[&[u8]], scope: &Scope) -> Result<ActionLine, FaultKind>
 
 /// `sub TABLE KEY VALUE`
 fn read_sub(words: &[&[u8]], scope: &Scope) -> Result<ActionLine, FaultKind>
-    ensures { OnOk result (scope.now.actions < MAX_ACTIONS) }
+    ensures value { Gives (λ line. line) result (option_map (changing Action.Sub) (change_of (place scope.now) (texts words.now))) }
+    ensures room { OnOk result (scope.now.actions < MAX_ACTIONS) }
 {
     let (table, key, value) = read_change(words, scope)?;
     Ok(plain(Action::Sub { table, key, value }))
 }
 
 /// `TABLE KEY VALUE`, what changes a cell.
+#[tactic(auto, using(crate::proofs::Shapes::change_of_other), unfolding(crate::specs::Reading::change_of))]
 fn read_change(words: &[&[u8]], scope: &Scope) -> Result<(TableId, Key, Operand), FaultKind>
-    ensures { OnOk result (scope.now.actions < MAX_ACTIONS) }
+    ensures value { Gives (λ change. change) result (change_of (place scope.now) (texts words.now)) }
+    ensures room { OnOk result (scope.now.actions < MAX_ACTIONS) }
 {
-    let [table, key, value] = words else {
-        return Err(FaultKind::BadLine);
-    };
+    let (table, key, value) = three_words(words)?;
     scope.has_room()?;
     let table = scope.table(table)?;
     let key = scope.key(key)?;
@@ -89,12 +105,12 @@ fn read_change(words: &[&[u8]], scope: &Scope) -> Result<(TableId, Key, Operand)
 }
 
 /// `let NAME VALUE + VALUE`, or with `-`.
+#[tactic(auto, using(crate::proofs::Shapes::let_of_other), unfolding(crate::specs::Reading::let_of))]
 fn read_let(words: &[&[u8]], scope: &Scope) -> Result<ActionLine, FaultKind>
-    ensures { OnOk result (scope.now.actions < MAX_ACTIONS) }
+    ensures value { Gives (λ line. line) result (let_of (place scope.now) (texts words.now)) }
+    ensures room { OnOk result (scope.now.actions < MAX_ACTIONS) }
 {
-    let [name, left, operator, right] = words else {
-        return Err(FaultKind::BadLine);
-    };
+    let (name, left, operator, right) = four_words(words)?;
     let operator = operator_of(operator)?;
     scope.has_room()?;
     let name = scope.new_name(name)?;
@@ -111,12 +127,12 @@ fn read_let(words: &[&[u8]], scope: &Scope) -> Result<ActionLine, FaultKind>
 }
 
 /// `need VALUE RELATION VALUE`
+#[tactic(auto, using(crate::proofs::Shapes::need_of_other), unfolding(crate::specs::Reading::need_of))]
 fn read_need(words: &[&[u8]], scope: &Scope) -> Result<ActionLine, FaultKind>
-    ensures { OnOk result (scope.now.actions < MAX_ACTIONS) }
+    ensures value { Gives (λ line. line) result (need_of (place scope.now) (texts words.now)) }
+    ensures room { OnOk result (scope.now.actions < MAX_ACTIONS) }
 {
-    let [left, relation, right] = words else {
-        return Err(FaultKind::BadLine);
-    };
+    let (left, relation, right) = three_words(words)?;
     let relation = relation_of(relation)?;
     if !scope.is_first {
         return Err(FaultKind::NeedNotFirst);
@@ -131,34 +147,52 @@ fn read_need(words: &[&[u8]], scope: &Scope) -> Result<ActionLine, FaultKind>
     }))
 }
 
-fn operator_of(word: &[u8]) -> Result<Operator, FaultKind> {
-    match word {
-        b"+" => Ok(Operator::Plus),
-        b"-" => Ok(Operator::Minus),
-        _ => Err(FaultKind::BadLine),
+#[tactic(auto, unfolding(crate::specs::Reading::operator_of))]
+fn operator_of(word: &[u8]) -> Result<Operator, FaultKind>
+    ensures { Gives (λ operator. operator) result (operator_of word.now) }
+{
+    if word == b"+".as_slice() {
+        Ok(Operator::Plus)
+    } else if word == b"-".as_slice() {
+        Ok(Operator::Minus)
+    } else {
+        Err(FaultKind::BadLine)
     }
 }
 
-fn relation_of(word: &[u8]) -> Result<Relation, FaultKind> {
-    match word {
-        b"<" => Ok(Relation::Below),
-        b"<=" => Ok(Relation::AtMost),
-        b"=" => Ok(Relation::Same),
-        b"!=" => Ok(Relation::Differs),
-        b">=" => Ok(Relation::AtLeast),
-        b">" => Ok(Relation::Above),
-        _ => Err(FaultKind::BadLine),
+#[tactic(auto, unfolding(crate::specs::Reading::relation_of))]
+fn relation_of(word: &[u8]) -> Result<Relation, FaultKind>
+    ensures { Gives (λ relation. relation) result (relation_of word.now) }
+{
+    if word == b"<".as_slice() {
+        Ok(Relation::Below)
+    } else if word == b"<=".as_slice() {
+        Ok(Relation::AtMost)
+    } else if word == b"=".as_slice() {
+        Ok(Relation::Same)
+    } else if word == b"!=".as_slice() {
+        Ok(Relation::Differs)
+    } else if word == b">=".as_slice() {
+        Ok(Relation::AtLeast)
+    } else if word == b">".as_slice() {
+        Ok(Relation::Above)
+    } else {
+        Err(FaultKind::BadLine)
     }
 }
 
-fn binding(name: Name, action: Action) -> ActionLine {
+fn binding(name: Name, action: Action) -> ActionLine
+    ensures { result ≡ binding name action }
+{
     ActionLine {
         action,
         binds: Some(name),
     }
 }
 
-fn plain(action: Action) -> ActionLine {
+fn plain(action: Action) -> ActionLine
+    ensures { result ≡ plain action }
+{
     ActionLine {
         action,
         binds: None,

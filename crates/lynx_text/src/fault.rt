@@ -79,6 +79,10 @@ impl<T: Drop> From<AllocFailed<T>> for FaultKind {
 }
 
 impl From<ShardFault> for FaultKind {
+    ghost use Rattle.lynx_text.specs.Gives.{shard_kind};
+
+    ghost from_gives = { λ fault kind. kind ≡ shard_kind fault };
+
     fn from(fault: ShardFault) -> FaultKind {
         match fault {
             ShardFault::Memory => FaultKind::Memory,

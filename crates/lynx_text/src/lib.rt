@@ -6,7 +6,7 @@ pub use fault::{FaultKind, TextFault};
 pub use name::Name;
 pub use printing::print;
 pub use program::{Hop, Program};
-pub use reading::parse;
+pub use reading::{no_text_spells_two_sets, parse};
 pub use set::ChainSet;
 
 pub mod action;

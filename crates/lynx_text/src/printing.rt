@@ -1,49 +1,76 @@
 //! Writing the text of a set.
 
+ghost use Rattle.std.specs.Prelude.{◌≡◌, ◌<◌, ◌^◌, ◌+◌, ◌++◌, ◌∷◌, [], List, OnOk, IfOk, decimal, sum_by, flat_map, unwrap_or, slice_get};
+ghost use Rattle.lynx_names.specs.declared.limits.TheConstants.{MAX_ACTIONS};
+ghost use Rattle.lynx_text.specs.Text.{spaced, joined, line, name_at, key_word, operand_word, operator_word, relation_word, action_words, bound_names, bound_in, action_lines, hop_lines, hops_lines, program_words, program_lines, programs_lines, shard_words, table_lines, tables_lines, head_lines, text, text_of};
+
 use crate::action::{Action, Key, Operand, Operator, Relation};
 use crate::name::Name;
 use crate::program::{Hop, Program};
 use crate::set::ChainSet;
+use indexmap::IndexMap;
 use lynx_names::{Items, Memory, TableId};
 use lynx_shards::Shard;
 use std::alloc::Global;
 
 /// The one text of the set.
-pub fn print(alloc: Global, set: &ChainSet) -> Result<Vec<u8>, Memory> {
+#[tactic(auto, using(crate::proofs::Texts::text_append))]
+pub fn print(alloc: Global, set: &ChainSet) -> Result<Vec<u8>, Memory>
+    ensures { IfOk result (λ bytes. bytes.items ≡ text_of set.now) }
+{
     let mut out = Vec::new(alloc);
-    out.extend_from_slice(b"lynx 1\nservers ".as_slice())?;
-    put_number(alloc, &mut out, u64::from(set.servers()))?;
-    end_line(&mut out)?;
+    put_head(alloc, &mut out, set.servers())?;
     put_tables(
         alloc,
         &mut out,
         set.tables().as_slice(),
         set.shards().tables(),
     )?;
-    for (name, program) in set.programs() {
-        put_program(alloc, &mut out, set.tables().as_slice(), name, program)?;
-    }
+    put_programs(alloc, &mut out, set.tables().as_slice(), set.programs())?;
     Ok(out)
 }
 
+fn put_head(alloc: Global, out: &mut Vec<u8>, servers: u8) -> Result<(), Memory>
+    ensures { OnOk result (out.new.items ≡ out.old.items ++ text (head_lines servers)) }
+{
+    out.extend_from_slice(b"lynx 1\nservers ".as_slice())?;
+    put_number(alloc, out, u64::from(servers))?;
+    end_line(out)?;
+    Ok(())
+}
+
+#[tactic(auto, using(crate::proofs::Texts::text_append))]
 fn put_tables(
     alloc: Global,
     out: &mut Vec<u8>,
     names: &[Name],
     tables: &[Items<Shard>],
-) -> Result<(), Memory> {
-    for (name, shards) in names.iter().zip(tables) {
-        out.extend_from_slice(b"table".as_slice())?;
-        put_word(out, name.as_bytes())?;
-        end_line(out)?;
-        for shard in shards.as_slice() {
-            put_shard(alloc, out, shard)?;
+) -> Result<(), Memory>
+    ensures { OnOk result (out.new.items ≡ out.old.items ++ text (tables_lines names.now tables.now)) }
+{
+    for (place, name) in names.iter().enumerate() {
+        if let Some(shards) = tables.get(place) {
+            put_table(alloc, out, name, shards.as_slice())?;
         }
     }
     Ok(())
 }
 
-fn put_shard(alloc: Global, out: &mut Vec<u8>, shard: &Shard) -> Result<(), Memory> {
+fn put_table(alloc: Global, out: &mut Vec<u8>, name: &Name, shards: &[Shard]) -> Result<(), Memory>
+    ensures { OnOk result (out.new.items ≡ out.old.items ++ text (table_lines name.now shards.now)) }
+{
+    out.extend_from_slice(b"table".as_slice())?;
+    put_word(out, name.as_bytes())?;
+    end_line(out)?;
+    for shard in shards {
+        put_shard(alloc, out, shard)?;
+    }
+    Ok(())
+}
+
+fn put_shard(alloc: Global, out: &mut Vec<u8>, shard: &Shard) -> Result<(), Memory>
+    ensures { OnOk result (out.new.items ≡ out.old.items ++ line (shard_words shard.now)) }
+{
     out.extend_from_slice(b"shard ".as_slice())?;
     put_number(alloc, out, shard.low)?;
     out.push(b' ')?;
@@ -53,24 +80,71 @@ fn put_shard(alloc: Global, out: &mut Vec<u8>, shard: &Shard) -> Result<(), Memo
     end_line(out)
 }
 
+#[tactic(auto, using(crate::proofs::Texts::text_append))]
+fn put_programs(
+    alloc: Global,
+    out: &mut Vec<u8>,
+    tables: &[Name],
+    programs: &IndexMap<Name, Program>,
+) -> Result<(), Memory>
+    ensures { OnOk result (out.new.items ≡ out.old.items ++ text (programs_lines tables.now programs.now.entries)) }
+{
+    for (name, program) in programs {
+        put_program(alloc, out, tables, name, program)?;
+    }
+    Ok(())
+}
+
+#[tactic(auto, using(crate::proofs::Texts::text_append))]
 fn put_program(
     alloc: Global,
     out: &mut Vec<u8>,
     tables: &[Name],
     name: &Name,
     program: &Program,
-) -> Result<(), Memory> {
+) -> Result<(), Memory>
+    ensures { OnOk result (out.new.items ≡ out.old.items ++ text (program_lines tables.now (name.now, program.now))) }
+{
+    put_program_head(out, name, program)?;
+    put_hops(alloc, out, tables, program)?;
+    out.extend_from_slice(b"end\n".as_slice())?;
+    Ok(())
+}
+
+fn put_program_head(out: &mut Vec<u8>, name: &Name, program: &Program) -> Result<(), Memory>
+    ensures { OnOk result (out.new.items ≡ out.old.items ++ line (program_words name.now program.now)) }
+{
     out.extend_from_slice(b"program".as_slice())?;
     put_word(out, name.as_bytes())?;
-    for parameter in program.names.as_slice().iter().take(program.parameters) {
-        put_word(out, parameter.as_bytes())?;
+    let names = program.names.as_slice();
+    put_words(out, &names[..program.parameters.min(names.len())])?;
+    end_line(out)
+}
+
+/// Writes a space before each name.
+fn put_words(out: &mut Vec<u8>, words: &[Name]) -> Result<(), Memory>
+    ensures { OnOk result (out.new.items ≡ out.old.items ++ spaced words.now) }
+{
+    for word in words {
+        put_word(out, word.as_bytes())?;
     }
-    end_line(out)?;
-    let mut next = program.parameters;
+    Ok(())
+}
+
+#[tactic(auto, using(crate::proofs::Texts::text_append))]
+fn put_hops(
+    alloc: Global,
+    out: &mut Vec<u8>,
+    tables: &[Name],
+    program: &Program,
+) -> Result<(), Memory>
+    ensures { OnOk result (out.new.items ≡ out.old.items
+        ++ text (hops_lines tables.now program.now.names program.now.parameters program.now.hops)) }
+{
+    let mut place = program.parameters;
     for hop in program.hops.as_slice() {
-        next = put_hop(alloc, out, tables, program.names.as_slice(), next, hop)?;
+        place = put_hop(alloc, out, tables, program.names.as_slice(), place, hop)?;
     }
-    out.extend_from_slice(b"end\n".as_slice())?;
     Ok(())
 }
 
@@ -82,20 +156,26 @@ fn put_hop(
     names: &[Name],
     place: usize,
     hop: &Hop,
-) -> Result<usize, Memory> {
+) -> Result<usize, Memory>
+    requires { place + MAX_ACTIONS < 2 ^ 64 }
+    ensures next { IfOk result (λ next. next ≡ place + bound_in hop.now.actions) }
+    ensures written { OnOk result (out.new.items ≡ out.old.items ++ text (hop_lines tables.now names.now place hop.now)) }
+{
     out.extend_from_slice(b"hop ".as_slice())?;
     put_number(alloc, out, u64::from(hop.server.number()))?;
     end_line(out)?;
     let mut next = place;
     for action in hop.actions.as_slice() {
         put_action(alloc, out, tables, names, next, action)?;
-        next = next.saturating_add(bound_names(action));
+        next += bound_names(action);
     }
     Ok(next)
 }
 
 /// How many names the action binds.
-fn bound_names(action: &Action) -> usize {
+fn bound_names(action: &Action) -> usize
+    ensures { result ≡ bound_names action.now }
+{
     match action {
         Action::Get { .. } | Action::Let { .. } => 1,
         _ => 0,
@@ -110,7 +190,9 @@ fn put_action(
     names: &[Name],
     place: usize,
     action: &Action,
-) -> Result<(), Memory> {
+) -> Result<(), Memory>
+    ensures { OnOk result (out.new.items ≡ out.old.items ++ line (action_words tables.now names.now place action.now)) }
+{
     match action {
         Action::Get { table, key } => {
             out.extend_from_slice(b"get".as_slice())?;
@@ -164,7 +246,9 @@ fn put_cell(
     names: &[Name],
     table: TableId,
     key: Key,
-) -> Result<(), Memory> {
+) -> Result<(), Memory>
+    ensures { OnOk result (out.new.items ≡ out.old.items ++ spaced (name_at tables.now table ∷ key_word names.now key ∷ [])) }
+{
     put_name(out, tables, table.index())?;
     match key {
         Key::Literal(number) => {
@@ -180,7 +264,9 @@ fn put_operand(
     out: &mut Vec<u8>,
     names: &[Name],
     value: Operand,
-) -> Result<(), Memory> {
+) -> Result<(), Memory>
+    ensures { OnOk result (out.new.items ≡ out.old.items ++ 32 ∷ operand_word names.now value) }
+{
     match value {
         Operand::Number(number) => {
             out.push(b' ')?;
@@ -190,14 +276,18 @@ fn put_operand(
     }
 }
 
-fn operator_word(operator: Operator) -> &'static [u8] {
+fn operator_word(operator: Operator) -> &'static [u8]
+    ensures { result.now ≡ operator_word operator }
+{
     match operator {
         Operator::Plus => b"+",
         Operator::Minus => b"-",
     }
 }
 
-fn relation_word(relation: Relation) -> &'static [u8] {
+fn relation_word(relation: Relation) -> &'static [u8]
+    ensures { result.now ≡ relation_word relation }
+{
     match relation {
         Relation::Below => b"<",
         Relation::AtMost => b"<=",
@@ -209,7 +299,9 @@ fn relation_word(relation: Relation) -> &'static [u8] {
 }
 
 /// Writes a space and the name at that place.
-fn put_name(out: &mut Vec<u8>, names: &[Name], place: usize) -> Result<(), Memory> {
+fn put_name(out: &mut Vec<u8>, names: &[Name], place: usize) -> Result<(), Memory>
+    ensures { OnOk result (out.new.items ≡ out.old.items ++ 32 ∷ name_at names.now place) }
+{
     out.push(b' ')?;
     if let Some(name) = names.get(place) {
         out.extend_from_slice(name.as_bytes())?;
@@ -218,19 +310,25 @@ fn put_name(out: &mut Vec<u8>, names: &[Name], place: usize) -> Result<(), Memor
 }
 
 /// Writes a space and the word.
-fn put_word(out: &mut Vec<u8>, word: &[u8]) -> Result<(), Memory> {
+fn put_word(out: &mut Vec<u8>, word: &[u8]) -> Result<(), Memory>
+    ensures { OnOk result (out.new.items ≡ out.old.items ++ 32 ∷ word.now) }
+{
     out.push(b' ')?;
     out.extend_from_slice(word)?;
     Ok(())
 }
 
-fn put_number(alloc: Global, out: &mut Vec<u8>, number: u64) -> Result<(), Memory> {
+fn put_number(alloc: Global, out: &mut Vec<u8>, number: u64) -> Result<(), Memory>
+    ensures { OnOk result (out.new.items ≡ out.old.items ++ decimal number) }
+{
     let digits = number.to_string(alloc)?;
     out.extend_from_slice(digits.as_bytes())?;
     Ok(())
 }
 
-fn end_line(out: &mut Vec<u8>) -> Result<(), Memory> {
+fn end_line(out: &mut Vec<u8>) -> Result<(), Memory>
+    ensures { OnOk result (out.new.items ≡ out.old.items ++ 10 ∷ []) }
+{
     out.push(b'\n')?;
     Ok(())
 }

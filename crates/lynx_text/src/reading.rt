@@ -1,15 +1,23 @@
 //! Reading the text of a set.
 
-ghost use Rattle.std.specs.Prelude.{◌≡◌, ◌<◌, ◌≤◌, length, OnOk, IfOk};
-ghost use Rattle.lynx_names.specs.declared.limits.TheConstants.{MAX_ACTIONS, MAX_HOPS, MAX_PARAMETERS, MAX_SERVERS};
+ghost use Rattle.std.specs.Prelude.{◌≡◌, ◌≢◌, ◌↔◌, ◌⊎◌, false, codes, IfErr, IsErrAnd, IsErrOf, ◌<◌, ◌≤◌, ◌+◌, ◌-◌, [], None, Some, length, map, OnOk, IfOk};
+ghost use Rattle.lynx_text.specs.Gives.{Gives, IsOfLine};
+ghost use Rattle.lynx_text.specs.Lines.{texts, is_version, until};
+ghost use Rattle.lynx_text.specs.Plain.{plain_set, plain_program};
+ghost use Rattle.lynx_text.specs.Rules.{IsSet};
+ghost use Rattle.lynx_text.specs.Set.{Set};
+ghost use Rattle.lynx_text.specs.Text.{text_of};
+ghost use Rattle.lynx_text.specs.Reading.{place_of};
+ghost use Rattle.lynx_text.specs.Parts.{parts, goes_shard, goes_table, goes_action, goes_hop, goes_program, shard_at, table_at, action_at, hop_at, program_at, set_at, lines_at, read_text, with_name, servers_of, table_line, shard_line, program_line, parameters_of, hop_line, end_line};
+ghost use Rattle.lynx_names.specs.declared.limits.TheConstants.{MAX_ACTIONS, MAX_HOPS, MAX_PARAMETERS, MAX_PROGRAMS, MAX_SERVERS, MAX_SHARDS, MAX_TABLES, MAX_TEXT_BYTES};
 
 use crate::action::Action;
 use crate::action_line::read_action;
 use crate::fault::{FaultKind, TextFault};
-use crate::lines::{Lines, words_of};
+use crate::lines::{Lines, four_words, one_after, two_and_more};
 use crate::name::Name;
 use crate::program::{Hop, Program};
-use crate::scope::{Scope, name_of, number_of, place_of};
+use crate::scope::{Scope, name_of, new_name, number_of};
 use crate::set::ChainSet;
 use lynx_names::limits::{
     MAX_HOPS, MAX_PARAMETERS, MAX_PROGRAMS, MAX_SERVERS, MAX_SHARDS, MAX_TABLES, MAX_TEXT_BYTES,
@@ -19,7 +27,31 @@ use lynx_shards::{Range, ShardFault, TableShards};
 use std::alloc::Global;
 
 /// The set that the text spells. An error tells the fault on the earliest line, or want of memory.
-pub fn parse(alloc: Global, text: &[u8]) -> Result<ChainSet, TextFault> {
+pub fn parse(alloc: Global, text: &[u8]) -> Result<ChainSet, TextFault>
+    // What is read is spelled so.
+    ensures found { IfOk result (λ set. IsSet set × (text.now ≡ text_of set)) }
+    // What is spelled so is read.
+    ensures only { IfErr result (λ fault. (fault.kind ≡ FaultKind.Memory) ⊎ ((set : Set) → IsSet set → text.now ≢ text_of set)) }
+
+    ensures too_long { IsErrAnd result (λ fault. fault.kind ≡ FaultKind.TooLong) ↔ (MAX_TEXT_BYTES < length text.now) }
+    ensures bad_version { IsErrAnd result (λ fault. fault.kind ≡ FaultKind.BadVersion)
+        ↔ (length text.now ≤ MAX_TEXT_BYTES) × (until text.now 10 ≢ codes "lynx 1") }
+{
+    read_text(alloc, text)
+}
+
+/// A text spells one set at most.
+pub fn no_text_spells_two_sets()
+    ensures { (set : Set) (other : Set) → IsSet set → IsSet other → text_of set ≡ text_of other → set ≡ other }
+{}
+
+fn read_text(alloc: Global, text: &[u8]) -> Result<ChainSet, TextFault>
+    ensures read { IfOk result (λ set. read_text text.now ≡ Some (plain_set set)) }
+    ensures none { IfErr result (λ fault. (fault.kind ≡ FaultKind.Memory) ⊎ (read_text text.now ≡ None)) }
+    ensures too_long { IsErrAnd result (λ fault. fault.kind ≡ FaultKind.TooLong) ↔ (MAX_TEXT_BYTES < length text.now) }
+    ensures bad_version { IsErrAnd result (λ fault. fault.kind ≡ FaultKind.BadVersion)
+        ↔ (length text.now ≤ MAX_TEXT_BYTES) × (until text.now 10 ≢ codes "lynx 1") }
+{
     if text.len() > MAX_TEXT_BYTES {
         return Err(TextFault {
             kind: FaultKind::TooLong,
@@ -27,7 +59,7 @@ pub fn parse(alloc: Global, text: &[u8]) -> Result<ChainSet, TextFault> {
         });
     }
     let mut lines = Lines::new(text);
-    match read_set(alloc, &mut lines) {
+    match read_lines(alloc, &mut lines) {
         Ok(set) => Ok(set),
         Err(kind) => Err(TextFault {
             kind,
@@ -36,46 +68,84 @@ pub fn parse(alloc: Global, text: &[u8]) -> Result<ChainSet, TextFault> {
     }
 }
 
-fn read_set(alloc: Global, lines: &mut Lines) -> Result<ChainSet, FaultKind> {
+/// The version's line and those after it.
+#[tactic(auto, unfolding(crate::specs::Parts::lines_at))]
+fn read_lines(alloc: Global, lines: &mut Lines) -> Result<ChainSet, FaultKind>
+    ensures found { IfOk result (λ set. lines_at lines.old ≡ Some (plain_set set)) }
+    ensures none { IfErr result (λ kind. (kind ≡ FaultKind.Memory) ⊎ (lines_at lines.old ≡ None)) }
+    ensures version { IsErrOf result FaultKind.BadVersion ↔ (is_version lines.old ≡ false) }
+    ensures short { IfErr result (λ kind. kind ≢ FaultKind.TooLong) }
+{
     lines.version()?;
-    let words = words_of(alloc, lines.next()?)?;
-    let mut set = ChainSet::new(alloc, read_servers(&words)?);
-    while lines.begins_with(b"table".as_slice()) {
-        read_table(alloc, lines, &mut set)?;
-    }
-    while lines.begins_with(b"program".as_slice()) {
-        read_program(alloc, lines, &mut set)?;
-    }
+    let set = read_set(alloc, lines)?;
+    Ok(set)
+}
+
+/// The lines after the version's.
+#[tactic(auto, unfolding(crate::specs::Parts::set_at))]
+fn read_set(alloc: Global, lines: &mut Lines) -> Result<ChainSet, FaultKind>
+    ensures value { Gives plain_set result (set_at lines.old) }
+    ensures line { IfErr result IsOfLine }
+{
+    let words = lines.next_words(alloc)?;
+    let servers = read_servers(&words)?;
+    let mut set = ChainSet::new(alloc, servers);
+    read_tables(alloc, lines, &mut set)?;
+    read_programs(alloc, lines, &mut set)?;
     lines.end()?;
     Ok(set)
 }
 
-/// `servers N`
-fn read_servers(words: &[&[u8]]) -> Result<u8, FaultKind>
-    ensures { IfOk result (λ servers. servers ≤ MAX_SERVERS) }
+/// The tables of a set that has none yet.
+fn read_tables(alloc: Global, lines: &mut Lines, set: &mut ChainSet) -> Result<(), FaultKind>
+    requires { set.old.tables ≡ [] }
+    ensures value { Gives (λ _. (plain_set set.new, lines.new)) result (parts goes_table table_at MAX_TABLES (plain_set set.old) lines.old) }
+    ensures programs { OnOk result (set.new.programs ≡ set.old.programs) }
 {
-    let [b"servers", count] = words else {
-        return Err(FaultKind::BadLine);
-    };
-    let count = number_of(count)?;
-    if count < 1 || count > u64::from(MAX_SERVERS) {
-        return Err(FaultKind::LimitPassed);
+    'tables: while lines.begins_with(b"table".as_slice()) {
+        read_table(alloc, lines, set)?;
     }
-    Ok(count as u8)
+    Ok(())
+}
+
+/// The programs of a set that has none yet.
+fn read_programs(alloc: Global, lines: &mut Lines, set: &mut ChainSet) -> Result<(), FaultKind>
+    requires { set.old.programs ≡ [] }
+    ensures { Gives (λ _. (plain_set set.new, lines.new)) result (parts goes_program program_at MAX_PROGRAMS (plain_set set.old) lines.old) }
+{
+    'programs: while lines.begins_with(b"program".as_slice()) {
+        read_program(alloc, lines, set)?;
+    }
+    Ok(())
+}
+
+/// `servers N`
+#[tactic(auto, unfolding(crate::specs::Parts::servers_of))]
+fn read_servers(words: &[&[u8]]) -> Result<u8, FaultKind>
+    ensures value { Gives (λ servers. servers) result (servers_of (texts words.now)) }
+    ensures few { IfOk result (λ servers. servers ≤ MAX_SERVERS) }
+{
+    let word = one_after(b"servers".as_slice(), words)?;
+    let count = number_of(word)?;
+    if 1 <= count && count <= u64::from(MAX_SERVERS) {
+        Ok(count as u8)
+    } else {
+        Err(FaultKind::LimitPassed)
+    }
 }
 
 /// A table's line and those of its shards.
+#[tactic(auto, unfolding(crate::specs::Parts::table_at))]
 fn read_table(alloc: Global, lines: &mut Lines, set: &mut ChainSet) -> Result<(), FaultKind>
-    ensures { OnOk result (length lines.new < length lines.old) }
+    ensures value { Gives (λ _. (plain_set set.new, lines.new)) result (table_at (plain_set set.old) lines.old) }
+    ensures shrinks { OnOk result (length lines.new < length lines.old) }
+    ensures count { OnOk result (length set.new.tables ≡ length set.old.tables + 1) }
+    ensures few { OnOk result (length set.new.tables ≤ MAX_TABLES) }
+    ensures programs { OnOk result (set.new.programs ≡ set.old.programs) }
 {
-    let words = words_of(alloc, lines.next()?)?;
+    let words = lines.next_words(alloc)?;
     let name = read_table_line(&words, set)?;
-    let mut shards = TableShards::new(alloc);
-    while lines.begins_with(b"shard".as_slice()) {
-        let words = words_of(alloc, lines.next()?)?;
-        let range = read_shard_line(&words, &shards)?;
-        shards.add(set.servers(), range)?;
-    }
+    let shards = read_shards(alloc, lines, set.servers())?;
     if !shards.is_whole() {
         return Err(FaultKind::Shard(ShardFault::Gap));
     }
@@ -83,41 +153,85 @@ fn read_table(alloc: Global, lines: &mut Lines, set: &mut ChainSet) -> Result<()
     Ok(())
 }
 
+/// The lines of a table's shards.
+fn read_shards(alloc: Global, lines: &mut Lines, servers: u8) -> Result<TableShards, FaultKind>
+    requires { servers ≤ MAX_SERVERS }
+    ensures value { Gives (λ shards. (shards, lines.new)) result (parts goes_shard (shard_at servers) MAX_SHARDS [] lines.old) }
+    ensures shrinks { OnOk result (length lines.new ≤ length lines.old) }
+{
+    let mut shards = TableShards::new(alloc);
+    'shards: while lines.begins_with(b"shard".as_slice()) {
+        read_shard(alloc, lines, servers, &mut shards)?;
+    }
+    Ok(shards)
+}
+
+/// The line of one more shard.
+#[tactic(auto, unfolding(crate::specs::Parts::shard_at))]
+fn read_shard(
+    alloc: Global,
+    lines: &mut Lines,
+    servers: u8,
+    shards: &mut TableShards,
+) -> Result<(), FaultKind>
+    requires { servers ≤ MAX_SERVERS }
+    ensures value { Gives (λ _. (shards.new, lines.new)) result (shard_at servers shards.old lines.old) }
+    ensures shrinks { OnOk result (length lines.new < length lines.old) }
+    ensures count { OnOk result (length shards.new ≡ length shards.old + 1) }
+    ensures few { OnOk result (length shards.new ≤ MAX_SHARDS) }
+{
+    let words = lines.next_words(alloc)?;
+    let range = read_shard_line(&words, shards)?;
+    shards.add(servers, range)?;
+    Ok(())
+}
+
 /// `table NAME`
-fn read_table_line(words: &[&[u8]], set: &ChainSet) -> Result<Name, FaultKind> {
-    let [b"table", name] = words else {
-        return Err(FaultKind::BadLine);
-    };
+#[tactic(auto, unfolding(crate::specs::Parts::table_line))]
+fn read_table_line(words: &[&[u8]], set: &ChainSet) -> Result<Name, FaultKind>
+    ensures value { Gives (λ name. name) result (table_line set.now.tables (texts words.now)) }
+    ensures new { IfOk result (λ name. place_of set.now.tables name ≡ None) }
+    ensures room { OnOk result (length set.now.tables < MAX_TABLES) }
+{
+    let word = one_after(b"table".as_slice(), words)?;
     if set.tables().len() >= usize::from(MAX_TABLES) {
         return Err(FaultKind::LimitPassed);
     }
-    let name = name_of(name)?;
-    if set.tables().contains(&name) {
-        return Err(FaultKind::Repeated);
+    let name = name_of(word)?;
+    match set.place_of_table(&name) {
+        Some(_) => Err(FaultKind::Repeated),
+        None => Ok(name),
     }
-    Ok(name)
 }
 
 /// `shard LOW HIGH SERVER`
-fn read_shard_line(words: &[&[u8]], shards: &TableShards) -> Result<Range, FaultKind> {
-    let [b"shard", low, high, server] = words else {
+#[tactic(auto, using(crate::proofs::Shapes::shard_line_other), unfolding(crate::specs::Parts::shard_line))]
+fn read_shard_line(words: &[&[u8]], shards: &TableShards) -> Result<Range, FaultKind>
+    ensures value { Gives (λ range. range) result (shard_line (length shards.now) (texts words.now)) }
+    ensures room { OnOk result (length shards.now < MAX_SHARDS) }
+{
+    let (word, low, high, server) = four_words(words)?;
+    if word != b"shard".as_slice() {
         return Err(FaultKind::BadLine);
-    };
+    }
     if shards.len() >= MAX_SHARDS {
         return Err(FaultKind::LimitPassed);
     }
-    Ok(Range {
-        low: number_of(low)?,
-        high: number_of(high)?,
-        server: number_of(server)?,
-    })
+    let low = number_of(low)?;
+    let high = number_of(high)?;
+    let server = number_of(server)?;
+    Ok(Range { low, high, server })
 }
 
 /// A program's line, its hops and its end.
+#[tactic(auto, using(crate::proofs::Sets::names_plain), unfolding(crate::specs::Parts::program_at))]
 fn read_program(alloc: Global, lines: &mut Lines, set: &mut ChainSet) -> Result<(), FaultKind>
-    ensures { OnOk result (length lines.new < length lines.old) }
+    ensures value { Gives (λ _. (plain_set set.new, lines.new)) result (program_at (plain_set set.old) lines.old) }
+    ensures shrinks { OnOk result (length lines.new < length lines.old) }
+    ensures count { OnOk result (length set.new.programs ≡ length set.old.programs + 1) }
+    ensures few { OnOk result (length set.new.programs ≤ MAX_PROGRAMS) }
 {
-    let words = words_of(alloc, lines.next()?)?;
+    let words = lines.next_words(alloc)?;
     let (name, names) = read_program_line(alloc, &words, set)?;
     let mut program = Program {
         parameters: names.len(),
@@ -125,90 +239,141 @@ fn read_program(alloc: Global, lines: &mut Lines, set: &mut ChainSet) -> Result<
         hops: Items::new(alloc),
     };
     read_hop(alloc, lines, set, &mut program)?;
-    while lines.begins_with(b"hop".as_slice()) {
-        read_hop(alloc, lines, set, &mut program)?;
-    }
-    let words = words_of(alloc, lines.next()?)?;
+    read_hops(alloc, lines, set, &mut program)?;
+    let words = lines.next_words(alloc)?;
     read_end(&words)?;
     set.add_program(name, program)?;
     Ok(())
 }
 
 /// `program NAME PARAMETER..`
+#[tactic(auto, using(crate::proofs::Shapes::program_line_other), unfolding(crate::specs::Parts::program_line))]
 fn read_program_line(
     alloc: Global,
     words: &[&[u8]],
     set: &ChainSet,
 ) -> Result<(Name, Items<Name>), FaultKind>
-    ensures { IfOk result (λ line. length line.1 ≤ MAX_PARAMETERS) }
+    ensures value { Gives (λ head. head) result (program_line (map (λ named. named.0) set.now.programs) (texts words.now)) }
+    ensures few { IfOk result (λ head. length head.1 ≤ MAX_PARAMETERS) }
+    ensures new { IfOk result (λ head. place_of (map (λ named. named.0) set.now.programs) head.0 ≡ None) }
+    ensures room { OnOk result (length set.now.programs < MAX_PROGRAMS) }
 {
-    let [b"program", name, parameters @ ..] = words else {
+    let (word, name, parameters) = two_and_more(words)?;
+    if word != b"program".as_slice() {
         return Err(FaultKind::BadLine);
-    };
+    }
     if set.programs().len() >= usize::from(MAX_PROGRAMS) || parameters.len() > MAX_PARAMETERS {
         return Err(FaultKind::LimitPassed);
     }
     let name = name_of(name)?;
-    if set.programs().contains_key(&name) {
+    if set.place_of_program(&name).is_some() {
         return Err(FaultKind::Repeated);
     }
-    Ok((name, read_parameters(alloc, parameters)?))
+    let names = read_parameters(alloc, parameters)?;
+    Ok((name, names))
 }
 
 /// The names of parameters, which are distinct.
 fn read_parameters(alloc: Global, words: &[&[u8]]) -> Result<Items<Name>, FaultKind>
-    ensures { IfOk result (λ names. length names ≡ length words.now) }
+    ensures value { Gives (λ names. names) result (parameters_of [] (texts words.now)) }
+    ensures count { IfOk result (λ names. length names ≡ length words.now) }
 {
     let mut names = Items::new(alloc);
     for word in words {
-        let name = name_of(word)?;
-        if place_of(names.as_slice(), &name).is_some() {
-            return Err(FaultKind::Repeated);
-        }
+        let name = new_name(names.as_slice(), word)?;
         names.push(name)?;
     }
     Ok(names)
 }
 
+/// The hops that are left of a program.
+fn read_hops(
+    alloc: Global,
+    lines: &mut Lines,
+    set: &ChainSet,
+    program: &mut Program,
+) -> Result<(), FaultKind>
+    ensures value { Gives (λ _. (plain_program program.new, lines.new)) result
+        (parts goes_hop (hop_at (plain_set set.now)) (MAX_HOPS - length (plain_program program.old).hops) (plain_program program.old) lines.old) }
+    ensures shrinks { OnOk result (length lines.new ≤ length lines.old) }
+{
+    'hops: while lines.begins_with(b"hop".as_slice()) {
+        read_hop(alloc, lines, set, program)?;
+    }
+    Ok(())
+}
+
 /// A hop's line and those of its actions.
+#[tactic(auto, using(crate::proofs::Sets::hops_plain), unfolding(crate::specs::Parts::hop_at))]
 fn read_hop(
     alloc: Global,
     lines: &mut Lines,
     set: &ChainSet,
     program: &mut Program,
 ) -> Result<(), FaultKind>
-    ensures { OnOk result (length lines.new < length lines.old) }
+    ensures value { Gives (λ _. (plain_program program.new, lines.new)) result (hop_at (plain_set set.now) (plain_program program.old) lines.old) }
+    ensures shrinks { OnOk result (length lines.new < length lines.old) }
+    ensures count { OnOk result (length program.new.hops ≡ length program.old.hops + 1) }
+    ensures few { OnOk result (length program.new.hops ≤ MAX_HOPS) }
 {
-    let words = words_of(alloc, lines.next()?)?;
-    let server = read_hop_line(&words, set, program)?;
+    let words = lines.next_words(alloc)?;
+    let server = read_hop_line(&words, set.servers(), program.hops.len())?;
     let mut actions = Items::new(alloc);
     add_action(alloc, lines, set, program, server, &mut actions)?;
-    while !lines.begins_with(b"hop".as_slice()) && !lines.begins_with(b"end".as_slice()) {
-        add_action(alloc, lines, set, program, server, &mut actions)?;
-    }
+    read_actions(alloc, lines, set, program, server, &mut actions)?;
     program.hops.push(Hop { server, actions })?;
     Ok(())
 }
 
-/// `hop SERVER`
-fn read_hop_line(words: &[&[u8]], set: &ChainSet, program: &Program) -> Result<ServerId, FaultKind>
-    ensures { OnOk result (length program.now.hops < MAX_HOPS) }
+/// The actions that are left of a hop.
+fn read_actions(
+    alloc: Global,
+    lines: &mut Lines,
+    set: &ChainSet,
+    program: &mut Program,
+    server: ServerId,
+    actions: &mut Items<Action>,
+) -> Result<(), FaultKind>
+    requires { length actions.old ≤ MAX_ACTIONS }
+    ensures value { Gives (λ _. ((plain_program program.new, actions.new), lines.new)) result
+        (parts goes_action (action_at (plain_set set.now) server) (MAX_ACTIONS - length actions.old) (plain_program program.old, actions.old) lines.old) }
+    ensures shrinks { OnOk result (length lines.new ≤ length lines.old) }
+    ensures few { OnOk result (length actions.new ≤ MAX_ACTIONS) }
+    ensures hops { program.new.hops ≡ program.old.hops }
 {
-    let [b"hop", server] = words else {
-        return Err(FaultKind::BadLine);
-    };
-    if program.hops.len() >= MAX_HOPS {
+    'actions: while is_action_next(lines) {
+        add_action(alloc, lines, set, program, server, actions)?;
+    }
+    Ok(())
+}
+
+/// Whether the next line is neither a hop's nor the program's end.
+fn is_action_next(lines: &Lines) -> bool
+    ensures { result ≡ goes_action lines.now }
+{
+    !lines.begins_with(b"hop".as_slice()) && !lines.begins_with(b"end".as_slice())
+}
+
+/// `hop SERVER`
+#[tactic(auto, unfolding(crate::specs::Parts::hop_line))]
+fn read_hop_line(words: &[&[u8]], servers: u8, hops: usize) -> Result<ServerId, FaultKind>
+    requires { servers ≤ MAX_SERVERS }
+    ensures value { Gives (λ server. server) result (hop_line servers hops (texts words.now)) }
+    ensures room { OnOk result (hops < MAX_HOPS) }
+{
+    let word = one_after(b"hop".as_slice(), words)?;
+    if hops >= MAX_HOPS {
         return Err(FaultKind::LimitPassed);
     }
-    let server = number_of(server)?;
-    if server >= u64::from(set.servers()) {
+    let server = number_of(word)?;
+    if server >= u64::from(servers) {
         return Err(FaultKind::Unknown);
     }
-    let server = u8::try_from(server).ok().ok_or(FaultKind::Unknown)?;
-    ServerId::new(server).ok_or(FaultKind::Unknown)
+    Ok(ServerId::new(server as u8).unwrap())
 }
 
 /// Reads the line of a hop's next action, and adds the action and the name that it binds.
+#[tactic(auto, using(crate::proofs::Sets::hops_plain), unfolding(crate::specs::Parts::action_at))]
 fn add_action(
     alloc: Global,
     lines: &mut Lines,
@@ -217,31 +382,46 @@ fn add_action(
     server: ServerId,
     actions: &mut Items<Action>,
 ) -> Result<(), FaultKind>
+    ensures value { Gives (λ _. ((plain_program program.new, actions.new), lines.new)) result
+        (action_at (plain_set set.now) server (plain_program program.old, actions.old) lines.old) }
     ensures shrinks { OnOk result (length lines.new < length lines.old) }
+    ensures count { OnOk result (length actions.new ≡ length actions.old + 1) }
     ensures few { OnOk result (length actions.new ≤ MAX_ACTIONS) }
     ensures hops { program.new.hops ≡ program.old.hops }
 {
-    let words = words_of(alloc, lines.next()?)?;
+    let words = lines.next_words(alloc)?;
     let scope = Scope {
         set,
         parameters: program.parameters,
         names: program.names.as_slice(),
-        is_first: program.hops.is_empty(),
+        is_first: program.hops.len() == 0,
         server,
         actions: actions.len(),
     };
     let line = read_action(&words, &scope)?;
-    if let Some(name) = line.binds {
-        program.names.push(name)?;
-    }
+    add_name(program, line.binds)?;
     actions.push(line.action)?;
     Ok(())
 }
 
+/// Adds the name that a line binds, if it binds one.
+fn add_name(program: &mut Program, name: Option<Name>) -> Result<(), FaultKind>
+    ensures value { Gives (λ _. plain_program program.new) result (Some (with_name (plain_program program.old) name)) }
+    ensures hops { program.new.hops ≡ program.old.hops }
+{
+    if let Some(name) = name {
+        program.names.push(name)?;
+    }
+    Ok(())
+}
+
 /// `end`
-fn read_end(words: &[&[u8]]) -> Result<(), FaultKind> {
-    match words {
-        [b"end"] => Ok(()),
-        _ => Err(FaultKind::BadLine),
+fn read_end(words: &[&[u8]]) -> Result<(), FaultKind>
+    ensures { Gives (λ x. x) result (end_line (texts words.now)) }
+{
+    if words.len() == 1 && words[0] == b"end".as_slice() {
+        Ok(())
+    } else {
+        Err(FaultKind::BadLine)
     }
 }

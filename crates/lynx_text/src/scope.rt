@@ -1,7 +1,10 @@
 //! What the lines of a hop can name.
 
-ghost use Rattle.std.specs.Prelude.{◌<◌, OnOk};
+ghost use Rattle.std.specs.Prelude.{◌<◌, ◌≡◌, true, false, nat_lt, IfOk, OnOk};
 ghost use Rattle.lynx_names.specs.declared.limits.TheConstants.{MAX_ACTIONS};
+ghost use Rattle.lynx_text.specs.Digits.{read_number};
+ghost use Rattle.lynx_text.specs.Gives.{Gives};
+ghost use Rattle.lynx_text.specs.Reading.{place_of, place_below, only_if, name_of, new_name, known_name, table_of, begins_with_digit, key_of, operand_of, is_home};
 
 use crate::action::{Key, Operand};
 use crate::fault::FaultKind;
@@ -31,7 +34,8 @@ pub(crate) struct Scope<'a> {
 impl Scope<'_> {
     /// Whether the hop may have one more action.
     pub fn has_room(&self) -> Result<(), FaultKind>
-        ensures { OnOk result (self.now.actions < MAX_ACTIONS) }
+        ensures value { Gives (λ x. x) result (only_if (nat_lt self.now.actions MAX_ACTIONS) tt) }
+        ensures room { OnOk result (self.now.actions < MAX_ACTIONS) }
     {
         if self.actions < MAX_ACTIONS {
             Ok(())
@@ -41,22 +45,24 @@ impl Scope<'_> {
     }
 
     /// A name that the program hasn't yet.
-    pub fn new_name(&self, word: &[u8]) -> Result<Name, FaultKind> {
-        let name = name_of(word)?;
-        match place_of(self.names, &name) {
-            Some(_) => Err(FaultKind::Repeated),
-            None => Ok(name),
-        }
+    pub fn new_name(&self, word: &[u8]) -> Result<Name, FaultKind>
+        ensures { Gives (λ name. name) result (new_name self.now.names.now word.now) }
+    {
+        new_name(self.names, word)
     }
 
     /// The table of that name.
-    pub fn table(&self, word: &[u8]) -> Result<TableId, FaultKind> {
+    pub fn table(&self, word: &[u8]) -> Result<TableId, FaultKind>
+        ensures { Gives (λ table. table) result (table_of self.now.set.now.tables word.now) }
+    {
         let name = name_of(word)?;
         self.set.find_table(&name).ok_or(FaultKind::Unknown)
     }
 
     /// A number, or a parameter.
-    pub fn key(&self, word: &[u8]) -> Result<Key, FaultKind> {
+    pub fn key(&self, word: &[u8]) -> Result<Key, FaultKind>
+        ensures { Gives (λ key. key) result (key_of self.now.names.now self.now.parameters word.now) }
+    {
         if begins_with_digit(word) {
             return Ok(Key::Literal(number_of(word)?));
         }
@@ -69,7 +75,9 @@ impl Scope<'_> {
     }
 
     /// A number, or a name of the program.
-    pub fn operand(&self, word: &[u8]) -> Result<Operand, FaultKind> {
+    pub fn operand(&self, word: &[u8]) -> Result<Operand, FaultKind>
+        ensures { Gives (λ value. value) result (operand_of self.now.names.now word.now) }
+    {
         if begins_with_digit(word) {
             return Ok(Operand::Number(number_of(word)?));
         }
@@ -77,38 +85,73 @@ impl Scope<'_> {
     }
 
     /// A literal key is at the hop's server.
-    pub fn is_home(&self, table: TableId, key: Key) -> Result<(), FaultKind> {
+    pub fn is_home(&self, table: TableId, key: Key) -> Result<(), FaultKind>
+        ensures { Gives (λ x. x) result (only_if (is_home self.now.set.now.shards self.now.server table key) tt) }
+    {
         match key {
-            Key::Literal(key) if self.set.shards().server_of(table, key) != self.server => {
-                Err(FaultKind::LiteralElsewhere)
+            Key::Literal(key) => {
+                if self.set.shards().server_of(table, key) == self.server {
+                    Ok(())
+                } else {
+                    Err(FaultKind::LiteralElsewhere)
+                }
             }
-            _ => Ok(()),
+            Key::Param(_) => Ok(()),
         }
     }
 
-    fn known_name(&self, word: &[u8]) -> Result<u8, FaultKind> {
+    fn known_name(&self, word: &[u8]) -> Result<u8, FaultKind>
+        ensures { Gives (λ place. place) result (known_name self.now.names.now word.now) }
+    {
         let name = name_of(word)?;
         place_of(self.names, &name).ok_or(FaultKind::Unknown)
     }
 }
 
+/// A name that isn't among these.
+pub(crate) fn new_name(names: &[Name], word: &[u8]) -> Result<Name, FaultKind>
+    ensures { Gives (λ name. name) result (new_name names.now word.now) }
+{
+    let name = name_of(word)?;
+    match position_of(names, &name) {
+        Some(_) => Err(FaultKind::Repeated),
+        None => Ok(name),
+    }
+}
+
 /// The name that the word spells.
-pub(crate) fn name_of(word: &[u8]) -> Result<Name, FaultKind> {
+pub(crate) fn name_of(word: &[u8]) -> Result<Name, FaultKind>
+    ensures { Gives (λ name. name) result (name_of word.now) }
+{
     Name::new(word).ok_or(FaultKind::BadName)
 }
 
 /// The number that the word spells.
-pub(crate) fn number_of(word: &[u8]) -> Result<u64, FaultKind> {
+pub(crate) fn number_of(word: &[u8]) -> Result<u64, FaultKind>
+    ensures { Gives (λ number. number) result (read_number word.now) }
+{
     number(word).ok_or(FaultKind::BadNumber)
 }
 
 /// The place of a name among the first 256.
-pub(crate) fn place_of(names: &[Name], name: &Name) -> Option<u8> {
-    let place = names.iter().position(|known| known == name)?;
-    u8::try_from(place).ok()
+fn place_of(names: &[Name], name: &Name) -> Option<u8>
+    ensures { result ≡ place_below 256 names.now name.now }
+{
+    let place = position_of(names, name)?;
+    if place < 256 { Some(place as u8) } else { None }
 }
 
-fn begins_with_digit(word: &[u8]) -> bool {
+fn position_of(names: &[Name], name: &Name) -> Option<usize>
+    ensures { result ≡ place_of names.now name.now }
+{
+    names
+        .iter()
+        .position(|known| known.as_bytes() == name.as_bytes())
+}
+
+fn begins_with_digit(word: &[u8]) -> bool
+    ensures { result ≡ begins_with_digit word.now }
+{
     match word {
         [first, ..] => first.is_ascii_digit(),
         [] => false,

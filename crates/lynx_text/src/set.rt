@@ -1,10 +1,13 @@
-ghost use Rattle.std.specs.Prelude.{◌≡◌, ◌≤◌, [], length, slice_get, option_copied, option_map, IfOk};
+ghost use Rattle.std.specs.Prelude.{◌≡◌, ◌≤◌, ◌++◌, ◌∷◌, [], None, OnOk, length, slice_get, option_copied, option_map, map, IfOk};
 ghost use Rattle.lynx_names.specs.declared.limits.TheConstants.{MAX_SERVERS};
 ghost use Rattle.lynx_shards.specs.Ranges.{Covers};
+ghost use Rattle.lynx_text.specs.Plain.{plain_set, plain_program};
+ghost use Rattle.lynx_text.specs.Reading.{place_of, place_below};
 
 use crate::name::Name;
 use crate::program::Program;
 use indexmap::{IndexMap, IndexSet};
+use lynx_names::limits::{MAX_PROGRAMS, MAX_TABLES};
 use lynx_names::{Memory, ProgramId, TableId, TryCopy};
 use lynx_shards::{ShardMap, TableShards};
 use std::alloc::Global;
@@ -89,27 +92,65 @@ impl ChainSet {
     }
 
     /// The table of that name.
-    pub fn find_table(&self, name: &Name) -> Option<TableId> {
-        let place = self.tables.get_index_of(name)?;
-        TableId::new(u8::try_from(place).ok()?)
+    pub fn find_table(&self, name: &Name) -> Option<TableId>
+        ensures { result ≡ place_below 64 self.now.tables name.now }
+    {
+        let place = self.place_of_table(name)?;
+        if place < usize::from(MAX_TABLES) {
+            TableId::new(place as u8)
+        } else {
+            None
+        }
     }
 
     /// The program of that name.
-    pub fn find_program(&self, name: &Name) -> Option<ProgramId> {
-        let place = self.programs.get_index_of(name)?;
-        ProgramId::new(u8::try_from(place).ok()?)
+    pub fn find_program(&self, name: &Name) -> Option<ProgramId>
+        ensures { result ≡ place_below 64 (map (λ named. named.0) self.now.programs) name.now }
+    {
+        let place = self.place_of_program(name)?;
+        if place < usize::from(MAX_PROGRAMS) {
+            ProgramId::new(place as u8)
+        } else {
+            None
+        }
+    }
+
+    /// The place of the table of that name.
+    pub(crate) fn place_of_table(&self, name: &Name) -> Option<usize>
+        ensures { result ≡ place_of self.now.tables name.now }
+    {
+        self.tables.get_index_of(name)
+    }
+
+    /// The place of the program of that name.
+    pub(crate) fn place_of_program(&self, name: &Name) -> Option<usize>
+        ensures { result ≡ place_of (map (λ named. named.0) self.now.programs) name.now }
+    {
+        self.programs.get_index_of(name)
     }
 
     /// Adds a table of this name, which is new. An error leaves a set that is not to be used.
     pub(crate) fn add_table(&mut self, name: Name, shards: TableShards) -> Result<(), Memory>
-        requires { Covers shards }
+        requires whole { Covers shards }
+        requires new { place_of self.old.tables name ≡ None }
+        ensures { OnOk result (self.new ≡ record self.old {
+          tables = self.old.tables ++ name ∷ [];
+          shards = self.old.shards ++ shards ∷ [];
+        }) }
     {
         self.tables.insert(name)?;
-        self.shards.add_table(shards)
+        self.shards.add_table(shards)?;
+        Ok(())
     }
 
     /// Adds a program of this name, which is new.
-    pub(crate) fn add_program(&mut self, name: Name, program: Program) -> Result<(), Memory> {
+    pub(crate) fn add_program(&mut self, name: Name, program: Program) -> Result<(), Memory>
+        requires { place_of (map (λ named. named.0) self.old.programs) name ≡ None }
+        ensures ok { OnOk result (self.new ≡ record self.old { programs = self.old.programs ++ (name, program) ∷ [] }) }
+        ensures plain { OnOk result (plain_set self.new ≡ record (plain_set self.old) {
+          programs = (plain_set self.old).programs ++ (name, plain_program program) ∷ [];
+        }) }
+    {
         self.programs.insert(name, program)?;
         Ok(())
     }

@@ -1,7 +1,6 @@
-use Rattle.std.proofs.Common.{◌≡◌, ◌^◌, ◌∙◌, sym, ap, ltb, rules, true, false}
+use Rattle.std.proofs.Common.{◌^◌, ◌∙◌, sym, ap, ltb, rules}
 use Rattle.std.proofs.lemmas.Bool.{ltb-true, ltb-false}
 use Rattle.std.proofs.lemmas.List.Sorted.{IsPartitionPoint-from_clause, IsPartitionedBy-ltb}
-use Rattle.lynx_shards.specs.Shards.{server_in}
 use Rattle.lynx_shards.proofs.Search.{Parts, ends_rise, server_in-found, server_in-none}
 use Rattle.lynx_shards.proofs.map.server_in.Goals as goal
 use Rattle.lynx_shards.proofs.map.server_in.Goals.{After-partition_point-place}

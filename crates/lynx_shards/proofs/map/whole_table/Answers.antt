@@ -1,4 +1,4 @@
-use Rattle.std.proofs.Common.{◌≡◌, ◌+◌, None, refl, subst, get_or, drop, sym, ◌∙◌, ap, rules, arith}
+use Rattle.std.proofs.Common.{◌+◌, None, refl, subst, get_or, drop, sym, ◌∙◌, ap, arith}
 use Rattle.std.proofs.lemmas.Grind.{common_steps}
 use Rattle.std.proofs.lemmas.List.{at_drop_all}
 use Rattle.lynx_shards.specs.Ranges.{shard_of, last_key, table_fault, Covers}
@@ -20,4 +20,4 @@ pub returns-clause-judged : goal.returns-clause-judged
 returns-clause-judged c =
     sym c.loop-range.invariant.rest
     ∙ at_drop_all (table_fault c.args.servers (last_key None c.loop-range.table)) c.args.ranges.now c.loop-range.range-index c.loop-range-test.false
-    ∙ rw (← c.table-2.view_is) (no_gap_if_whole c.args.servers c.table-2.inside.last c.table-2.inside.shards c.table-2.invariant.0 c.table-2.invariant.1 (subst Covers (sym c.table-2.view_is) (c.if-not-is_whole.ensures.0 refl)))
+    ∙ rw (← c.table-2.view_is) (no_gap_if_whole c.args.servers c.table-2.inside.last c.table-2.inside.shards c.table-2.invariant.0 c.table-2.invariant.1 (subst Covers (sym c.table-2.view_is) (c.if-not-is_whole.ensures.covers.0 refl)))

@@ -1,4 +1,4 @@
-use Rattle.std.proofs.Common.{◌≡◌, ◌∙◌, ap, subst, sym, take}
+use Rattle.std.proofs.Common.{◌∙◌, ap, subst, sym, take}
 use Rattle.indexmap.specs.IndexSet.{insert_key}
 use Rattle.std.specs.List.{IsDistinct}
 use Rattle.lynx_text.proofs.Same.{same_name, insert_key-next}

@@ -1,4 +1,4 @@
-use Rattle.std.proofs.Common.{◌≡◌, ◌∙◌, subst, sym}
+use Rattle.std.proofs.Common.{◌∙◌, subst, sym}
 use Rattle.std.proofs.lemmas.Bool.{ltb-true}
 use Rattle.lynx_shards.specs.Ranges.{Covers, EachCovers}
 use Rattle.lynx_shards.proofs.Search.{EachCovers-at}

@@ -1,0 +1,170 @@
+-- Lines of actions: what is spelled so is read.
+use Rattle.std.proofs.Common.{◌≡◌, ℕ, ◌<◌, ◌≤◌, true, ltb, List, [], ◌∷◌, ◌++◌, length, Option, Some, None, refl, ap, ◌∙◌, arith}
+use Rattle.std.specs.Prelude.{option_map, codes}
+use Rattle.std.specs.List.{list_all}
+use Rattle.std.proofs.lemmas.Bool.{lt-ltb}
+use Rattle.lynx_text.specs.declared.action.Action.{Action}
+use Rattle.lynx_text.specs.declared.action.Action.TheVariants.{Get, Set, Add, Sub, Let, Need}
+use Rattle.lynx_text.specs.declared.action.Key.{Key}
+use Rattle.lynx_text.specs.declared.action.Operand.{Operand}
+use Rattle.lynx_text.specs.declared.action.Operator.{Operator}
+use Rattle.lynx_text.specs.declared.action.Operator.TheVariants.{Plus, Minus}
+use Rattle.lynx_text.specs.declared.action.Relation.{Relation}
+use Rattle.lynx_text.specs.declared.action.Relation.TheVariants.{Below, AtMost, Same, Differs, AtLeast, Above}
+use Rattle.lynx_text.specs.declared.action_line.ActionLine.{ActionLine}
+use Rattle.lynx_text.specs.Lines.{◌>>=◌, is_word, AreWords}
+use Rattle.lynx_text.specs.Reading.{Place, only_if, new_name, table_of, key_of, operand_of, is_home, room, home, binding, plain, changing, operator_of, relation_of, get_of, change_of, let_of, need_of, action_of}
+use Rattle.lynx_text.specs.Rules.{IsNew, FitsOperand, FitsCell, FitsAction, BindsNew, bound}
+use Rattle.lynx_text.specs.Text.{name_at, key_word, operand_word, operator_word, relation_word, action_words}
+use Rattle.lynx_text.specs.WordLaws.{both_true, name-word}
+use Rattle.lynx_text.proofs.Lookups.{name_at-next}
+use Rattle.lynx_text.proofs.Known.{bind_is, only_if_yes, Known, new_again, table_again, key_again, operand_again}
+
+operator_again : (operator : Operator) → (operator_of (operator_word operator) ≡ Some operator) × (is_word (operator_word operator) ≡ true)
+unfolding operator_of
+operator_again Plus = (refl, refl)
+operator_again Minus = (refl, refl)
+
+relation_again : (relation : Relation) → (relation_of (relation_word relation) ≡ Some relation) × (is_word (relation_word relation) ≡ true)
+unfolding relation_of
+relation_again Below = (refl, refl)
+relation_again AtMost = (refl, refl)
+relation_again Same = (refl, refl)
+relation_again Differs = (refl, refl)
+relation_again AtLeast = (refl, refl)
+relation_again Above = (refl, refl)
+
+-- where the names and tables are known, and there is room
+pub record IsOpen (place : Place) : Type 0 where
+  pub names : Known place.names
+  pub tables : Known place.tables
+  pub few : place.parameters ≤ length place.names
+
+-- the words are read as this line
+pub record IsRead (place : Place) (line : ActionLine) (words : List (List ℕ)) : Type 0 where
+  pub read : action_of place words ≡ Some line
+  pub are : AreWords words
+
+get_again : (place : Place) (name : List ℕ) (table : ℕ) (key : Key) (more : List (List ℕ)) → IsOpen place → place.actions < 16 → FitsCell place table key → IsNew place.names name
+    → IsRead place (binding name (Get table key)) (action_words place.tables (place.names ++ (name ∷ more)) (length place.names) (Get table key))
+unfolding get_of action_of
+get_again place name table key more open_ free cell new =
+    let names : List (List ℕ) = place.names ++ (name ∷ more) in
+    record {
+      read = bind_is (room place) (λ ok. new_name place.names (name_at names (length place.names)) >>= λ n. table_of place.tables (name_at place.tables table) >>= λ t. key_of place.names place.parameters (key_word names key) >>= λ k. home place t k >>= λ at. Some (binding n (Get t k))) tt (Some (binding name (Get table key))) (only_if_yes (ltb place.actions 16) tt (lt-ltb _ _ free))
+          (bind_is (new_name place.names (name_at names (length place.names))) (λ n. table_of place.tables (name_at place.tables table) >>= λ t. key_of place.names place.parameters (key_word names key) >>= λ k. home place t k >>= λ at. Some (binding n (Get t k))) name (Some (binding name (Get table key))) (ap (new_name place.names) (name_at-next place.names name more) ∙ new_again place.names name new)
+          (bind_is (table_of place.tables (name_at place.tables table)) (λ t. key_of place.names place.parameters (key_word names key) >>= λ k. home place t k >>= λ at. Some (binding name (Get t k))) table (Some (binding name (Get table key))) (table_again place.tables table open_.tables cell.table_is cell.numbered)
+          (bind_is (key_of place.names place.parameters (key_word names key)) (λ k. home place table k >>= λ at. Some (binding name (Get table k))) key (Some (binding name (Get table key))) ((key_again place.names (name ∷ more) place.parameters key open_.names open_.few cell.key_is).0)
+          (bind_is (home place table key) (λ at. Some (binding name (Get table key))) tt (Some (binding name (Get table key))) (only_if_yes (is_home place.shards place.server table key) tt cell.at_home)
+          (refl)))));
+      are = (
+        omega arith,
+        both_true (is_word (codes "get")) (list_all is_word (name_at names (length place.names) ∷ name_at place.tables table ∷ key_word names key ∷ [])) (refl)
+            (both_true (is_word (name_at names (length place.names))) (list_all is_word (name_at place.tables table ∷ key_word names key ∷ [])) (ap is_word (name_at-next place.names name more) ∙ name-word name new.named)
+            (both_true (is_word (name_at place.tables table)) (list_all is_word (key_word names key ∷ [])) (name-word (name_at place.tables table) (open_.tables.named table cell.table_is))
+            (both_true (is_word (key_word names key)) (list_all is_word ([])) ((key_again place.names (name ∷ more) place.parameters key open_.names open_.few cell.key_is).1)
+            (refl)))),
+      );
+    }
+
+let_again : (place : Place) (name : List ℕ) (left : Operand) (operator : Operator) (right : Operand) (more : List (List ℕ)) → IsOpen place → place.actions < 16
+    → FitsOperand (length place.names) left × FitsOperand (length place.names) right → IsNew place.names name
+    → IsRead place (binding name (Let left operator right)) (action_words place.tables (place.names ++ (name ∷ more)) (length place.names) (Let left operator right))
+unfolding let_of action_of
+let_again place name left operator right more open_ free fits new =
+    let names : List (List ℕ) = place.names ++ (name ∷ more) in
+    record {
+      read = bind_is (operator_of (operator_word operator)) (λ o. room place >>= λ ok. new_name place.names (name_at names (length place.names)) >>= λ n. operand_of place.names (operand_word names left) >>= λ l. operand_of place.names (operand_word names right) >>= λ r. Some (binding n (Let l o r))) operator (Some (binding name (Let left operator right))) ((operator_again operator).0)
+          (bind_is (room place) (λ ok. new_name place.names (name_at names (length place.names)) >>= λ n. operand_of place.names (operand_word names left) >>= λ l. operand_of place.names (operand_word names right) >>= λ r. Some (binding n (Let l operator r))) tt (Some (binding name (Let left operator right))) (only_if_yes (ltb place.actions 16) tt (lt-ltb _ _ free))
+          (bind_is (new_name place.names (name_at names (length place.names))) (λ n. operand_of place.names (operand_word names left) >>= λ l. operand_of place.names (operand_word names right) >>= λ r. Some (binding n (Let l operator r))) name (Some (binding name (Let left operator right))) (ap (new_name place.names) (name_at-next place.names name more) ∙ new_again place.names name new)
+          (bind_is (operand_of place.names (operand_word names left)) (λ l. operand_of place.names (operand_word names right) >>= λ r. Some (binding name (Let l operator r))) left (Some (binding name (Let left operator right))) ((operand_again place.names (name ∷ more) left open_.names fits.0).0)
+          (bind_is (operand_of place.names (operand_word names right)) (λ r. Some (binding name (Let left operator r))) right (Some (binding name (Let left operator right))) ((operand_again place.names (name ∷ more) right open_.names fits.1).0)
+          (refl)))));
+      are = (
+        omega arith,
+        both_true (is_word (codes "let")) (list_all is_word (name_at names (length place.names) ∷ operand_word names left ∷ operator_word operator ∷ operand_word names right ∷ [])) (refl)
+            (both_true (is_word (name_at names (length place.names))) (list_all is_word (operand_word names left ∷ operator_word operator ∷ operand_word names right ∷ [])) (ap is_word (name_at-next place.names name more) ∙ name-word name new.named)
+            (both_true (is_word (operand_word names left)) (list_all is_word (operator_word operator ∷ operand_word names right ∷ [])) ((operand_again place.names (name ∷ more) left open_.names fits.0).1)
+            (both_true (is_word (operator_word operator)) (list_all is_word (operand_word names right ∷ [])) ((operator_again operator).1)
+            (both_true (is_word (operand_word names right)) (list_all is_word ([])) ((operand_again place.names (name ∷ more) right open_.names fits.1).1)
+            (refl))))),
+      );
+    }
+
+need_again : (place : Place) (left : Operand) (relation : Relation) (right : Operand) (more : List (List ℕ)) → IsOpen place → place.actions < 16
+    → (place.is_first ≡ true) × FitsOperand (length place.names) left × FitsOperand (length place.names) right
+    → IsRead place (plain (Need left relation right)) (action_words place.tables (place.names ++ more) (length place.names) (Need left relation right))
+unfolding need_of action_of
+need_again place left relation right more open_ free fits =
+    let names : List (List ℕ) = place.names ++ more in
+    record {
+      read = bind_is (relation_of (relation_word relation)) (λ o. only_if {X = Unit {0}} place.is_first tt >>= λ first. room place >>= λ ok. operand_of place.names (operand_word names left) >>= λ l. operand_of place.names (operand_word names right) >>= λ r. Some (plain (Need l o r))) relation (Some (plain (Need left relation right))) ((relation_again relation).0)
+          (bind_is (only_if {X = Unit {0}} place.is_first tt) (λ first. room place >>= λ ok. operand_of place.names (operand_word names left) >>= λ l. operand_of place.names (operand_word names right) >>= λ r. Some (plain (Need l relation r))) tt (Some (plain (Need left relation right))) (only_if_yes place.is_first tt fits.0)
+          (bind_is (room place) (λ ok. operand_of place.names (operand_word names left) >>= λ l. operand_of place.names (operand_word names right) >>= λ r. Some (plain (Need l relation r))) tt (Some (plain (Need left relation right))) (only_if_yes (ltb place.actions 16) tt (lt-ltb _ _ free))
+          (bind_is (operand_of place.names (operand_word names left)) (λ l. operand_of place.names (operand_word names right) >>= λ r. Some (plain (Need l relation r))) left (Some (plain (Need left relation right))) ((operand_again place.names more left open_.names fits.1).0)
+          (bind_is (operand_of place.names (operand_word names right)) (λ r. Some (plain (Need left relation r))) right (Some (plain (Need left relation right))) ((operand_again place.names more right open_.names fits.2).0)
+          (refl)))));
+      are = (
+        omega arith,
+        both_true (is_word (codes "need")) (list_all is_word (operand_word names left ∷ relation_word relation ∷ operand_word names right ∷ [])) (refl)
+            (both_true (is_word (operand_word names left)) (list_all is_word (relation_word relation ∷ operand_word names right ∷ [])) ((operand_again place.names more left open_.names fits.1).1)
+            (both_true (is_word (relation_word relation)) (list_all is_word (operand_word names right ∷ [])) ((relation_again relation).1)
+            (both_true (is_word (operand_word names right)) (list_all is_word ([])) ((operand_again place.names more right open_.names fits.2).1)
+            (refl)))),
+      );
+    }
+
+change_again : (place : Place) (table : ℕ) (key : Key) (value : Operand) (more : List (List ℕ)) → IsOpen place → place.actions < 16 → FitsCell place table key → FitsOperand (length place.names) value
+    → (change_of place (name_at place.tables table ∷ key_word (place.names ++ more) key ∷ operand_word (place.names ++ more) value ∷ []) ≡ Some (table, key, value))
+    × (list_all is_word (name_at place.tables table ∷ key_word (place.names ++ more) key ∷ operand_word (place.names ++ more) value ∷ []) ≡ true)
+unfolding change_of
+change_again place table key value more open_ free cell fits =
+    let names : List (List ℕ) = place.names ++ more in (
+      bind_is (room place) (λ ok. table_of place.tables (name_at place.tables table) >>= λ t. key_of place.names place.parameters (key_word names key) >>= λ k. operand_of place.names (operand_word names value) >>= λ v. home place t k >>= λ at. Some (t, k, v)) tt (Some (table, key, value)) (only_if_yes (ltb place.actions 16) tt (lt-ltb _ _ free))
+          (bind_is (table_of place.tables (name_at place.tables table)) (λ t. key_of place.names place.parameters (key_word names key) >>= λ k. operand_of place.names (operand_word names value) >>= λ v. home place t k >>= λ at. Some (t, k, v)) table (Some (table, key, value)) (table_again place.tables table open_.tables cell.table_is cell.numbered)
+          (bind_is (key_of place.names place.parameters (key_word names key)) (λ k. operand_of place.names (operand_word names value) >>= λ v. home place table k >>= λ at. Some (table, k, v)) key (Some (table, key, value)) ((key_again place.names more place.parameters key open_.names open_.few cell.key_is).0)
+          (bind_is (operand_of place.names (operand_word names value)) (λ v. home place table key >>= λ at. Some (table, key, v)) value (Some (table, key, value)) ((operand_again place.names more value open_.names fits).0)
+          (bind_is (home place table key) (λ at. Some (table, key, value)) tt (Some (table, key, value)) (only_if_yes (is_home place.shards place.server table key) tt cell.at_home)
+          (refl))))),
+      both_true (is_word (name_at place.tables table)) (list_all is_word (key_word names key ∷ operand_word names value ∷ [])) (name-word (name_at place.tables table) (open_.tables.named table cell.table_is))
+          (both_true (is_word (key_word names key)) (list_all is_word (operand_word names value ∷ [])) ((key_again place.names more place.parameters key open_.names open_.few cell.key_is).1)
+          (both_true (is_word (operand_word names value)) (list_all is_word ([])) ((operand_again place.names more value open_.names fits).1)
+          (refl))),
+    )
+
+set_again : (place : Place) (table : ℕ) (key : Key) (value : Operand) (more : List (List ℕ)) → IsOpen place → place.actions < 16 → FitsCell place table key → FitsOperand (length place.names) value
+    → IsRead place (plain (Set table key value)) (action_words place.tables (place.names ++ more) (length place.names) (Set table key value))
+unfolding action_of
+set_again place table key value more open_ free cell fits =
+    let change = change_again place table key value more open_ free cell fits in
+    record { read = ap (option_map (changing Set)) change.0; are = (omega arith, change.1) }
+
+add_again : (place : Place) (table : ℕ) (key : Key) (value : Operand) (more : List (List ℕ)) → IsOpen place → place.actions < 16 → FitsCell place table key → FitsOperand (length place.names) value
+    → IsRead place (plain (Add table key value)) (action_words place.tables (place.names ++ more) (length place.names) (Add table key value))
+unfolding action_of
+add_again place table key value more open_ free cell fits =
+    let change = change_again place table key value more open_ free cell fits in
+    record { read = ap (option_map (changing Add)) change.0; are = (omega arith, change.1) }
+
+sub_again : (place : Place) (table : ℕ) (key : Key) (value : Operand) (more : List (List ℕ)) → IsOpen place → place.actions < 16 → FitsCell place table key → FitsOperand (length place.names) value
+    → IsRead place (plain (Sub table key value)) (action_words place.tables (place.names ++ more) (length place.names) (Sub table key value))
+unfolding action_of
+sub_again place table key value more open_ free cell fits =
+    let change = change_again place table key value more open_ free cell fits in
+    record { read = ap (option_map (changing Sub)) change.0; are = (omega arith, change.1) }
+
+-- an action that fits is read again
+pub action_again : (place : Place) (action : Action) (binds : Option (List ℕ)) (more : List (List ℕ)) → IsOpen place → place.actions < 16 → FitsAction place action → BindsNew place action binds
+    → IsRead place (record { action = action; binds = binds }) (action_words place.tables (place.names ++ (bound binds ++ more)) (length place.names) action)
+action_again place (Get table key) None more open_ free fits new = absurd new
+action_again place (Get table key) (Some name) more open_ free fits new = get_again place name table key more open_ free fits new
+action_again place (Set table key value) None more open_ free fits new = set_again place table key value more open_ free fits.0 fits.1
+action_again place (Set table key value) (Some name) more open_ free fits new = absurd new
+action_again place (Add table key value) None more open_ free fits new = add_again place table key value more open_ free fits.0 fits.1
+action_again place (Add table key value) (Some name) more open_ free fits new = absurd new
+action_again place (Sub table key value) None more open_ free fits new = sub_again place table key value more open_ free fits.0 fits.1
+action_again place (Sub table key value) (Some name) more open_ free fits new = absurd new
+action_again place (Let left operator right) None more open_ free fits new = absurd new
+action_again place (Let left operator right) (Some name) more open_ free fits new = let_again place name left operator right more open_ free fits new
+action_again place (Need left relation right) None more open_ free fits new = need_again place left relation right more open_ free fits
+action_again place (Need left relation right) (Some name) more open_ free fits new = absurd new

@@ -1,0 +1,93 @@
+-- The pieces of a text between the bytes at which it is cut.
+use Rattle.std.proofs.Common.{◌≡◌, ℕ, suc, ◌+◌, ◌≤◌, ◌-◌, Bool, true, false, cond, ltb, List, [], ◌∷◌, length, take, drop, Option, Some, None, refl, sym, ap, subst, ◌∙◌, arith}
+use Rattle.std.proofs.Common.{◌≢◌}
+use Rattle.std.specs.Prelude.{position, ◌==◌, codes}
+use Rattle.std.specs.Str.{bytes_eq}
+use Rattle.std.proofs.lemmas.Slice.Eq.{bytes_eq-Decides}
+use Rattle.std.proofs.lemmas.Bool.{false≢true}
+use Rattle.std.specs.List.{slice_split, onto_first, position_or_len}
+use Rattle.std.proofs.lemmas.Bool.{ltb-true, ltb-false}
+use Rattle.std.proofs.lemmas.Bool.Decides.{nat_tests}
+use Rattle.std.proofs.lemmas.List.Splits.{slice_split_first, slice_split_none}
+use Rattle.std.proofs.lemmas.List.Sums.{fails_before_first}
+use Rattle.std.proofs.lemmas.List.{take_all, length-drop}
+use Rattle.lynx_text.specs.Parts.{ends}
+use Rattle.lynx_text.specs.Lines.{is_version, is_feed, next_piece, until, front_to}
+use Rattle.lynx_text.proofs.Numbers.{cond_some}
+
+pub cond_none : {X : Type 0} (b : Bool) (x : X) → cond b (Some x) None ≡ None → b ≡ false
+cond_none true x e = absurd cc
+cond_none false x e = refl
+
+-- at the first place the text is cut
+pub split_found : (p : ℕ → Bool) (text : List ℕ) (i : ℕ) → position p text ≡ Some i → slice_split p text ≡ take i text ∷ slice_split p (drop (i + 1) text)
+split_found p text i is =
+    let found = cond_some (ltb (position_or_len p text) (length text)) (position_or_len p text) i is in
+    subst (λ (k : ℕ). slice_split p text ≡ take k text ∷ slice_split p (drop (k + 1) text)) found.1 (slice_split_first p text 0 (ltb-true _ _ found.0))
+
+-- where there is no place it is one piece
+pub split_none : (p : ℕ → Bool) (text : List ℕ) → position p text ≡ None → slice_split p text ≡ text ∷ []
+split_none p text is =
+    let past : length text ≤ position_or_len p text = ltb-false _ _ (cond_none (ltb (position_or_len p text) (length text)) (position_or_len p text) is) in
+    slice_split_none p text (λ k d lt. fails_before_first p text k d (omega arith))
+
+-- a slice to its end is what is left
+pub slice_to_end : (i : ℕ) (text : List ℕ) → take (length text - i) (drop i text) ≡ drop i text
+slice_to_end i text = take_all (length text - i) (drop i text) (omega (arith, length-drop i text))
+
+-- there is always a piece
+pub has_piece : (p : ℕ → Bool) (text : List ℕ) → (first : List ℕ) × (rest : List (List ℕ)) × (slice_split p text ≡ first ∷ rest)
+has_piece p text = by (position p text) refl
+  where
+    by : (place : Option ℕ) → position p text ≡ place → (first : List ℕ) × (rest : List (List ℕ)) × (slice_split p text ≡ first ∷ rest)
+    by None is = (text, [], split_none p text is)
+    by (Some i) is = (take i text, slice_split p (drop (i + 1) text), split_found p text i is)
+
+-- where there are pieces after the first, that one is the next line
+pub next_piece-more : (line : List ℕ) (text : List ℕ) → next_piece (line ∷ slice_split is_feed text) ≡ Some (line, slice_split is_feed text)
+next_piece-more line text =
+    let h = has_piece is_feed text in
+    ap (λ ls. next_piece (line ∷ ls)) h.2 ∙ ap (λ ls. Some (line, ls)) (sym h.2)
+
+-- where no line feed stands there is no next line
+pub next_piece-last : (pieces : List (List ℕ)) (line : List ℕ) → pieces ≡ line ∷ [] → next_piece pieces ≡ None
+next_piece-last pieces line is = ap next_piece is
+
+-- the first piece is the text up to the first such byte
+pub first_piece : (end : ℕ) (text : List ℕ) → (rest : List (List ℕ)) × (slice_split (λ byte. byte == end) text ≡ until text end ∷ rest)
+first_piece end text =
+    let h = by (position (λ byte. byte == end) text) refl in
+    (h.0, h.1)
+  where
+    by : (place : Option ℕ) → position (λ byte. byte == end) text ≡ place → (rest : List (List ℕ)) × (slice_split (λ byte. byte == end) text ≡ front_to place text ∷ rest)
+    by None is = ([], split_none (λ byte. byte == end) text is)
+    by (Some i) is = (slice_split (λ byte. byte == end) (drop (i + 1) text), split_found (λ byte. byte == end) text i is)
+
+suc-not_zero : (n : ℕ) → (suc n == 0) ≡ false
+suc-not_zero n = grind (arith, nat_tests)
+
+-- no line is left where the text is empty
+pub ends_is : (text : List ℕ) → ends (slice_split is_feed text) ≡ (length text == 0)
+ends_is [] = refl
+ends_is (byte ∷ bytes) =
+    let h = has_piece is_feed bytes in
+    by (is_feed byte) (slice_split is_feed bytes) h.0 h.1 h.2 ∙ sym (suc-not_zero (length bytes))
+  where
+    by : (test : Bool) (pieces : List (List ℕ)) (first : List ℕ) (rest : List (List ℕ)) → pieces ≡ first ∷ rest → ends (cond test ([] ∷ pieces) (onto_first byte pieces)) ≡ false
+    by true pieces first rest is = ap (λ p. ends ([] ∷ p)) is
+    by false pieces first rest is = ap (λ p. ends (onto_first byte p)) is
+
+-- the first line is the version's where the text up to its first line feed is
+pub is_version-text : (text : List ℕ) → is_version (slice_split is_feed text) ≡ bytes_eq (until text 10) (codes "lynx 1")
+is_version-text text = let h = first_piece 10 text in ap is_version h.1
+
+pub version_is : (text : List ℕ) → (is_version (slice_split is_feed text) ≡ false → until text 10 ≢ codes "lynx 1") × (until text 10 ≢ codes "lynx 1" → is_version (slice_split is_feed text) ≡ false)
+version_is text =
+    let same = bytes_eq-Decides (until text 10) (codes "lynx 1") in (
+      λ other is. absurd (false≢true (sym other ∙ is_version-text text ∙ same.1 is)),
+      λ differs. is_version-text text ∙ not_true (bytes_eq (until text 10) (codes "lynx 1")) (λ e. differs (same.0 e)),
+    )
+  where
+    not_true : (b : Bool) → (b ≡ true → ⊥) → b ≡ false
+    not_true true h = absurd (h refl)
+    not_true false h = refl

@@ -1,0 +1,80 @@
+-- Lines with a wrong count of words aren't read.
+use Rattle.std.proofs.Common.{◌≡◌, ◌≢◌, ℕ, List, [], ◌∷◌, None, length, refl, arith}
+use Rattle.std.specs.Borrow.{Bor}
+use Rattle.lynx_text.specs.Lines.{texts}
+use Rattle.std.proofs.Common.{◌<◌, get_or}
+use Rattle.std.specs.Prelude.{codes}
+use Rattle.std.specs.Str.{bytes_eq}
+use Rattle.lynx_text.specs.Reading.{Place, only_if, get_of, change_of, let_of, need_of}
+use Rattle.lynx_text.specs.Parts.{shard_line, program_line, one_after, end_line}
+
+pub get_of_other : (place : Place) (words : List (Bor (List ℕ))) → length words ≢ 3 → get_of place (texts words) ≡ None
+unfolding get_of
+get_of_other place [] h = refl
+get_of_other place (a ∷ []) h = refl
+get_of_other place (a ∷ b ∷ []) h = refl
+get_of_other place (a ∷ b ∷ c ∷ []) h = absurd (h (omega arith))
+get_of_other place (a ∷ b ∷ c ∷ d ∷ words) h = refl
+
+pub change_of_other : (place : Place) (words : List (Bor (List ℕ))) → length words ≢ 3 → change_of place (texts words) ≡ None
+unfolding change_of
+change_of_other place [] h = refl
+change_of_other place (a ∷ []) h = refl
+change_of_other place (a ∷ b ∷ []) h = refl
+change_of_other place (a ∷ b ∷ c ∷ []) h = absurd (h (omega arith))
+change_of_other place (a ∷ b ∷ c ∷ d ∷ words) h = refl
+
+pub let_of_other : (place : Place) (words : List (Bor (List ℕ))) → length words ≢ 4 → let_of place (texts words) ≡ None
+unfolding let_of
+let_of_other place [] h = refl
+let_of_other place (a ∷ []) h = refl
+let_of_other place (a ∷ b ∷ []) h = refl
+let_of_other place (a ∷ b ∷ c ∷ []) h = refl
+let_of_other place (a ∷ b ∷ c ∷ d ∷ []) h = absurd (h (omega arith))
+let_of_other place (a ∷ b ∷ c ∷ d ∷ e ∷ words) h = refl
+
+pub need_of_other : (place : Place) (words : List (Bor (List ℕ))) → length words ≢ 3 → need_of place (texts words) ≡ None
+unfolding need_of
+need_of_other place [] h = refl
+need_of_other place (a ∷ []) h = refl
+need_of_other place (a ∷ b ∷ []) h = refl
+need_of_other place (a ∷ b ∷ c ∷ []) h = absurd (h (omega arith))
+need_of_other place (a ∷ b ∷ c ∷ d ∷ words) h = refl
+
+pub shard_line_other : (count : ℕ) (words : List (Bor (List ℕ))) → length words ≢ 4 → shard_line count (texts words) ≡ None
+unfolding shard_line
+shard_line_other count [] h = refl
+shard_line_other count (a ∷ []) h = refl
+shard_line_other count (a ∷ b ∷ []) h = refl
+shard_line_other count (a ∷ b ∷ c ∷ []) h = refl
+shard_line_other count (a ∷ b ∷ c ∷ d ∷ []) h = absurd (h (omega arith))
+shard_line_other count (a ∷ b ∷ c ∷ d ∷ e ∷ words) h = refl
+
+pub program_line_other : (programs : List (List ℕ)) (words : List (Bor (List ℕ))) → length words < 2 → program_line programs (texts words) ≡ None
+unfolding program_line
+program_line_other programs [] h = refl
+program_line_other programs (a ∷ []) h = refl
+program_line_other programs (a ∷ b ∷ words) h = absurd (omega arith)
+
+-- what two words are
+pub one_after_two : (first : List ℕ) (words : List (Bor (List ℕ))) (d : Bor (List ℕ)) → length words ≡ 2 → one_after first (texts words) ≡ only_if (bytes_eq (get_or words 0 d).now first) (get_or words 1 d).now
+one_after_two first [] d h = absurd (omega arith)
+one_after_two first (a ∷ []) d h = absurd (omega arith)
+one_after_two first (a ∷ b ∷ []) d h = refl
+one_after_two first (a ∷ b ∷ c ∷ words) d h = absurd (omega arith)
+
+pub one_after_other : (first : List ℕ) (words : List (Bor (List ℕ))) → length words ≢ 2 → one_after first (texts words) ≡ None
+one_after_other first [] h = refl
+one_after_other first (a ∷ []) h = refl
+one_after_other first (a ∷ b ∷ []) h = absurd (h (omega arith))
+one_after_other first (a ∷ b ∷ c ∷ words) h = refl
+
+pub end_line_one : (words : List (Bor (List ℕ))) (d : Bor (List ℕ)) → length words ≡ 1 → end_line (texts words) ≡ only_if (bytes_eq (get_or words 0 d).now (codes "end")) tt
+end_line_one [] d h = absurd (omega arith)
+end_line_one (a ∷ []) d h = refl
+end_line_one (a ∷ b ∷ words) d h = absurd (omega arith)
+
+pub end_line_other : (words : List (Bor (List ℕ))) → length words ≢ 1 → end_line (texts words) ≡ None
+end_line_other [] h = refl
+end_line_other (a ∷ []) h = absurd (h (omega arith))
+end_line_other (a ∷ b ∷ words) h = refl

@@ -1,0 +1,179 @@
+-- Reading the parts of a set, line after line; none where a line has a fault.
+use Rattle.std.specs.Prelude.{ℕ, zero, suc, ◌-◌, ◌^◌, Bool, true, false, not, ◌&&◌, List, [], ◌∷◌, ◌++◌, Option, Some, None, length, map, is_none, nat_lt, nat_le, ◌==◌, if◌then◌else◌, codes}
+use Rattle.std.specs.Str.{bytes_eq}
+use Rattle.lynx_shards.specs.declared.range.Range.{Range}
+use Rattle.lynx_shards.specs.declared.shard.Shard.{Shard}
+use Rattle.lynx_shards.specs.Ranges.{range_fault, last_key, next_key, shard_of}
+use Rattle.lynx_text.specs.declared.action.Action.{Action}
+use Rattle.lynx_text.specs.Digits.{read_number}
+use Rattle.lynx_text.specs.Lines.{◌>>=◌, next_piece, words_at, begins, is_version, is_feed}
+use Rattle.std.specs.List.{slice_split}
+use Rattle.lynx_text.specs.Plain.{PlainProgram, PlainSet}
+use Rattle.lynx_text.specs.Reading.{Place, only_if, place_of, name_of, new_name, action_of}
+
+-- the word after this first one, where there are two
+abbrev pub one_after : List ℕ → List (List ℕ) → Option (List ℕ)
+one_after first (word ∷ other ∷ []) = only_if (bytes_eq word first) other
+one_after first words = None
+
+-- servers N
+unfoldable pub servers_of : List (List ℕ) → Option ℕ
+servers_of words = do
+  word ← one_after (codes "servers") words
+  count ← read_number word
+  only_if (nat_le 1 count && nat_le count 16) count
+
+-- table NAME
+unfoldable pub table_line : List (List ℕ) → List (List ℕ) → Option (List ℕ)
+table_line tables words = do
+  word ← one_after (codes "table") words
+  ok ← only_if {X = Unit {0}} (nat_lt (length tables) 64) tt
+  name ← name_of word
+  only_if (is_none (place_of tables name)) name
+
+-- shard LOW HIGH SERVER
+unfoldable pub shard_line : ℕ → List (List ℕ) → Option Range
+shard_line count (word ∷ low ∷ high ∷ server ∷ []) = do
+  first ← only_if {X = Unit {0}} (bytes_eq word (codes "shard")) tt
+  ok ← only_if {X = Unit {0}} (nat_lt count 64) tt
+  l ← read_number low
+  h ← read_number high
+  s ← read_number server
+  Some (record { low = l; high = h; server = s })
+shard_line count words = None
+
+-- the names of parameters, after those known
+abbrev pub parameters_of : List (List ℕ) → List (List ℕ) → Option (List (List ℕ))
+parameters_of names [] = Some names
+parameters_of names (word ∷ words) = new_name names word >>= λ name. parameters_of (names ++ name ∷ []) words
+
+-- program NAME PARAMETER..
+unfoldable pub program_line : List (List ℕ) → List (List ℕ) → Option (List ℕ × List (List ℕ))
+program_line programs (word ∷ first ∷ words) = do
+  is ← only_if {X = Unit {0}} (bytes_eq word (codes "program")) tt
+  ok ← only_if {X = Unit {0}} (nat_lt (length programs) 64 && nat_le (length words) 8) tt
+  name ← name_of first
+  new ← only_if {X = Unit {0}} (is_none (place_of programs name)) tt
+  names ← parameters_of [] words
+  Some (name, names)
+program_line programs words = None
+
+-- hop SERVER
+unfoldable pub hop_line : ℕ → ℕ → List (List ℕ) → Option ℕ
+hop_line servers hops words = do
+  word ← one_after (codes "hop") words
+  ok ← only_if {X = Unit {0}} (nat_lt hops 8) tt
+  server ← read_number word
+  only_if (nat_lt server servers) server
+
+-- end
+abbrev pub end_line : List (List ℕ) → Option (Unit {0})
+end_line (word ∷ []) = only_if (bytes_eq word (codes "end")) tt
+end_line words = None
+
+-- parts one after another as long as the test says so, and no more of them than there is room for
+unfoldable pub parts : {S : Type 0} → (List (List ℕ) → Bool) → (S → List (List ℕ) → Option (S × List (List ℕ))) → ℕ → S → List (List ℕ) → Option (S × List (List ℕ))
+parts goes part zero s lines = if goes lines then None else Some (s, lines)
+parts goes part (suc room) s lines = if goes lines then (part s lines >>= λ next. parts goes part room next.0 next.1) else Some (s, lines)
+
+-- one more shard
+unfoldable pub shard_at : ℕ → List Shard → List (List ℕ) → Option (List Shard × List (List ℕ))
+shard_at servers shards lines = do
+  words ← words_at lines
+  range ← shard_line (length shards) words.0
+  ok ← only_if {X = Unit {0}} (is_none (range_fault servers (last_key None shards) range.low range.high range.server)) tt
+  Some (shards ++ shard_of range ∷ [], words.1)
+
+abbrev pub goes_shard : List (List ℕ) → Bool
+goes_shard lines = begins lines (codes "shard")
+
+-- one more table and its shards
+unfoldable pub table_at : PlainSet → List (List ℕ) → Option (PlainSet × List (List ℕ))
+table_at set lines = do
+  words ← words_at lines
+  name ← table_line set.tables words.0
+  read ← parts goes_shard (shard_at set.servers) 64 [] words.1
+  ok ← only_if {X = Unit {0}} (next_key (last_key None read.0) == 2 ^ 64) tt
+  Some (record set { tables = set.tables ++ name ∷ []; shards = set.shards ++ read.0 ∷ [] }, read.1)
+
+abbrev pub goes_table : List (List ℕ) → Bool
+goes_table lines = begins lines (codes "table")
+
+-- a program with the name that a line binds, if it binds one
+abbrev pub with_name : PlainProgram → Option (List ℕ) → PlainProgram
+with_name program None = program
+with_name program (Some name) = record program { names = program.names ++ name ∷ [] }
+
+-- where the next action of a hop stands
+abbrev pub place_in : PlainSet → ℕ → PlainProgram → List Action → Place
+place_in set server program actions = record {
+  tables = set.tables;
+  shards = set.shards;
+  parameters = program.parameters;
+  names = program.names;
+  is_first = length program.hops == 0;
+  server = server;
+  actions = length actions;
+}
+
+-- one more action of a hop
+unfoldable pub action_at : PlainSet → ℕ → PlainProgram × List Action → List (List ℕ) → Option ((PlainProgram × List Action) × List (List ℕ))
+action_at set server hop lines = do
+  words ← words_at lines
+  line ← action_of (place_in set server hop.0 hop.1) words.0
+  Some ((with_name hop.0 line.binds, hop.1 ++ line.action ∷ []), words.1)
+
+abbrev pub goes_action : List (List ℕ) → Bool
+goes_action lines = not (begins lines (codes "hop")) && not (begins lines (codes "end"))
+
+-- one more hop and its actions
+unfoldable pub hop_at : PlainSet → PlainProgram → List (List ℕ) → Option (PlainProgram × List (List ℕ))
+hop_at set program lines = do
+  words ← words_at lines
+  server ← hop_line set.servers (length program.hops) words.0
+  first ← action_at set server (program, []) words.1
+  read ← parts goes_action (action_at set server) (16 - length first.0.1) first.0 first.1
+  Some (record read.0.0 { hops = read.0.0.hops ++ (record { server = server; actions = read.0.1 }) ∷ [] }, read.1)
+
+abbrev pub goes_hop : List (List ℕ) → Bool
+goes_hop lines = begins lines (codes "hop")
+
+-- one more program, with its hops and its end
+unfoldable pub program_at : PlainSet → List (List ℕ) → Option (PlainSet × List (List ℕ))
+program_at set lines = do
+  words ← words_at lines
+  head ← program_line (map (λ named. named.0) set.programs) words.0
+  first ← hop_at set (record { parameters = length head.1; names = head.1; hops = [] }) words.1
+  read ← parts goes_hop (hop_at set) (8 - length first.0.hops) first.0 first.1
+  last ← words_at read.1
+  ok ← end_line last.0
+  Some (record set { programs = set.programs ++ (head.0, read.0) ∷ [] }, last.1)
+
+abbrev pub goes_program : List (List ℕ) → Bool
+goes_program lines = begins lines (codes "program")
+
+-- no line is left
+abbrev pub ends : List (List ℕ) → Bool
+ends ([] ∷ []) = true
+ends lines = false
+
+-- a set after the version's line
+unfoldable pub set_at : List (List ℕ) → Option PlainSet
+set_at lines = do
+  words ← words_at lines
+  servers ← servers_of words.0
+  tables ← parts goes_table table_at 64 (record { servers = servers; tables = []; shards = []; programs = [] }) words.1
+  programs ← parts goes_program program_at 64 tables.0 tables.1
+  only_if (ends programs.1) programs.0
+
+-- the lines after the version's
+abbrev pub after_version : List (List ℕ) → Option (List (List ℕ))
+after_version lines = next_piece lines >>= λ next. only_if (is_version lines) next.1
+
+-- a set, from the version's line on
+unfoldable pub lines_at : List (List ℕ) → Option PlainSet
+lines_at lines = after_version lines >>= set_at
+
+-- a set, from its whole text
+abbrev pub read_text : List ℕ → Option PlainSet
+read_text text = if nat_le (length text) 65536 then lines_at (slice_split is_feed text) else None

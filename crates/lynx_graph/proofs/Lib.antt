@@ -1,0 +1,10 @@
+pub mod Decides
+pub mod Lists
+pub mod Places
+pub mod Tables
+pub mod Trails
+pub mod Sound
+pub mod Complete
+pub mod Levels
+pub mod Deeper
+pub mod Bests

@@ -1,0 +1,73 @@
+-- The hops of a set stand among its nodes, with the hops with which they may conflict.
+use Rattle.std.proofs.Common.{◌≡◌, ℕ, ◌<◌, List, [], map, length, Option, Some, None, refl, ap, ◌∙◌, arith}
+use Rattle.std.specs.Prelude.{Any, filter_map, option_map, option_and_then, slice_get, unwrap_or}
+use Rattle.std.specs.List.{range_with_len}
+use Rattle.std.specs.Option.{option_map_or}
+use Rattle.std.proofs.lemmas.Option.{none-some, slice_get-map, slice_get_within}
+use Rattle.lynx_text.specs.declared.program.Hop.{Hop}
+use Rattle.lynx_text.specs.declared.program.Program.{Program}
+use Rattle.lynx_text.specs.Set.{Set}
+use Rattle.lynx_hops.specs.Meaning.{hop_at, program_at}
+use Rattle.lynx_foot.specs.declared.foot.Foot.{Foot}
+use Rattle.lynx_foot.specs.Feet.{foot_of, footprint_of}
+use Rattle.lynx_foot.specs.Conflicts.{MayConflict}
+use Rattle.lynx_graph.specs.declared.joins.Place.{Place}
+use Rattle.lynx_graph.specs.declared.nodes.Node.{Node}
+use Rattle.lynx_graph.specs.Nodes.{node_of, nodes_of, places_in, places_of}
+use Rattle.lynx_graph.proofs.Lists.{slice_get-flat_map, slice_get-mapped, slice_get-range}
+
+-- the conflict of a place with another
+abbrev pub Conflict : Set → Place → Place → Type 0
+Conflict set left right = MayConflict set left.program left.hop right.program right.hop
+
+-- ---- a hop with feet is a hop
+
+hop_from_foot : {P : Foot → Type 0} (set : Set) (program hop : ℕ) → Any P (footprint_of set program hop) → (found : Hop) × (hop_at set program hop ≡ Some found)
+hop_from_foot {P} set program hop foot = by_hop (hop_at set program hop) refl foot.0 foot.2
+  where
+    by_hop : (known : Option Hop) → hop_at set program hop ≡ known → (k : ℕ) → k < length (filter_map foot_of (unwrap_or (option_map (λ found. found.actions) known) [])) →
+        (found : Hop) × (hop_at set program hop ≡ Some found)
+    by_hop None is k within = absurd (omega (arith, within))
+    by_hop (Some found) is k within = (found, is)
+
+pub hop_left : (set : Set) (left right : Place) → Conflict set left right → (found : Hop) × (hop_at set left.program left.hop ≡ Some found)
+hop_left set left right conflict = hop_from_foot set left.program left.hop conflict.feet_may_clash
+
+pub hop_right : (set : Set) (left right : Place) → Conflict set left right → (found : Hop) × (hop_at set right.program right.hop ≡ Some found)
+hop_right set left right conflict = hop_from_foot set right.program right.hop conflict.feet_may_clash.4
+
+-- ---- each hop has a place
+
+place_in : (set : Set) (program hop : ℕ) (found : Hop) → hop_at set program hop ≡ Some found → slice_get {X = Place} (places_in set program) hop ≡ Some (record { program = program; hop = hop })
+place_in set program hop found is = by_program (program_at set program) is
+  where
+    by_program : (known : Option Program) → option_and_then (λ of. slice_get of.hops hop) known ≡ Some found →
+        slice_get {X = Place} (map (λ h. record { program = program; hop = h }) (range_with_len 0 (option_map_or (λ of. length of.hops) known 0))) hop ≡ Some (record { program = program; hop = hop })
+    by_program None none = absurd (none-some found none)
+    by_program (Some known) there =
+        slice_get-map {B = Place} (λ h. record { program = program; hop = h }) (range_with_len 0 (length known.hops)) hop
+        ∙ ap (option_map {U = Place} (λ h. record { program = program; hop = h })) (slice_get-range (length known.hops) hop (slice_get_within known.hops hop found there))
+
+program_within : (set : Set) (program hop : ℕ) (found : Hop) → hop_at set program hop ≡ Some found → program < length set.programs
+program_within set program hop found is = by_program (slice_get set.programs program) refl is
+  where
+    by_program : (known : Option (List ℕ × Program)) → slice_get set.programs program ≡ known →
+        option_and_then (λ of. slice_get of.hops hop) (option_map (λ named. named.1) known) ≡ Some found → program < length set.programs
+    by_program None at none = absurd (none-some found none)
+    by_program (Some named) at there = slice_get_within set.programs program named at
+
+pub place_of : (set : Set) (place : Place) (found : Hop) → hop_at set place.program place.hop ≡ Some found → (n : ℕ) × (slice_get (places_of set) n ≡ Some place)
+place_of set place found is =
+    slice_get-flat_map (places_in set) (range_with_len 0 (length set.programs)) place.program place.hop place.program place
+    (slice_get-range (length set.programs) place.program (program_within set place.program place.hop found is))
+    (place_in set place.program place.hop found is)
+
+-- ---- nodes
+
+-- the node of a place
+pub node_at : (set : Set) (n : ℕ) (place : Place) → slice_get (places_of set) n ≡ Some place → slice_get (nodes_of set) n ≡ Some (node_of set (places_of set) place)
+node_at set n place there = slice_get-map (node_of set (places_of set)) (places_of set) n ∙ ap (option_map (node_of set (places_of set))) there
+
+-- the place of a node
+pub place_at : (set : Set) (n : ℕ) (node : Node) → slice_get (nodes_of set) n ≡ Some node → (place : Place) × (slice_get (places_of set) n ≡ Some place) × (node ≡ node_of set (places_of set) place)
+place_at set n node there = slice_get-mapped (node_of set (places_of set)) (places_of set) n node there

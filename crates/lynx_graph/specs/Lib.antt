@@ -1,0 +1,7 @@
+pub mod Walks
+pub mod Tests
+pub mod Nodes
+pub mod Marks
+pub mod Reading
+pub mod Searches
+pub mod Verdicts

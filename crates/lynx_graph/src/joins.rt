@@ -1,0 +1,40 @@
+//! Which hops of a set join, and where its programs begin.
+ghost use Rattle.std.specs.Prelude.{◌≡◌};
+ghost use Rattle.lynx_graph.specs.Walks.{origin_of};
+ghost use Rattle.lynx_graph.specs.Tests.{joins, same_server};
+
+use lynx_foot::may_conflict;
+use lynx_names::{ProgramId, ServerId};
+use lynx_text::ChainSet;
+
+/// One hop of one program.
+#[derive(Clone, Copy, Debug, PartialEq, Eq)]
+pub(crate) struct Place {
+    pub program: ProgramId,
+    pub hop: usize,
+}
+
+/// Whether the hops may conflict.
+pub(crate) fn joins(set: &ChainSet, left: &Place, right: &Place) -> bool
+    ensures { result ≡ joins set.now left.now right.now }
+{
+    may_conflict(set, left.program, left.hop, right.program, right.hop)
+}
+
+/// The server of a program's first hop, None where the set hasn't one.
+pub(crate) fn origin_of(set: &ChainSet, program: ProgramId) -> Option<ServerId>
+    ensures { result ≡ origin_of set.now program }
+{
+    let first = set.program(program)?.hops.as_slice().first()?;
+    Some(first.server)
+}
+
+pub(crate) fn same_server(left: Option<ServerId>, right: Option<ServerId>) -> bool
+    ensures { result ≡ same_server left right }
+{
+    match (left, right) {
+        (Some(left), Some(right)) => left == right,
+        (None, None) => true,
+        _ => false,
+    }
+}

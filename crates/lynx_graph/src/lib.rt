@@ -1,0 +1,22 @@
+//! Closed walks of a set of chain programs, and whether some walk of it offends.
+#![tactic(auto)]
+
+pub use accepted::AcceptedSet;
+pub use holds::walk_holds;
+pub use judge::check;
+pub use verdict::Verdict;
+pub use visit::{Visit, Walk};
+
+pub mod accepted;
+pub mod holds;
+mod joins;
+pub mod judge;
+mod marks;
+mod nodes;
+mod reading;
+mod search;
+mod shortest;
+#[cfg(test)]
+mod tests;
+pub mod verdict;
+pub mod visit;

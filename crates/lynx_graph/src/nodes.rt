@@ -1,0 +1,113 @@
+//! The hops of a set as a graph: for each hop, the hops by which its program may be left, and those with which it
+//! may conflict.
+ghost use Rattle.std.specs.Prelude.{◌≡◌, ◌++◌, IfOk, OnOk, map};
+ghost use Rattle.lynx_graph.specs.Nodes.{exits_of, neighbours_of, node_of, nodes_of, places_in, places_of};
+
+use crate::joins::{Place, joins, origin_of};
+use lynx_names::{Items, Memory, ProgramId, ServerId};
+use lynx_text::ChainSet;
+use std::alloc::Global;
+
+/// A hop by which a program may be left, and its place in the list of nodes.
+#[derive(Clone, Copy, Debug, PartialEq, Eq)]
+pub(crate) struct Exit {
+    pub hop: usize,
+    pub node: usize,
+}
+
+/// A hop with its surroundings. Nodes are named by their places in the list of nodes, in rising order.
+#[derive(Debug, Drop)]
+pub(crate) struct Node {
+    pub place: Place,
+    pub origin: Option<ServerId>,
+    pub exits: Items<Exit>,
+    pub neighbours: Items<usize>,
+}
+
+fn exits_of(alloc: Global, places: &[Place], place: &Place) -> Result<Vec<Exit>, Memory>
+    ensures { IfOk result (λ exits. exits.items ≡ exits_of places.now place.now) }
+{
+    let exits = places
+        .iter()
+        .enumerate()
+        .filter(|(_, other)| other.program == place.program)
+        .map(|(node, other)| Exit {
+            hop: other.hop,
+            node,
+        })
+        .collect(alloc)?;
+    Ok(exits)
+}
+
+fn neighbours_of(
+    alloc: Global,
+    set: &ChainSet,
+    places: &[Place],
+    place: &Place,
+) -> Result<Vec<usize>, Memory>
+    ensures { IfOk result (λ neighbours. neighbours.items ≡ neighbours_of set.now places.now place.now) }
+{
+    let neighbours = places
+        .iter()
+        .enumerate()
+        .filter(|(_, other)| joins(set, place, other))
+        .map(|(node, _)| node)
+        .collect(alloc)?;
+    Ok(neighbours)
+}
+
+fn node_of(alloc: Global, set: &ChainSet, places: &[Place], place: &Place) -> Result<Node, Memory>
+    ensures { IfOk result (λ node. node ≡ node_of set.now places.now place.now) }
+{
+    Ok(Node {
+        place: *place,
+        origin: origin_of(set, place.program),
+        exits: Items::from_vec(exits_of(alloc, places, place)?),
+        neighbours: Items::from_vec(neighbours_of(alloc, set, places, place)?),
+    })
+}
+
+/// Adds the hops of a program.
+fn add_places(set: &ChainSet, program: ProgramId, places: &mut Items<Place>) -> Result<(), Memory>
+    ensures { OnOk result (places.new ≡ places.old ++ places_in set.now program) }
+{
+    let Some(found) = set.program(program) else {
+        return Ok(());
+    };
+    for hop in 0..found.hops.len() {
+        places.push(Place { program, hop })?;
+    }
+    Ok(())
+}
+
+/// The program of that number. No text spells a set that has one outside the range of `ProgramId`.
+fn program_of(number: usize) -> Result<ProgramId, Memory>
+    ensures { IfOk result (λ program. program ≡ number) }
+{
+    let number = u8::try_from(number).ok().ok_or(Memory)?;
+    ProgramId::new(number).ok_or(Memory)
+}
+
+/// All hops of the set, by program and then by number.
+fn places_of(alloc: Global, set: &ChainSet) -> Result<Items<Place>, Memory>
+    ensures { IfOk result (λ places. places ≡ places_of set.now) }
+{
+    let mut places = Items::new(alloc);
+    for number in 0..set.programs().len() {
+        add_places(set, program_of(number)?, &mut places)?;
+    }
+    Ok(places)
+}
+
+/// All hops of the set with their surroundings, by program and then by number.
+pub(crate) fn nodes_of(alloc: Global, set: &ChainSet) -> Result<Items<Node>, Memory>
+    ensures { IfOk result (λ nodes. nodes ≡ nodes_of set.now) }
+{
+    let all = places_of(alloc, set)?;
+    let places = all.as_slice();
+    let mut nodes = Items::new(alloc);
+    for place in places {
+        nodes.push(node_of(alloc, set, places, place)?)?;
+    }
+    Ok(nodes)
+}

@@ -4,7 +4,7 @@ use lynx_names::{ChainId, Memory, Stamp, TryCopy, Values};
 use std::alloc::Global;
 
 /// A chain began: its hop 0 ran at its origin.
-#[derive(Debug, Drop)]
+#[derive(Debug, PartialEq, Eq, Drop)]
 pub struct BegunEntry {
     pub request: Request,
     /// The greatest stamp that the client's session was told before it asked.
@@ -16,7 +16,7 @@ pub struct BegunEntry {
 }
 
 /// A first hop refused by its own decision.
-#[derive(Debug, Drop)]
+#[derive(Debug, PartialEq, Eq, Drop)]
 pub struct RefusedEntry {
     pub request: Request,
     /// The greatest stamp that the client's session was told before it asked.
@@ -27,7 +27,7 @@ pub struct RefusedEntry {
 }
 
 /// A later hop ran on that message.
-#[derive(Debug, Drop)]
+#[derive(Debug, PartialEq, Eq, Drop)]
 pub struct HopEntry {
     pub message: Message,
     pub stamp: Stamp,
@@ -35,7 +35,7 @@ pub struct HopEntry {
 }
 
 /// One entry of a server's history.
-#[derive(Debug, Drop)]
+#[derive(Debug, PartialEq, Eq, Drop)]
 pub enum Entry {
     Begun(BegunEntry),
     Refused(RefusedEntry),

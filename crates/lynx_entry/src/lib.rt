@@ -10,3 +10,5 @@ pub mod answer;
 pub mod entry;
 pub mod message;
 pub mod request;
+#[cfg(test)]
+mod tests;

@@ -1,4 +1,4 @@
-ghost use Rattle.std.specs.Prelude.{◌≡◌, ◌+◌, ◌<◌, ◌++◌, ◌∷◌, [], List, length, OnOk, OnErr, IfOk, slice_get, option_copied};
+ghost use Rattle.std.specs.Prelude.{◌≡◌, ◌==◌, ◌+◌, ◌<◌, ◌++◌, ◌∷◌, [], List, length, OnOk, OnErr, IfOk, slice_get, option_copied};
 
 use crate::memory::Memory;
 use crate::try_copy::TryCopy;
@@ -50,7 +50,9 @@ impl<T> Items<T> {
         self.items.len()
     }
 
-    pub fn is_empty(&self) -> bool {
+    pub fn is_empty(&self) -> bool
+        ensures { result ≡ (length self.now == 0) }
+    {
         self.items.is_empty()
     }
 

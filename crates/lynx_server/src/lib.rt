@@ -8,5 +8,7 @@ mod checks;
 pub mod deliveries;
 mod messages;
 pub mod tables;
+#[cfg(test)]
+mod tests;
 mod turns;
 mod visits;

@@ -1,7 +1,8 @@
 -- Which entries stand in a list, and which numbers in a range.
-use Rattle.std.proofs.Common.{◌≡◌, ◌≢◌, ℕ, zero, suc, ◌+◌, ◌<◌, ◌≤◌, Bool, true, false, cond, List, [], ◌∷◌, ◌++◌, Option, Some, None, is_some, find, inl, inr, ◌⊎◌, nat_eq, eq-eqb, refl, sym, ap, ◌∙◌, subst, arith}
+use Rattle.std.proofs.Common.{◌≡◌, ◌≢◌, ℕ, zero, suc, ◌+◌, ◌<◌, ◌≤◌, Bool, true, false, cond, ◌||◌, List, [], ◌∷◌, ◌++◌, Option, Some, None, is_some, find, filter, inl, inr, ◌⊎◌, nat_eq, eq-eqb, refl, sym, ap, ◌∙◌, subst, arith}
+use Rattle.std.proofs.lemmas.Bool.{eqb-true}
 use Rattle.std.proofs.lemmas.Bool.Decides.{eqb_tells}
-use Rattle.std.specs.List.{cons_option, range_with_len}
+use Rattle.std.specs.List.{cons_option, list_any, range_with_len}
 use Rattle.lynx_entry.specs.declared.entry.Entry.{Entry}
 use Rattle.lynx_names.specs.declared.chain.ChainId.{ChainId}
 use Rattle.lynx_text.specs.Set.{Set}
@@ -23,6 +24,48 @@ in-push x y [] (inr never) = absurd never
 in-push x y (first ∷ xs) (inl same) = inl (inl same)
 in-push x y (first ∷ xs) (inr later) = elim (in-push x y xs later) [ inl there ↦ inl (inr there) | inr same ↦ inr same ]
 
+-- a value of a list is one of a longer list
+pub in-append : {X : Type 0} (x : X) (xs ys : List X) → IsIn x xs → IsIn x (xs ++ ys)
+in-append x [] ys never = absurd never
+in-append x (first ∷ xs) ys (inl same) = inl same
+in-append x (first ∷ xs) ys (inr later) = inr (in-append x xs ys later)
+
+-- the value at the end of a list
+pub in-last : {X : Type 0} (x y : X) (xs : List X) → y ≡ x → IsIn x (xs ++ y ∷ [])
+in-last x y [] same = inl same
+in-last x y (first ∷ xs) same = inr (in-last x y xs same)
+
+-- what is found is in the list, and passes the test
+pub found_in : {X : Type 0} (test : X → Bool) (xs : List X) (x : X) → find test xs ≡ Some x → IsIn x xs × (test x ≡ true)
+found_in test [] x found = cc
+found_in {X} test (first ∷ xs) x found = by (test first) refl found (found_in test xs x)
+  where
+    by : (b : Bool) → test first ≡ b → cond b (Some first) (find test xs) ≡ Some x →
+        (find test xs ≡ Some x → IsIn x xs × (test x ≡ true)) → IsIn x (first ∷ xs) × (test x ≡ true)
+    by true is found later = let same : first ≡ x = cc in (inl same, ap test (sym same) ∙ is)
+    by false is found later = let rest = later found in (inr rest.0, rest.1)
+
+-- a test passes somewhere where it passes at a value of the list
+pub any_of : {X : Type 0} (test : X → Bool) (xs : List X) (x : X) → IsIn x xs → test x ≡ true → list_any test xs ≡ true
+any_of test [] x never passes = absurd never
+any_of test (first ∷ xs) x (inl same) passes = ap (λ b. b || list_any test xs) (ap test same ∙ passes)
+any_of test (first ∷ xs) x (inr later) passes = behind (test first) (any_of test xs x later passes)
+  where
+    behind : (b : Bool) → list_any test xs ≡ true → (b || list_any test xs) ≡ true
+    behind true there = refl
+    behind false there = there
+
+-- a value that passes the test is in what the test lets through
+pub in-filter : {X : Type 0} (test : X → Bool) (xs : List X) (x : X) → IsIn x xs → test x ≡ true → IsIn x (filter test xs)
+in-filter test [] x never passes = absurd never
+in-filter {X} test (first ∷ xs) x (inl same) passes =
+    subst (λ b. IsIn x (cond b (first ∷ filter test xs) (filter test xs))) (sym (ap test same ∙ passes)) (inl same)
+in-filter {X} test (first ∷ xs) x (inr later) passes = behind (test first) (in-filter test xs x later passes)
+  where
+    behind : (b : Bool) → IsIn x (filter test xs) → IsIn x (cond b (first ∷ filter test xs) (filter test xs))
+    behind true there = inr there
+    behind false there = there
+
 pub in_range : (a n h : ℕ) → a ≤ h → h < a + n → IsIn h (range_with_len a n)
 in_range a zero h low high = absurd (omega arith)
 in_range a (suc n) h low high =
@@ -35,6 +78,12 @@ pub below_range : (a n h : ℕ) → IsIn h (range_with_len a n) → h < a + n
 below_range a zero h never = absurd never
 below_range a (suc n) h (inl same) = omega arith
 below_range a (suc n) h (inr later) = let below : h < (a + 1) + n = below_range (a + 1) n h later in omega arith
+
+-- the first number of a range is its least
+pub above_range : (a n h : ℕ) → IsIn h (range_with_len a n) → a ≤ h
+above_range a zero h never = absurd never
+above_range a (suc n) h (inl same) = omega arith
+above_range a (suc n) h (inr later) = let above : a + 1 ≤ h = above_range (a + 1) n h later in omega arith
 
 pub range_more : (a n : ℕ) → range_with_len a (suc n) ≡ range_with_len a n ++ (a + n) ∷ []
 range_more a zero = ap (λ m. m ∷ []) (omega arith)
@@ -67,6 +116,34 @@ done_of_entry chain hop (placed ∷ list) q (inr later) is =
     behind : (o : Option ℕ) → IsIn hop (done_hops chain list) → IsIn hop (cons_option o (done_hops chain list))
     behind None there = there
     behind (Some other) there = inr there
+
+-- an entry of a server's history stands in the list at that server
+pub in_list : (server : ℕ) (list : List Placed) (entry : Entry) → IsIn entry (history_of server list) →
+    IsIn (record { server = server; entry = entry }) list
+in_list server [] entry never = absurd never
+in_list server (placed ∷ list) entry there = by (nat_eq placed.server server) refl there (in_list server list entry)
+  where
+    by : (b : Bool) → nat_eq placed.server server ≡ b → IsIn entry (cons_option (cond b (Some placed.entry) None) (history_of server list)) →
+        (IsIn entry (history_of server list) → IsIn (record { server = server; entry = entry }) list) →
+        IsIn (record { server = server; entry = entry }) (placed ∷ list)
+    by false is there later = inr (later there)
+    by true is (inl same) later = let here = eqb-true placed.server server is in inl (λ i. record { server = here i; entry = same i })
+    by true is (inr there) later = inr (later there)
+
+-- and one that stands at a server is in its history
+pub in_history : (server : ℕ) (list : List Placed) (placed : Placed) → IsIn placed list → placed.server ≡ server →
+    IsIn placed.entry (history_of server list)
+in_history server [] placed never here = absurd never
+in_history server (first ∷ list) placed (inl same) here =
+    subst (λ b. IsIn placed.entry (cons_option (cond b (Some first.entry) None) (history_of server list)))
+    (sym (eq-eqb first.server server (ap (λ (p : Placed). p.server) same ∙ here))) (inl (ap (λ (p : Placed). p.entry) same))
+in_history server (first ∷ list) placed (inr later) here =
+    behind (nat_eq first.server server) (in_history server list placed later here)
+  where
+    behind : (b : Bool) → IsIn placed.entry (history_of server list) →
+        IsIn placed.entry (cons_option (cond b (Some first.entry) None) (history_of server list))
+    behind true there = inr there
+    behind false there = there
 
 -- the entry that sends a message
 pub sender_of : (set : Set) (list : List Placed) (message : Message) → IsSent set list message →

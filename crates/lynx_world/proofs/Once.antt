@@ -50,18 +50,18 @@ pub record IsKnown (set : Set) (list : List Placed) : Type 0 where
   pub at_home : (p : Placed) (message : Message) → IsIn p list → message_of p.entry ≡ Some message →
       hop_server set message.program message.hop ≡ Some p.server
 
-both : (a b : Bool) → (a && b) ≡ true → (a ≡ true) × (b ≡ true)
+pub both : (a b : Bool) → (a && b) ≡ true → (a ≡ true) × (b ≡ true)
 both true b e = (refl, e)
 both false b e = cc
 
 same_chain-true : (a b : ChainId) → same_chain a b ≡ true → (a.origin ≡ b.origin) × (a.index ≡ b.index)
 same_chain-true a b e = let parts = both (nat_eq a.origin b.origin) (nat_eq a.index b.index) e in (eqb-true _ _ parts.0, eqb-true _ _ parts.1)
 
-same_chain-self : (a : ChainId) → same_chain a a ≡ true
+pub same_chain-self : (a : ChainId) → same_chain a a ≡ true
 same_chain-self a = rw (eq-eqb a.origin a.origin refl, eq-eqb a.index a.index refl) refl
 
 -- the test of a chain went well
-chosen_hop : (b : Bool) (h k : ℕ) → cond b (Some h) None ≡ Some k → (b ≡ true) × (h ≡ k)
+pub chosen_hop : (b : Bool) (h k : ℕ) → cond b (Some h) None ≡ Some k → (b ≡ true) × (h ≡ k)
 chosen_hop true h k e = (refl, cc)
 chosen_hop false h k e = cc
 
@@ -85,7 +85,7 @@ pub record Sends (entry : Entry) (message : Message) (k : ℕ) : Type 0 where
   pub next_hop : k + 1 ≡ message.hop
   pub of_program : program_of entry ≡ message.program
 
-sends_after : (set : Set) (entry : Entry) (message : Message) → next_message set entry ≡ Some message → (k : ℕ) × Sends entry message k
+pub sends_after : (set : Set) (entry : Entry) (message : Message) → next_message set entry ≡ Some message → (k : ℕ) × Sends entry message k
 sends_after set (Begun begun) message e =
     let parts = from_after set begun.chain begun.request.program 0 _ _ _ _ message e in
     (0, record { in_chain = in_own_chain message.chain begun.chain 0 parts.0; next_hop = parts.2; of_program = parts.1 })
@@ -131,7 +131,7 @@ zero_of : (n : ℕ) → (0 < n → ⊥) → n ≡ 0
 zero_of zero never = refl
 zero_of (suc n) never = absurd (never (omega arith))
 
-same_name : (a b : ChainId) → same_chain a b ≡ true → a ≡ b
+pub same_name : (a b : ChainId) → same_chain a b ≡ true → a ≡ b
 same_name a b e = let parts = same_chain-true a b e in λ i. record { origin = parts.0 i; index = parts.1 i }
 
 begun_count-push : (server : ℕ) (list : List Placed) (placed : Placed) →
@@ -364,6 +364,10 @@ nothing_known set = record {
   at_home = λ p message here is. absurd here;
 }
 
+-- what is known of each legal list
+pub known : (set : Set) (list : List Placed) → IsLegal set list → IsKnown set list
+known set list legal = known_after set [] list (nothing_known set) legal
+
 -- in a legal list each chain's hops stand once and in order
 pub once_and_in_order : (set : Set) (list : List Placed) → IsLegal set list → IsOnceAndInOrder list
-once_and_in_order set list legal = (known_after set [] list (nothing_known set) legal).in_order
+once_and_in_order set list legal = (known set list legal).in_order

@@ -11,4 +11,6 @@ pub mod event;
 pub mod laws;
 pub mod placed;
 mod sending;
+#[cfg(test)]
+mod worked_runs;
 pub mod world;

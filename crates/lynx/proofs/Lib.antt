@@ -1,1 +1,3 @@
+pub mod SpelledLemmas
+pub mod EventLemmas
 pub mod RunLemmas

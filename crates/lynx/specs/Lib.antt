@@ -1,2 +1,4 @@
 pub mod Printed
 pub mod Runs
+pub mod Scripts
+pub mod Spelled

@@ -1,11 +1,14 @@
 //! A run: a set text and a script in, lines out.
-ghost use Rattle.std.specs.Prelude.{◌≡◌, ℕ, List, [], OnOk, slice_get, unwrap_or};
+ghost use Rattle.std.specs.Prelude.{◌≡◌, ◌⊎◌, ℕ, List, [], ◌++◌, OnOk, IfOk, IfErr, slice_get, unwrap_or};
 ghost use Rattle.std.specs.List.Sorted.{IsPermutation, IsSorted};
 ghost use Rattle.lynx_world.specs.Tables.{cells_of, triple_cmp};
 ghost use Rattle.lynx_world.specs.Steps.{step};
 ghost use Rattle.lynx.specs.Printed.{line, outcome_text};
-ghost use Rattle.lynx.specs.Runs.{world_after, outcome_lines, cell_lines};
-ghost use Rattle.std.specs.Io.KnownBytes.{Appends};
+ghost use Rattle.lynx_text.specs.Rules.{IsSet};
+ghost use Rattle.lynx_text.specs.Text.{text_of};
+ghost use Rattle.lynx.specs.Runs.{new_world, world_after, outcome_lines, cell_lines, Prints, IsNoSet, IsNoScript, IsLate, StopsFor};
+ghost use Rattle.lynx.specs.Scripts.{IsScript, script_of};
+ghost use Rattle.std.specs.Io.KnownBytes.{Appends, Keeps};
 
 use crate::printed::{cell_line, outcome_line};
 use crate::script::parse_script;
@@ -32,33 +35,58 @@ pub enum RunFault {
 }
 
 impl From<Memory> for RunFault {
+    ghost use Rattle.std.specs.Prelude.{◌≡◌};
+    ghost use Rattle.lynx.specs.declared.run.RunFault.TheVariants.{Memory as NoMemory};
+
+    ghost from_gives = { λ _ fault. fault ≡ NoMemory };
+
     fn from(_: Memory) -> RunFault {
         RunFault::Memory
     }
 }
 
 impl From<AllocError> for RunFault {
+    ghost use Rattle.std.specs.Prelude.{◌≡◌};
+    ghost use Rattle.lynx.specs.declared.run.RunFault.TheVariants.{Memory as NoMemory};
+
+    ghost from_gives = { λ _ fault. fault ≡ NoMemory };
+
     fn from(_: AllocError) -> RunFault {
         RunFault::Memory
     }
 }
 
-fn set_fault(fault: TextFault) -> RunFault {
-    match fault.kind {
-        FaultKind::Memory => RunFault::Memory,
-        _ => RunFault::Set(fault),
+/// The set that a text spells.
+fn read_set(alloc: Global, text: &[u8]) -> Result<ChainSet, RunFault>
+    ensures found { IfOk result (λ set. IsSet set × (text.now ≡ text_of set)) }
+    ensures only { IfErr result (λ fault. (fault ≡ RunFault.Memory) ⊎ ((found : TextFault) × (fault ≡ RunFault.Set found) × IsNoSet text.now)) }
+{
+    match parse(alloc, text) {
+        Ok(set) => Ok(set),
+        Err(fault) => match fault.kind {
+            FaultKind::Memory => Err(RunFault::Memory),
+            _ => Err(RunFault::Set(fault)),
+        },
     }
 }
 
-fn script_fault(fault: TextFault) -> RunFault {
-    match fault.kind {
-        FaultKind::Memory => RunFault::Memory,
-        _ => RunFault::Script(fault),
+/// The events that a script spells.
+fn read_script(alloc: Global, set: &ChainSet, text: &[u8]) -> Result<Vec<Event>, RunFault>
+    ensures found { IfOk result (λ events. IsScript set.now events.items × (text.now ≡ script_of set.now events.items)) }
+    ensures only { IfErr result (λ fault. (fault ≡ RunFault.Memory) ⊎ ((found : TextFault) × (fault ≡ RunFault.Script found) × IsNoScript set.now text.now)) }
+{
+    match parse_script(alloc, set, text) {
+        Ok(events) => Ok(events),
+        Err(fault) => match fault.kind {
+            FaultKind::Memory => Err(RunFault::Memory),
+            _ => Err(RunFault::Script(fault)),
+        },
     }
 }
 
 fn write_line<W: Write>(writer: &mut W, line: &[u8]) -> Result<(), RunFault>
-    ensures { OnOk result (Appends (W.contents writer.old) (W.contents writer.new) line.now) }
+    ensures line { OnOk result (Appends (W.contents writer.old) (W.contents writer.new) line.now) }
+    ensures late { IfErr result IsLate }
 {
     writer.write_all(line).map_err(|_| RunFault::Write)
 }
@@ -72,6 +100,7 @@ fn run_event<W: Write>(
 ) -> Result<(), RunFault>
     ensures worlds { OnOk result (world.new ≡ (step 0 world.old event).world) }
     ensures lines { OnOk result (Appends (W.contents writer.old) (W.contents writer.new) (line (outcome_text (step 0 world.old event).outcome))) }
+    ensures late { IfErr result IsLate }
 {
     let outcome = world.apply(alloc, event);
     if let Outcome::Memory = outcome {
@@ -90,6 +119,7 @@ pub fn run_events<W: Write>(
 ) -> Result<(), RunFault>
     ensures worlds { OnOk result (world.new ≡ world_after world.old events.items) }
     ensures lines { OnOk result (Appends (W.contents writer.old) (W.contents writer.new) (outcome_lines world.old events.items)) }
+    ensures late { IfErr result IsLate }
 {
     for event in events {
         run_event(alloc, world, event, writer)?;
@@ -99,8 +129,9 @@ pub fn run_events<W: Write>(
 
 /// Writes a line for each nonzero cell, tables in order of declaration, keys rising.
 pub fn write_cells<W: Write>(alloc: Global, world: &World, writer: &mut W) -> Result<(), RunFault>
-    ensures { OnOk result ((cells : List (ℕ × ℕ × ℕ)) × IsPermutation (cells_of world.now) cells × IsSorted triple_cmp cells
+    ensures cells { OnOk result ((cells : List (ℕ × ℕ × ℕ)) × IsPermutation (cells_of world.now) cells × IsSorted triple_cmp cells
         × Appends (W.contents writer.old) (W.contents writer.new) (cell_lines world.now.set.tables cells)) }
+    ensures late { IfErr result IsLate }
 {
     let cells = world.cells(alloc)?;
     write_each_cell(alloc, world.set(), cells.as_slice(), writer)
@@ -113,7 +144,8 @@ fn write_each_cell<W: Write>(
     cells: &[(TableId, u64, u64)],
     writer: &mut W,
 ) -> Result<(), RunFault>
-    ensures { OnOk result (Appends (W.contents writer.old) (W.contents writer.new) (cell_lines set.now.tables cells.now)) }
+    ensures lines { OnOk result (Appends (W.contents writer.old) (W.contents writer.new) (cell_lines set.now.tables cells.now)) }
+    ensures late { IfErr result IsLate }
 {
     for (table, key, value) in cells {
         let line = cell_line(alloc, table_name(set, *table), *key, *value)?;
@@ -132,6 +164,23 @@ fn table_name(set: &ChainSet, table: TableId) -> &[u8]
     }
 }
 
+/// Runs the events in a new world, and writes the line of each and then those of the cells.
+fn run_script<W: Write>(
+    alloc: Global,
+    set: ChainSet,
+    events: Vec<Event>,
+    writer: &mut W,
+) -> Result<(), RunFault>
+    ensures ok { OnOk result ((cells : List (ℕ × ℕ × ℕ)) × IsPermutation (cells_of (world_after (new_world set) events.items)) cells × IsSorted triple_cmp cells
+        × Appends (W.contents writer.old) (W.contents writer.new)
+        (outcome_lines (new_world set) events.items ++ cell_lines (world_after (new_world set) events.items).set.tables cells)) }
+    ensures late { IfErr result IsLate }
+{
+    let mut world = World::new(alloc, set)?;
+    run_events(alloc, &mut world, events, writer)?;
+    write_cells(alloc, &world, writer)
+}
+
 /// Judges the set text and then the script, runs the script in a new world, and writes a line for each event and
 /// then a line for each nonzero cell.
 pub fn run_texts<W: Write>(
@@ -139,10 +188,11 @@ pub fn run_texts<W: Write>(
     set: &[u8],
     script: &[u8],
     writer: &mut W,
-) -> Result<(), RunFault> {
-    let set = parse(alloc, set).map_err(set_fault)?;
-    let events = parse_script(alloc, &set, script).map_err(script_fault)?;
-    let mut world = World::new(alloc, set)?;
-    run_events(alloc, &mut world, events, writer)?;
-    write_cells(alloc, &world, writer)
+) -> Result<(), RunFault>
+    ensures ok { OnOk result ((printed : List ℕ) × Prints set.now script.now printed × Appends (W.contents writer.old) (W.contents writer.new) printed) }
+    ensures err { IfErr result (λ fault. StopsFor set.now script.now (Keeps (W.contents writer.old) (W.contents writer.new)) fault) }
+{
+    let set = read_set(alloc, set)?;
+    let events = read_script(alloc, &set, script)?;
+    run_script(alloc, set, events, writer)
 }

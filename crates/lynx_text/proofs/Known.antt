@@ -19,9 +19,8 @@ use Rattle.lynx_text.specs.Rules.{FitsKey, FitsOperand, IsNew}
 use Rattle.lynx_text.specs.Word.{is_letter, is_name_byte, is_name}
 use Rattle.lynx_text.specs.Reading.{place_of, place_below, only_if, name_of, new_name, known_name, table_of, key_of, operand_of, begins_with_digit}
 use Rattle.lynx_text.specs.Text.{name_at, key_word, operand_word}
-use Rattle.lynx_text.specs.WordLaws.{and_true, both_true, name-no_digit, name-word, number-word, own}
-use Rattle.lynx_text.proofs.Numbers.{cond_some, number_again}
-use Rattle.lynx_text.proofs.Pieces.{cond_none}
+use Rattle.lynx_text.specs.WordLaws.{and_true, both_true, cond_none, cond_some, name-no_digit, name-word, number-word, own}
+use Rattle.lynx_text.proofs.Numbers.{number_again}
 use Rattle.lynx_text.proofs.Lookups.{name_at-append, name_at-next}
 
 -- a step that is known

@@ -15,7 +15,8 @@ use Rattle.lynx_text.specs.Rules.{FitsKey, FitsOperand}
 use Rattle.lynx_text.specs.Word.{is_name}
 use Rattle.lynx_text.specs.Reading.{place_of, place_below, only_if, name_of, known_name, table_of, key_of, operand_of, begins_with_digit}
 use Rattle.lynx_text.specs.Text.{name_at, key_word, operand_word}
-use Rattle.lynx_text.proofs.Numbers.{cond_some, number_takes}
+use Rattle.lynx_text.specs.WordLaws.{cond_some}
+use Rattle.lynx_text.proofs.Numbers.{number_takes}
 
 -- a step that gave a value
 pub bind_some : {A B : Type 0} (o : Option A) (f : A → Option B) (y : B) → (o >>= f) ≡ Some y → (x : A) × (o ≡ Some x) × (f x ≡ Some y)

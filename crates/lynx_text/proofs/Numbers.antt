@@ -8,7 +8,7 @@ use Rattle.std.proofs.lemmas.Fmt.{decimal-digits_value, digits_decimal, digits_v
 use Rattle.std.proofs.lemmas.Str.Parse.{IsNumeralModel, numerals_by_fold}
 use Rattle.std.specs.Prelude.{decimal}
 use Rattle.lynx_text.specs.Digits.{value_on, starts_well, read_number}
-use Rattle.lynx_text.specs.WordLaws.{and_true, own}
+use Rattle.lynx_text.specs.WordLaws.{and_true, cond_some, own}
 
 and-false : (b : Bool) → (b && false) ≡ false
 and-false true = refl
@@ -41,10 +41,6 @@ some_if_fits word starts digits fits =
     ∙ ap (λ (b : Bool). cond b (Some (value_on 0 word)) None) yes
 
 -- an option that is there was tested
-pub cond_some : {X : Type 0} (b : Bool) (x y : X) → cond b (Some x) None ≡ Some y → (b ≡ true) × (x ≡ y)
-cond_some true x y e = (refl, cc)
-cond_some false x y e = absurd cc
-
 starts-length : (word : List ℕ) → starts_well word ≡ true → 0 < length word
 starts-length [] h = absurd cc
 starts-length (byte ∷ bytes) h = omega arith

@@ -13,23 +13,7 @@ use Rattle.std.proofs.lemmas.List.Sums.{fails_before_first}
 use Rattle.std.proofs.lemmas.List.{take_all, length-drop}
 use Rattle.lynx_text.specs.Parts.{ends}
 use Rattle.lynx_text.specs.Lines.{is_version, is_feed, next_piece, until, front_to}
-use Rattle.lynx_text.proofs.Numbers.{cond_some}
-
-pub cond_none : {X : Type 0} (b : Bool) (x : X) → cond b (Some x) None ≡ None → b ≡ false
-cond_none true x e = absurd cc
-cond_none false x e = refl
-
--- at the first place the text is cut
-pub split_found : (p : ℕ → Bool) (text : List ℕ) (i : ℕ) → position p text ≡ Some i → slice_split p text ≡ take i text ∷ slice_split p (drop (i + 1) text)
-split_found p text i is =
-    let found = cond_some (ltb (position_or_len p text) (length text)) (position_or_len p text) i is in
-    subst (λ (k : ℕ). slice_split p text ≡ take k text ∷ slice_split p (drop (k + 1) text)) found.1 (slice_split_first p text 0 (ltb-true _ _ found.0))
-
--- where there is no place it is one piece
-pub split_none : (p : ℕ → Bool) (text : List ℕ) → position p text ≡ None → slice_split p text ≡ text ∷ []
-split_none p text is =
-    let past : length text ≤ position_or_len p text = ltb-false _ _ (cond_none (ltb (position_or_len p text) (length text)) (position_or_len p text) is) in
-    slice_split_none p text (λ k d lt. fails_before_first p text k d (omega arith))
+use Rattle.lynx_text.specs.WordLaws.{cond_some, split_found, split_none}
 
 -- a slice to its end is what is left
 pub slice_to_end : (i : ℕ) (text : List ℕ) → take (length text - i) (drop i text) ≡ drop i text

@@ -16,12 +16,11 @@ use Rattle.std.specs.List.{position_or_len}
 use Rattle.std.proofs.lemmas.Bool.{ltb-false}
 use Rattle.std.proofs.lemmas.List.Sums.{fails_before_first}
 use Rattle.std.proofs.lemmas.List.Folds.{list_any_none}
-use Rattle.lynx_text.proofs.Pieces.{cond_none}
 use Rattle.lynx_text.specs.Reading.{place_of}
 use Rattle.indexmap.specs.IndexMap.{insert_entry}
 use Rattle.indexmap.specs.IndexSet.{insert_key}
 use Rattle.lynx_text.specs.contracts.name.NamePartialEq.TheImpl.{eq-value}
-use Rattle.lynx_text.specs.WordLaws.{and_true}
+use Rattle.lynx_text.specs.WordLaws.{and_true, cond_none}
 
 abbrev pub same_name : List ℕ → List ℕ → Bool
 same_name a b = eq-value.it a b

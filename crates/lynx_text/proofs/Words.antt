@@ -9,8 +9,7 @@ use Rattle.std.proofs.lemmas.List.Elements.{All-from_recursion}
 use Rattle.std.specs.List.{AllByRecursion}
 use Rattle.lynx_text.specs.Lines.{is_space, is_printable, is_filled, is_graphic, is_word, AreWords, words_in}
 use Rattle.lynx_text.specs.Text.{spaced, joined}
-use Rattle.lynx_text.specs.WordLaws.{and_true, both_true, printable-joined}
-use Rattle.lynx_text.proofs.Numbers.{cond_some}
+use Rattle.lynx_text.specs.WordLaws.{and_true, both_true, cond_some, printable-joined}
 use Rattle.lynx_text.proofs.Pieces.{has_piece}
 
 -- what is joined with spaces

@@ -1,14 +1,16 @@
--- Laws of words and lines, also for the crates that read other texts.
-use Rattle.std.proofs.Common.{◌≡◌, ℕ, suc, ◌+◌, ◌-◌, ◌^◌, ◌<◌, ◌≤◌, not, eqb, Bool, true, false, cond, ltb, ◌&&◌, List, [], ◌∷◌, ◌++◌, length, take, drop, Option, Some, None, refl, sym, ap, ◌∙◌, append_assoc, arith, rules}
+-- Laws of words, lines and pieces, also for the crates that read other texts.
+use Rattle.std.proofs.Common.{◌≡◌, ℕ, suc, ◌+◌, ◌-◌, ◌^◌, ◌<◌, ◌≤◌, not, eqb, Bool, true, false, cond, ltb, ◌&&◌, List, [], ◌∷◌, ◌++◌, length, take, drop, Option, Some, None, refl, sym, ap, subst, ◌∙◌, append_assoc, arith, rules}
 use Rattle.std.specs.Prelude.{decimal, position, option_map}
-use Rattle.std.specs.List.{list_all, position_or_len}
+use Rattle.std.specs.List.{list_all, position_or_len, slice_split}
 use Rattle.std.specs.Str.{all_ascii_digits}
 use Rattle.std.specs.Char.{is_ascii_digit}
-use Rattle.std.proofs.lemmas.Bool.{lt-ltb}
+use Rattle.std.proofs.lemmas.Bool.{lt-ltb, ltb-true, ltb-false}
 use Rattle.std.proofs.lemmas.Bool.Decides.{nat_tests}
 use Rattle.std.proofs.lemmas.Fmt.{digits_decimal, decimal_nonempty}
 use Rattle.std.proofs.lemmas.List.{length-append}
 use Rattle.std.proofs.lemmas.List.Folds.{list_all-append}
+use Rattle.std.proofs.lemmas.List.Splits.{slice_split_first, slice_split_none}
+use Rattle.std.proofs.lemmas.List.Sums.{fails_before_first}
 use Rattle.std.proofs.Math.Seq.{take-append_seam, drop-append-add}
 use Rattle.std.proofs.lemmas.Str.Parse.{IsNumeralModel, numerals_by_fold}
 use Rattle.lynx_text.specs.Digits.{value_on}
@@ -18,6 +20,14 @@ use Rattle.lynx_text.specs.Text.{spaced, joined, line}
 use Rattle.lynx_text.specs.Word.{is_letter, is_name_byte, is_name}
 
 -- both of two tests hold
+pub cond_some : {X : Type 0} (b : Bool) (x y : X) → cond b (Some x) None ≡ Some y → (b ≡ true) × (x ≡ y)
+cond_some true x y e = (refl, cc)
+cond_some false x y e = absurd cc
+
+pub cond_none : {X : Type 0} (b : Bool) (x : X) → cond b (Some x) None ≡ None → b ≡ false
+cond_none true x e = absurd cc
+cond_none false x e = refl
+
 pub and_true : (a b : Bool) → (a && b) ≡ true → (a ≡ true) × (b ≡ true)
 and_true true b e = (refl, e)
 and_true false b e = absurd cc
@@ -129,3 +139,17 @@ next_line_again words more are =
   where
     cut : ℕ → Bool → Option (List ℕ × List ℕ)
     cut n test = option_map (λ place. (take place (joined words ++ 10 ∷ more), drop (place + 1) (joined words ++ 10 ∷ more))) (cond test (Some n) None)
+
+-- ---- pieces
+
+-- at the first place the text is cut
+pub split_found : (p : ℕ → Bool) (text : List ℕ) (i : ℕ) → position p text ≡ Some i → slice_split p text ≡ take i text ∷ slice_split p (drop (i + 1) text)
+split_found p text i is =
+    let found = cond_some (ltb (position_or_len p text) (length text)) (position_or_len p text) i is in
+    subst (λ (k : ℕ). slice_split p text ≡ take k text ∷ slice_split p (drop (k + 1) text)) found.1 (slice_split_first p text 0 (ltb-true _ _ found.0))
+
+-- where there is no place it is one piece
+pub split_none : (p : ℕ → Bool) (text : List ℕ) → position p text ≡ None → slice_split p text ≡ text ∷ []
+split_none p text is =
+    let past : length text ≤ position_or_len p text = ltb-false _ _ (cond_none (ltb (position_or_len p text) (length text)) (position_or_len p text) is) in
+    slice_split_none p text (λ k d lt. fails_before_first p text k d (omega arith))

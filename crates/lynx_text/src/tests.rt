@@ -2,6 +2,7 @@ use super::*;
 use lynx_names::TryCopy;
 use lynx_names::limits::MAX_TEXT_BYTES;
 use lynx_shards::ShardFault;
+use std::alloc::Global;
 use std::test::Fail;
 
 /// Two servers and one table, on five lines.
@@ -480,5 +481,53 @@ fn long_texts_are_too_long(rt: HostRuntime) -> Result<(), Fail> {
     };
     assert_eq!(rt; fault_of(&rt, &text), Some(too_long));
     assert_eq!(rt; fault_of(&rt, &text[1..]), Some(bad_version));
+    Ok(())
+}
+
+/// A hop with as many actions as one may have.
+#[rattlefmt::skip]
+const FULL_HOP: &str = "hop 0\nadd t 0 1\nadd t 0 1\nadd t 0 1\nadd t 0 1\nadd t 0 1\nadd t 0 1\nadd t 0 1\nadd t 0 1\nadd t 0 1\nadd t 0 1\nadd t 0 1\nadd t 0 1\nadd t 0 1\nadd t 0 1\nadd t 0 1\nadd t 0 1\n";
+
+/// The last hop of the longest text, and the end of its program.
+#[rattlefmt::skip]
+const LAST_HOP: &str = "hop 0\nadd t 0 1\nadd t 0 1\nadd t 0 1\nadd t 0 1\nadd t 0 1\nadd t 0 1\nadd t 0 1\nadd t 0 1\nadd t 0 1\nadd t 0 1234\nend\n";
+
+fn push_hops(text: &mut String, count: usize) -> Result<(), Fail> {
+    for _ in 0..count {
+        text.push_str(FULL_HOP)?;
+    }
+    Ok(())
+}
+
+/// A set text of just as many bytes as one may have.
+fn longest_text(alloc: Global) -> Result<String, Fail> {
+    let mut text = String::from_str(alloc, HEAD)?;
+    for i in 10..58 {
+        write!(text, "program p{i}\n")?;
+        push_hops(&mut text, 8)?;
+        text.push_str("end\n")?;
+    }
+    text.push_str("program a\n")?;
+    push_hops(&mut text, 5)?;
+    text.push_str(LAST_HOP)?;
+    Ok(text)
+}
+
+/// Whether the text is read and printed again as it was.
+fn is_printed_again(alloc: Global, text: &str) -> bool {
+    let Ok(set) = parse(alloc, text.as_bytes()) else {
+        return false;
+    };
+    match print(alloc, &set) {
+        Ok(printed) => printed.as_slice() == text.as_bytes(),
+        Err(_) => false,
+    }
+}
+
+#[test]
+fn the_longest_text_is_a_set(rt: HostRuntime) -> Result<(), Fail> {
+    let text = longest_text(rt.alloc())?;
+    assert_eq!(rt; text.len(), MAX_TEXT_BYTES);
+    assert!(rt; is_printed_again(rt.alloc(), text.as_str()));
     Ok(())
 }

@@ -1,7 +1,8 @@
 use Rattle.std.proofs.Common.{◌+◌, ◌∷◌, take, ap, sym, ◌∙◌}
 use Rattle.std.specs.List.{slice_split}
 use Rattle.lynx_text.specs.Lines.{is_space}
-use Rattle.lynx_text.proofs.Pieces.{split_found, split_none, slice_to_end}
+use Rattle.lynx_text.specs.WordLaws.{split_found, split_none}
+use Rattle.lynx_text.proofs.Pieces.{slice_to_end}
 use Rattle.lynx_text.proofs.lines.first_word.Goals as goal
 
 pub returns-in-Some-clause-more : goal.returns-in-Some-clause-more

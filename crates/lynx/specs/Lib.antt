@@ -1,4 +1,2 @@
-pub mod Printed
-pub mod Runs
-pub mod Scripts
-pub mod Spelled
+pub mod Statuses
+pub mod Words

@@ -1,83 +1,63 @@
-//! `lynx`: runs scripts over sets of chain programs.
+//! `lynx`: judges sets of chain programs, and runs scripts over them.
 #![tactic(auto)]
 
-use crate::input::{InputFault, MAX_INPUT_BYTES, read_all, split_input};
-use crate::run::{RunFault, run_texts};
-use std::alloc::Global;
+use crate::fault::Fault;
+use crate::jobs::do_job;
+use crate::words::{command, job_of};
+use clap::Error;
+use clap::error::ErrorKind;
+use lynx_run::RunFault;
+use std::env;
 use std::process::ExitCode;
-use std::rt::Env;
-use std::{env, io};
+use std::rt::{Env, Files};
 
-mod input;
-mod printed;
-#[cfg(test)]
-mod rows;
-mod run;
-mod script;
+mod fault;
+mod jobs;
 #[cfg(test)]
 mod tests;
-
-/// Why the program did not end with status 0.
-#[derive(Debug, Drop)]
-enum Fault {
-    Words,
-    NoSeparator,
-    NoInput,
-    Run(RunFault),
-}
-
-/// Reads standard input, cuts it at the line `--`, and runs its script over its set.
-fn run_input<R: Input + Print + AllocGlobal>(rt: &R) -> Result<(), Fault> {
-    let alloc = rt.alloc();
-    let mut reader = rt.reader();
-    let input = match read_all(alloc, &mut reader, MAX_INPUT_BYTES) {
-        Ok(input) => input,
-        Err(InputFault::Read) => return Err(Fault::NoInput),
-        Err(InputFault::Memory) => return Err(Fault::Run(RunFault::Memory)),
-    };
-    let Some((set, script)) = split_input(input.as_slice()) else {
-        return Err(Fault::NoSeparator);
-    };
-    let mut writer = io::writer(rt);
-    run_texts(alloc, set, script, &mut writer).map_err(Fault::Run)
-}
+mod words;
 
 /// Prints the one line of a fault, and gives its status.
 fn report<R: Eprint>(rt: &R, fault: &Fault) -> u8 {
-    let (printed, status) = match fault {
-        Fault::Words => (
-            eprintln!(rt;
-                "lynx: no words are taken: a set text, a line -- and a script come from standard input"
-            ),
-            2,
-        ),
-        Fault::NoSeparator => (eprintln!(rt; "lynx: no line -- found"), 2),
-        Fault::NoInput => (eprintln!(rt; "lynx: cannot read -"), 4),
-        Fault::Run(RunFault::Set(fault)) => (eprintln!(rt; "lynx: set {fault}"), 2),
-        Fault::Run(RunFault::Script(fault)) => (eprintln!(rt; "lynx: script {fault}"), 2),
-        Fault::Run(RunFault::Write) => (eprintln!(rt; "lynx: cannot write"), 4),
-        Fault::Run(RunFault::Memory) => (eprintln!(rt; "lynx: out of memory"), 3),
-    };
-    let _ = printed;
-    status
+    let _ = eprintln!(rt; "lynx: {fault}");
+    fault.status()
 }
 
-/// Any word on the command line is a fault.
-fn has_words<R: Env + AllocGlobal>(rt: &R) -> bool {
-    match env::args(rt) {
-        Ok(args) => args.count() > 1,
-        Err(_) => false,
+/// Help that was asked for goes to standard output, a fault of the words to standard error.
+fn explain<R: Print + Eprint>(rt: &R, error: &Error) -> u8 {
+    if error.kind() == ErrorKind::OutOfMemory {
+        return report(rt, &Fault::Run(RunFault::Memory));
+    }
+    match error.print(rt) {
+        Ok(()) => error.exit_code() as u8,
+        Err(_) => report(rt, &Fault::Run(RunFault::Write)),
+    }
+}
+
+/// Reads the words, does what they ask for, and gives the status.
+fn obey<R: Env + Input + Files + Print + Eprint + AllocGlobal>(rt: &R) -> Result<u8, RunFault> {
+    let alloc = rt.alloc();
+    let words: Vec<String> = match env::args(rt) {
+        Ok(args) => args.collect(alloc)?,
+        Err(_) => return Err(RunFault::Memory),
+    };
+    let matches = match command(alloc)?.try_get_matches_from(words.as_slice()) {
+        Ok(matches) => matches,
+        Err(error) => return Ok(explain(rt, &error)),
+    };
+    let done = match job_of(&matches) {
+        Ok(job) => do_job(rt, job),
+        Err(fault) => Err(Fault::Words(fault)),
+    };
+    match done {
+        Ok(status) => Ok(status),
+        Err(fault) => Ok(report(rt, &fault)),
     }
 }
 
 fn main(rt: HostRuntime) -> ExitCode {
-    let ended = if has_words(&rt) {
-        Err(Fault::Words)
-    } else {
-        run_input(&rt)
-    };
-    match ended {
-        Ok(()) => ExitCode::SUCCESS,
-        Err(fault) => ExitCode::from(report(&rt, &fault)),
+    match obey(&rt) {
+        Ok(status) => ExitCode::from(status),
+        Err(fault) => ExitCode::from(report(&rt, &Fault::Run(fault))),
     }
 }

@@ -1,237 +1,216 @@
-use crate::input::{InputFault, read_all, split_input};
-use crate::rows::{
-    CLASH, CROSSING_CYCLE, EMPTY_SET, LET_WRAPS, NOT_SENT, ORDER_NOT_OF_BEGIN, PAYMENT, REFUSAL,
-    REPEATED_DELIVERY, RETURN_TO_ORIGIN, Row, SHARD_BORDER, UNFINISHED_CHAIN, WRAPPING_SUM,
-};
-use crate::run::{RunFault, run_texts};
+//! Tests of the words, of the files that they name, and of the fault lines.
+use crate::fault::Fault;
+use crate::jobs::do_job;
+use crate::words::{Job, WordsFault, command, job_of};
+use lynx_run::RunFault;
 use lynx_text::{FaultKind, TextFault};
 use std::alloc::Global;
-use std::io;
-use std::io::{Read, Write};
-use std::process::Abort;
+use std::fs;
+use std::rt::Files;
 use std::test::Fail;
 
-fn prints(rt: &impl Abort, alloc: Global, row: &Row) {
-    let mut printed = Vec::new(alloc);
-    let ended = run_texts(
-        alloc,
-        row.set.as_bytes(),
-        row.script.as_bytes(),
-        &mut printed,
-    );
-    assert!(rt; ended == Ok(()), "{}", row.name);
+/// A set that is accepted.
+const ACCEPTED: &str = "lynx 1\nservers 1\n";
+
+/// A set that offends: a payment, and a program that reads where it pays to.
+#[rattlefmt::skip]
+const OFFENDING: &str = "lynx 1\nservers 2\ntable acct\nshard 0 999 0\nshard 1000 18446744073709551615 1\nprogram pay n\nhop 0\nget x acct 0\nneed x >= n\nsub acct 0 n\nhop 1\nadd acct 1000 n\nend\nprogram note\nhop 1\nget z acct 1000\nend\n";
+
+/// A script over that set.
+const SCRIPT: &str = "begin 0 1 1 pay 0\nbegin 1 1 2 note\ndeliver 0:0 1\n";
+
+/// Whether these words ask for that.
+fn ask_for(alloc: Global, words: &[&str], want: Result<Job, WordsFault>) -> Result<bool, Fail> {
+    match command(alloc)?.try_get_matches_from(words) {
+        Ok(matches) => Ok(job_of(&matches) == want),
+        Err(_) => Ok(false),
+    }
+}
+
+#[test]
+fn words_ask_for_jobs(rt: HostRuntime) -> Result<(), Fail> {
+    let alloc = rt.alloc();
+    assert!(rt; ask_for(alloc, &["lynx"], Ok(Job::RunInput))?);
+    assert!(rt; ask_for(alloc, &["lynx", "run", "-"], Ok(Job::RunInput))?);
+    assert!(rt; ask_for(alloc, &["lynx", "check", "a"], Ok(Job::Check { set: "a" }))?);
+    let files = Job::Run {
+        set: "a",
+        script: "b",
+    };
+    assert!(rt; ask_for(alloc, &["lynx", "run", "a", "b"], Ok(files))?);
+    assert!(rt; ask_for(alloc, &["lynx", "run", "a"], Err(WordsFault::NoScript))?);
     assert!(rt;
-        printed.as_slice() == row.printed.as_bytes(),
-        "{}",
-        row.name
+        ask_for(
+            alloc,
+            &["lynx", "run", "-", "b"],
+            Err(WordsFault::ScriptTooMany)
+        )?
     );
+    Ok(())
 }
 
-#[test]
-fn worked_runs_of_payments(rt: HostRuntime) {
-    for row in [
-        PAYMENT,
-        REPEATED_DELIVERY,
-        REFUSAL,
-        CLASH,
-        WRAPPING_SUM,
-        CROSSING_CYCLE,
-    ] {
-        prints(&rt, rt.alloc(), &row);
+/// What the parser says of these words where it does not take them, and the exit status.
+fn refusal(alloc: Global, words: &[&str]) -> Result<(String, i32), Fail> {
+    match command(alloc)?.try_get_matches_from(words) {
+        Ok(_) => Ok((String::new(alloc), -1)),
+        Err(error) => Ok((error.to_string(alloc)?, error.exit_code())),
     }
 }
 
 #[test]
-fn worked_runs_of_other_sets(rt: HostRuntime) {
-    for row in [
-        LET_WRAPS,
-        SHARD_BORDER,
-        ORDER_NOT_OF_BEGIN,
-        RETURN_TO_ORIGIN,
-        NOT_SENT,
-        UNFINISHED_CHAIN,
-        EMPTY_SET,
-    ] {
-        prints(&rt, rt.alloc(), &row);
+fn other_words_are_refused(rt: HostRuntime) -> Result<(), Fail> {
+    let alloc = rt.alloc();
+    let cases: [&[&str]; 6] = [
+        &["lynx", "check"],
+        &["lynx", "check", "a", "b"],
+        &["lynx", "run"],
+        &["lynx", "run", "a", "b", "c"],
+        &["lynx", "judge"],
+        &["lynx", "--fast"],
+    ];
+    for words in cases {
+        let (said, status) = refusal(alloc, words)?;
+        assert!(rt; status == 2);
+        assert!(rt; said.as_str().contains("Usage: lynx"), "{said}");
     }
-}
-
-/// The fault of a script over the payment's set, as its kind and line.
-fn script_fault(alloc: Global, script: &str) -> Option<(FaultKind, usize)> {
-    let mut printed = Vec::new(alloc);
-    match run_texts(
-        alloc,
-        PAYMENT.set.as_bytes(),
-        script.as_bytes(),
-        &mut printed,
-    ) {
-        Err(RunFault::Script(TextFault { kind, line })) if printed.is_empty() => Some((kind, line)),
-        _ => None,
-    }
+    Ok(())
 }
 
 #[test]
-fn faults_of_scripts_in_their_order(rt: HostRuntime) {
-    let cases = [
-        ("wake 0\n", FaultKind::BadLine, 1),
-        ("begin 0 1 1 pay 1", FaultKind::BadLine, 1),
-        ("begin 0 1 1 pay 1\n\n", FaultKind::BadLine, 2),
-        ("begin 0 1 1\n", FaultKind::BadLine, 1),
-        ("begin 0  1 1 pay 1\n", FaultKind::BadLine, 1),
-        ("begin\t0 1 1 pay 1\n", FaultKind::BadLine, 1),
-        ("deliver 0 1\n", FaultKind::BadLine, 1),
-        ("deliver 0:0:0 1\n", FaultKind::BadLine, 1),
-        ("deliver 0:0\n", FaultKind::BadLine, 1),
+fn help_has_an_example(rt: HostRuntime) -> Result<(), Fail> {
+    let alloc = rt.alloc();
+    let cases: [(&[&str], &str); 3] = [
         (
-            "begin x 1 1 pay 1 2 3 4 5 6 7 8 9\n",
-            FaultKind::LimitPassed,
-            1,
+            &["lynx", "--help"],
+            "Example: lynx run payment.set payment.script",
         ),
-        ("begin 0 1 1 Pay 1\n", FaultKind::BadName, 1),
-        ("begin 0 1 1 nobody 01\n", FaultKind::Unknown, 1),
-        ("begin 2 x 1 pay 1\n", FaultKind::Unknown, 1),
-        ("begin 0 x 1 pay 1\n", FaultKind::BadNumber, 1),
         (
-            "begin 0 1 18446744073709551616 pay 1\n",
-            FaultKind::BadNumber,
-            1,
+            &["lynx", "check", "--help"],
+            "Example: lynx check payment.set",
         ),
-        ("begin 0 1 1 pay 01\n", FaultKind::BadNumber, 1),
-        ("deliver 2:0 1\n", FaultKind::Unknown, 1),
-        ("deliver 2:x 1\n", FaultKind::BadNumber, 1),
-        ("deliver 0:0 256\n", FaultKind::BadNumber, 1),
         (
-            "begin 0 1 1 seed 1\nbegin 0 1 2 seed 1\nbegin 0 1 3 seed x\nlose 0:0 1\n",
-            FaultKind::BadNumber,
-            3,
+            &["lynx", "run", "--help"],
+            "Example: lynx run payment.set payment.script",
         ),
     ];
-    for (script, kind, line) in cases {
-        assert!(rt;
-            script_fault(rt.alloc(), script) == Some((kind, line)),
-            "{script}"
-        );
-    }
-}
-
-#[test]
-fn a_script_past_the_limit_is_too_long(rt: HostRuntime) -> Result<(), Fail> {
-    let mut script = String::new(rt.alloc());
-    for _ in 0..8192 {
-        script.push_str("wake 10\n")?;
-    }
-    assert!(rt; script_fault(rt.alloc(), script.as_str()) == Some((FaultKind::BadLine, 1)));
-    script.push_str("\n")?;
-    assert!(rt; script_fault(rt.alloc(), script.as_str()) == Some((FaultKind::TooLong, 0)));
-    Ok(())
-}
-
-#[test]
-fn fault_lines_name_the_text_the_line_and_the_kind(rt: HostRuntime) -> Result<(), Fail> {
-    let alloc = rt.alloc();
-    let mut printed = Vec::new(alloc);
-    let set = run_texts(alloc, b"lynx 2\n", b"", &mut printed);
-    let script = run_texts(
-        alloc,
-        PAYMENT.set.as_bytes(),
-        b"begin 0 1 1 pay x\n",
-        &mut printed,
-    );
-    assert!(rt; printed.is_empty());
-    match (set, script) {
-        (Err(set), Err(script)) => {
-            assert!(rt; set.to_string(alloc)?.as_str() == "set line 1: bad-version");
-            assert!(rt; script.to_string(alloc)?.as_str() == "script line 1: bad-number");
-        }
-        _ => assert!(rt; false, "both texts are faulty"),
+    for (words, example) in cases {
+        let (said, status) = refusal(alloc, words)?;
+        assert!(rt; status == 0);
+        assert!(rt; said.as_str().contains(example), "{said}");
     }
     Ok(())
 }
 
-fn parts(input: &str) -> Option<(&[u8], &[u8])> {
-    split_input(input.as_bytes())
-}
-
 #[test]
-fn the_separator_is_a_whole_line(rt: HostRuntime) {
-    assert!(rt; parts("a\n--\nb\n") == Some((b"a\n".as_slice(), b"b\n".as_slice())));
-    assert!(rt; parts("--\n--\n") == Some((b"".as_slice(), b"--\n".as_slice())));
-    assert!(rt; parts("a\n--") == Some((b"a\n".as_slice(), b"".as_slice())));
-    assert!(rt; parts("a\n--x\n --\n---\n").is_none());
-    assert!(rt; parts("").is_none());
-    assert!(rt; parts("a--\n").is_none());
-}
-
-/// Gives a few bytes, and then fails.
-#[derive(Drop)]
-struct Failing {
-    left: usize,
-}
-
-impl Read for Failing {
-    fn read(&mut self, buffer: &mut [u8]) -> io::Result<usize> {
-        if self.left == 0 {
-            return Err(io::Error::from(io::ErrorKind::Other));
-        }
-        self.left -= 1;
-        if buffer.is_empty() {
-            return Ok(0);
-        }
-        buffer[0] = b'x';
-        Ok(1)
-    }
-}
-
-#[test]
-fn input_is_read_as_far_as_the_limit(rt: HostRuntime) -> Result<(), Fail> {
-    let alloc = rt.alloc();
-    let mut whole = b"0123456789".as_slice();
-    assert!(rt; read_all(alloc, &mut whole, 20).map(|bytes| bytes.len()) == Ok(10));
-    let mut longer = b"0123456789".as_slice();
-    assert!(rt; read_all(alloc, &mut longer, 4).map(|bytes| bytes.len()) == Ok(4));
-    assert!(rt; read_all(alloc, &mut Failing { left: 3 }, 4).is_err());
-    Ok(())
-}
-
-/// Takes so many writes, and then fails.
-#[derive(Drop)]
-struct Full {
-    left: usize,
-}
-
-impl Write for Full {
-    fn write(&mut self, bytes: &[u8]) -> io::Result<usize> {
-        if self.left == 0 {
-            return Err(io::Error::from(io::ErrorKind::Other));
-        }
-        self.left -= 1;
-        Ok(bytes.len())
-    }
-
-    fn flush(&mut self) -> io::Result<()> {
-        Ok(())
-    }
-}
-
-#[test]
-fn a_write_that_fails_ends_the_run(rt: HostRuntime) {
-    for left in 0..5 {
-        let mut writer = Full { left };
-        let ended = run_texts(
-            rt.alloc(),
-            PAYMENT.set.as_bytes(),
-            PAYMENT.script.as_bytes(),
-            &mut writer,
-        );
-        assert!(rt; ended == Err(RunFault::Write), "after {left} lines");
-    }
-    let mut writer = Full { left: 5 };
+fn files_are_judged_and_run(rt: HostRuntime) -> Result<(), Fail> {
+    fs::write(&rt, "accepted.set", ACCEPTED)?;
+    fs::write(&rt, "offending.set", OFFENDING)?;
+    fs::write(&rt, "offending.script", SCRIPT)?;
     assert!(rt;
-        run_texts(
-            rt.alloc(),
-            PAYMENT.set.as_bytes(),
-            PAYMENT.script.as_bytes(),
-            &mut writer
-        ) == Ok(())
+        do_job(
+            &rt,
+            Job::Check {
+                set: "accepted.set"
+            }
+        ) == Ok(0)
     );
+    assert!(rt;
+        do_job(
+            &rt,
+            Job::Check {
+                set: "offending.set"
+            }
+        ) == Ok(1)
+    );
+    let run = Job::Run {
+        set: "offending.set",
+        script: "offending.script",
+    };
+    assert!(rt; do_job(&rt, run) == Ok(0));
+    Ok(())
+}
+
+#[test]
+fn unreadable_files_are_named_in_the_order_of_the_words(rt: HostRuntime) -> Result<(), Fail> {
+    fs::write(&rt, "there.set", "no set")?;
+    assert!(rt; do_job(&rt, Job::Check { set: "absent" }) == Err(Fault::Unread("absent")));
+    assert!(rt; do_job(&rt, Job::Check { set: "." }) == Err(Fault::Unread(".")));
+    let both = Job::Run {
+        set: "absent",
+        script: "missing",
+    };
+    assert!(rt; do_job(&rt, both) == Err(Fault::Unread("absent")));
+    let script = Job::Run {
+        set: "there.set",
+        script: "missing",
+    };
+    assert!(rt; do_job(&rt, script) == Err(Fault::Unread("missing")));
+    Ok(())
+}
+
+fn write_spaces<R: Files + AllocGlobal>(rt: &R, path: &str, count: usize) -> Result<(), Fail> {
+    let mut text = Vec::new(rt.alloc());
+    text.resize(count, b' ')?;
+    fs::write(rt, path, text)?;
+    Ok(())
+}
+
+#[test]
+fn a_file_past_the_limit_is_too_long(rt: HostRuntime) -> Result<(), Fail> {
+    write_spaces(&rt, "longest", 65_536)?;
+    write_spaces(&rt, "longer", 65_537)?;
+    write_spaces(&rt, "endless", 200_000)?;
+    let bad_version = TextFault {
+        kind: FaultKind::BadVersion,
+        line: 1,
+    };
+    let too_long = TextFault {
+        kind: FaultKind::TooLong,
+        line: 0,
+    };
+    for (set, fault) in [
+        ("longest", bad_version),
+        ("longer", too_long),
+        ("endless", too_long),
+    ] {
+        let ended = do_job(&rt, Job::Check { set });
+        assert!(rt; ended == Err(Fault::Run(RunFault::Set(fault))), "{set}");
+    }
+    Ok(())
+}
+
+#[test]
+fn faults_have_a_line_and_a_status(rt: HostRuntime) -> Result<(), Fail> {
+    let fault = TextFault {
+        kind: FaultKind::BadNumber,
+        line: 3,
+    };
+    let cases = [
+        (Fault::Words(WordsFault::NoScript), "a script is missing", 2),
+        (
+            Fault::Words(WordsFault::ScriptTooMany),
+            "one script too many",
+            2,
+        ),
+        (Fault::NoSeparator, "no line -- found", 2),
+        (
+            Fault::Run(RunFault::Set(fault)),
+            "set line 3: bad-number",
+            2,
+        ),
+        (
+            Fault::Run(RunFault::Script(fault)),
+            "script line 3: bad-number",
+            2,
+        ),
+        (Fault::Run(RunFault::Memory), "out of memory", 3),
+        (Fault::Unread("-"), "cannot read -", 4),
+        (Fault::Unread("a.set"), "cannot read a.set", 4),
+        (Fault::Run(RunFault::Write), "cannot write", 4),
+    ];
+    for (fault, line, status) in cases {
+        assert!(rt; fault.to_string(rt.alloc())?.as_str() == line, "{line}");
+        assert!(rt; fault.status() == status, "{line}");
+    }
+    Ok(())
 }

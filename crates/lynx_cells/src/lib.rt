@@ -7,5 +7,3 @@ pub use changes::Changes;
 pub mod cells;
 pub mod changes;
 pub mod laws;
-#[cfg(test)]
-mod tests;

@@ -10,5 +10,3 @@ pub mod answer;
 pub mod entry;
 pub mod message;
 pub mod request;
-#[cfg(test)]
-mod tests;

@@ -12,6 +12,4 @@ pub mod foot;
 pub mod kind;
 pub mod laws;
 pub mod may_clash;
-#[cfg(test)]
-mod tests;
 pub mod touch;

@@ -16,7 +16,5 @@ mod nodes;
 mod reading;
 mod search;
 mod shortest;
-#[cfg(test)]
-mod tests;
 pub mod verdict;
 pub mod visit;

@@ -1,6 +1,7 @@
 //! The hops of a set as a graph: for each hop, the hops by which its program may be left, and those with which it
 //! may conflict.
-ghost use Rattle.std.specs.Prelude.{◌≡◌, ◌++◌, IfOk, OnOk, map};
+ghost use Rattle.std.specs.Prelude.{◌≡◌, ◌<◌, ◌++◌, IfOk, OnOk, map};
+ghost use Rattle.lynx_names.specs.declared.limits.TheConstants.{MAX_PROGRAMS};
 ghost use Rattle.lynx_graph.specs.Nodes.{exits_of, neighbours_of, node_of, nodes_of, places_in, places_of};
 
 use crate::joins::{Place, joins, origin_of};
@@ -80,12 +81,12 @@ fn add_places(set: &ChainSet, program: ProgramId, places: &mut Items<Place>) -> 
     Ok(())
 }
 
-/// The program of that number. No text spells a set that has one outside the range of `ProgramId`.
-fn program_of(number: usize) -> Result<ProgramId, Memory>
-    ensures { IfOk result (λ program. program ≡ number) }
+/// The program of that number.
+fn program_of(number: usize) -> ProgramId
+    requires { number < MAX_PROGRAMS }
+    ensures { result ≡ number }
 {
-    let number = u8::try_from(number).ok().ok_or(Memory)?;
-    ProgramId::new(number).ok_or(Memory)
+    ProgramId::new(number as u8).unwrap()
 }
 
 /// All hops of the set, by program and then by number.
@@ -94,7 +95,7 @@ fn places_of(alloc: Global, set: &ChainSet) -> Result<Items<Place>, Memory>
 {
     let mut places = Items::new(alloc);
     for number in 0..set.programs().len() {
-        add_places(set, program_of(number)?, &mut places)?;
+        add_places(set, program_of(number), &mut places)?;
     }
     Ok(places)
 }

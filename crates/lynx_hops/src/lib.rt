@@ -6,6 +6,4 @@ pub use run::{HopFault, run_hop};
 
 pub mod ran;
 pub mod run;
-#[cfg(test)]
-mod tests;
 pub mod value;

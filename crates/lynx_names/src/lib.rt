@@ -25,6 +25,3 @@ pub mod try_copy;
 
 /// A list of values: the arguments of a chain, or the results of one hop.
 pub type Values = Items<u64>;
-
-#[cfg(test)]
-mod tests;

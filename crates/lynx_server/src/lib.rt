@@ -8,7 +8,5 @@ mod checks;
 pub mod deliveries;
 mod messages;
 pub mod tables;
-#[cfg(test)]
-mod tests;
 mod turns;
 mod visits;

@@ -12,5 +12,3 @@ pub mod map;
 pub mod range;
 pub mod shard;
 pub mod table;
-#[cfg(test)]
-mod tests;

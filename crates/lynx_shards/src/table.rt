@@ -50,7 +50,9 @@ impl TableShards {
     }
 
     /// No shard was declared.
-    pub fn is_empty(&self) -> bool {
+    pub fn is_empty(&self) -> bool
+        ensures { result ≡ (length self.now == 0) }
+    {
         self.shards.is_empty()
     }
 

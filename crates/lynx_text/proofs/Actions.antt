@@ -12,10 +12,10 @@ use Rattle.lynx_text.specs.declared.action.Operator.TheVariants.{Plus, Minus}
 use Rattle.lynx_text.specs.declared.action.Relation.{Relation}
 use Rattle.lynx_text.specs.declared.action.Relation.TheVariants.{Below, AtMost, Same, Differs, AtLeast, Above}
 use Rattle.lynx_text.specs.declared.action_line.ActionLine.{ActionLine}
-use Rattle.lynx_text.specs.Lines.{◌>>=◌}
-use Rattle.lynx_text.specs.Word.{is_name}
+use Rattle.lynx_words.specs.Lines.{◌>>=◌, only_if}
+use Rattle.lynx_words.specs.Word.{is_name}
 use Rattle.lynx_text.specs.Rules.{IsNew, FitsKey, FitsOperand, FitsAction, BindsNew, bound}
-use Rattle.lynx_text.specs.Reading.{Place, place_of, only_if, name_of, new_name, table_of, key_of, operand_of, is_home, room, home, binding, plain, changing, operator_of, relation_of, get_of, change_of, let_of, need_of, action_of}
+use Rattle.lynx_text.specs.Reading.{Place, place_of, name_of, new_name, table_of, key_of, operand_of, is_home, room, home, binding, plain, changing, operator_of, relation_of, get_of, change_of, let_of, need_of, action_of}
 use Rattle.lynx_text.specs.Text.{name_at, key_word, operand_word, operator_word, relation_word, action_words}
 use Rattle.lynx_text.proofs.Lookups.{bind_some, only_if_some, map_some, choose, name_at-next, table_take, key_take, operand_take}
 

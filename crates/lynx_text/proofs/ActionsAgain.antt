@@ -12,11 +12,11 @@ use Rattle.lynx_text.specs.declared.action.Operator.TheVariants.{Plus, Minus}
 use Rattle.lynx_text.specs.declared.action.Relation.{Relation}
 use Rattle.lynx_text.specs.declared.action.Relation.TheVariants.{Below, AtMost, Same, Differs, AtLeast, Above}
 use Rattle.lynx_text.specs.declared.action_line.ActionLine.{ActionLine}
-use Rattle.lynx_text.specs.Lines.{◌>>=◌, is_word, AreWords}
-use Rattle.lynx_text.specs.Reading.{Place, only_if, new_name, table_of, key_of, operand_of, is_home, room, home, binding, plain, changing, operator_of, relation_of, get_of, change_of, let_of, need_of, action_of}
+use Rattle.lynx_words.specs.Lines.{◌>>=◌, is_word, AreWords, only_if}
+use Rattle.lynx_text.specs.Reading.{Place, new_name, table_of, key_of, operand_of, is_home, room, home, binding, plain, changing, operator_of, relation_of, get_of, change_of, let_of, need_of, action_of}
 use Rattle.lynx_text.specs.Rules.{IsNew, FitsOperand, FitsCell, FitsAction, BindsNew, bound}
 use Rattle.lynx_text.specs.Text.{name_at, key_word, operand_word, operator_word, relation_word, action_words}
-use Rattle.lynx_text.specs.WordLaws.{both_true, name-word}
+use Rattle.lynx_words.specs.WordLaws.{both_true, name-word}
 use Rattle.lynx_text.proofs.Lookups.{name_at-next}
 use Rattle.lynx_text.proofs.Known.{bind_is, only_if_yes, Known, new_again, table_again, key_again, operand_again}
 

@@ -8,15 +8,15 @@ use Rattle.std.proofs.lemmas.Slice.Eq.{bytes_eq-Decides}
 use Rattle.lynx_text.specs.declared.action.Action.{Action}
 use Rattle.lynx_text.specs.declared.action.Action.TheVariants.{Get, Set, Add, Sub, Let, Need}
 use Rattle.lynx_text.specs.declared.action_line.ActionLine.{ActionLine}
-use Rattle.lynx_text.specs.Digits.{read_number}
-use Rattle.lynx_text.specs.Lines.{◌>>=◌, next_piece, words_in, words_at, AreWords}
-use Rattle.lynx_text.specs.Parts.{one_after, parts, place_in, with_name, action_at, goes_action, hop_line, hop_at, goes_hop}
+use Rattle.lynx_words.specs.Digits.{read_number}
+use Rattle.lynx_words.specs.Lines.{◌>>=◌, next_piece, words_in, words_at, AreWords, one_after, only_if, joined}
+use Rattle.lynx_text.specs.Parts.{parts, place_in, with_name, action_at, goes_action, hop_line, hop_at, goes_hop}
 use Rattle.lynx_text.specs.Plain.{PlainHop, PlainProgram, PlainSet}
-use Rattle.lynx_text.specs.Reading.{Place, only_if, action_of}
+use Rattle.lynx_text.specs.Reading.{Place, action_of}
 use Rattle.lynx_text.specs.Rules.{bound, BindsNew, next_place, FitActions, FitHops, with_hop}
-use Rattle.lynx_text.specs.Text.{joined, bound_names, bound_in, action_words, action_lines}
-use Rattle.lynx_text.proofs.Numbers.{number_takes}
-use Rattle.lynx_text.proofs.Words.{words_take}
+use Rattle.lynx_text.specs.Text.{bound_names, bound_in, action_words, action_lines}
+use Rattle.lynx_words.specs.NumberLaws.{number_takes}
+use Rattle.lynx_words.specs.LineLaws.{words_take}
 use Rattle.lynx_text.proofs.Lookups.{bind_some, only_if_some, choose, both, both_is, none_some}
 use Rattle.lynx_text.proofs.Actions.{IsLine, action_take}
 

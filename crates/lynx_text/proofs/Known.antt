@@ -1,26 +1,23 @@
 -- Known names are found again at their places.
-use Rattle.std.proofs.Common.{◌≡◌, inl, inr, not, ℕ, suc, ◌+◌, ◌^◌, ◌<◌, ◌≤◌, Bool, true, false, cond, eqb, ltb, ◌&&◌, List, [], ◌∷◌, ◌++◌, length, Option, Some, None, is_none, refl, sym, ap, ◌∙◌, arith}
+use Rattle.std.proofs.Common.{◌≡◌, inl, inr, not, ℕ, ◌+◌, ◌<◌, ◌≤◌, Bool, true, false, cond, ltb, List, [], ◌∷◌, ◌++◌, length, Option, Some, None, is_none, refl, sym, ap, ◌∙◌, arith}
 use Rattle.std.specs.Prelude.{decimal, option_map}
-use Rattle.std.specs.List.{position_or_len, prefix_len, list_all}
-use Rattle.std.specs.Str.{bytes_eq, all_ascii_digits}
-use Rattle.std.specs.Char.{is_ascii_digit}
+use Rattle.std.specs.List.{position_or_len, prefix_len}
+use Rattle.std.specs.Str.{bytes_eq}
 use Rattle.std.proofs.lemmas.Bool.{ltb-true, lt-ltb, ltb-false, cases_lt}
-use Rattle.std.proofs.lemmas.Bool.Decides.{nat_tests}
 use Rattle.std.proofs.lemmas.List.{length_push}
 use Rattle.std.proofs.lemmas.Slice.Eq.{bytes_eq-Decides}
-use Rattle.std.proofs.lemmas.Fmt.{digits_decimal, decimal_nonempty}
 use Rattle.lynx_text.specs.declared.action.Key.{Key}
 use Rattle.lynx_text.specs.declared.action.Key.TheVariants.{Literal, Param}
 use Rattle.lynx_text.specs.declared.action.Operand.{Operand}
 use Rattle.lynx_text.specs.declared.action.Operand.TheVariants.{Number, Name}
-use Rattle.lynx_text.specs.Digits.{read_number}
-use Rattle.lynx_text.specs.Lines.{◌>>=◌, is_filled, is_graphic, is_word}
+use Rattle.lynx_words.specs.Digits.{read_number}
+use Rattle.lynx_words.specs.Lines.{◌>>=◌, is_word, only_if}
 use Rattle.lynx_text.specs.Rules.{FitsKey, FitsOperand, IsNew}
-use Rattle.lynx_text.specs.Word.{is_letter, is_name_byte, is_name}
-use Rattle.lynx_text.specs.Reading.{place_of, place_below, only_if, name_of, new_name, known_name, table_of, key_of, operand_of, begins_with_digit}
+use Rattle.lynx_words.specs.Word.{is_name}
+use Rattle.lynx_text.specs.Reading.{place_of, place_below, name_of, new_name, known_name, table_of, key_of, operand_of}
 use Rattle.lynx_text.specs.Text.{name_at, key_word, operand_word}
-use Rattle.lynx_text.specs.WordLaws.{and_true, both_true, cond_none, cond_some, name-no_digit, name-word, number-word, own}
-use Rattle.lynx_text.proofs.Numbers.{number_again}
+use Rattle.lynx_words.specs.WordLaws.{cond_none, cond_some, name-no_digit, name-word, number-word}
+use Rattle.lynx_words.specs.NumberLaws.{number_again}
 use Rattle.lynx_text.proofs.Lookups.{name_at-append, name_at-next}
 
 -- a step that is known

@@ -11,12 +11,8 @@ pub mod Programs
 pub mod Hops
 pub mod Actions
 pub mod Lookups
-pub mod Words
 pub mod Sets
 pub mod Loops
 pub mod Shapes
-pub mod Pieces
-pub mod Numbers
-pub mod Padding
 pub mod Same
 pub mod Texts

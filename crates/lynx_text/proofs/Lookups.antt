@@ -9,14 +9,14 @@ use Rattle.lynx_text.specs.declared.action.Key.{Key}
 use Rattle.lynx_text.specs.declared.action.Key.TheVariants.{Literal, Param}
 use Rattle.lynx_text.specs.declared.action.Operand.{Operand}
 use Rattle.lynx_text.specs.declared.action.Operand.TheVariants.{Number, Name}
-use Rattle.lynx_text.specs.Digits.{read_number}
-use Rattle.lynx_text.specs.Lines.{◌>>=◌}
+use Rattle.lynx_words.specs.Digits.{read_number, begins_with_digit}
+use Rattle.lynx_words.specs.Lines.{◌>>=◌, only_if}
 use Rattle.lynx_text.specs.Rules.{FitsKey, FitsOperand}
-use Rattle.lynx_text.specs.Word.{is_name}
-use Rattle.lynx_text.specs.Reading.{place_of, place_below, only_if, name_of, known_name, table_of, key_of, operand_of, begins_with_digit}
+use Rattle.lynx_words.specs.Word.{is_name}
+use Rattle.lynx_text.specs.Reading.{place_of, place_below, name_of, known_name, table_of, key_of, operand_of}
 use Rattle.lynx_text.specs.Text.{name_at, key_word, operand_word}
-use Rattle.lynx_text.specs.WordLaws.{cond_some}
-use Rattle.lynx_text.proofs.Numbers.{number_takes}
+use Rattle.lynx_words.specs.WordLaws.{cond_some}
+use Rattle.lynx_words.specs.NumberLaws.{number_takes}
 
 -- a step that gave a value
 pub bind_some : {A B : Type 0} (o : Option A) (f : A → Option B) (y : B) → (o >>= f) ≡ Some y → (x : A) × (o ≡ Some x) × (f x ≡ Some y)

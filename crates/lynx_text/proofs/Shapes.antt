@@ -1,12 +1,12 @@
 -- Lines with a wrong count of words aren't read.
 use Rattle.std.proofs.Common.{◌≡◌, ◌≢◌, ℕ, List, [], ◌∷◌, None, length, refl, arith}
 use Rattle.std.specs.Borrow.{Bor}
-use Rattle.lynx_text.specs.Lines.{texts}
+use Rattle.lynx_words.specs.Lines.{texts, only_if, one_after}
 use Rattle.std.proofs.Common.{◌<◌, get_or}
 use Rattle.std.specs.Prelude.{codes}
 use Rattle.std.specs.Str.{bytes_eq}
-use Rattle.lynx_text.specs.Reading.{Place, only_if, get_of, change_of, let_of, need_of}
-use Rattle.lynx_text.specs.Parts.{shard_line, program_line, one_after, end_line}
+use Rattle.lynx_text.specs.Reading.{Place, get_of, change_of, let_of, need_of}
+use Rattle.lynx_text.specs.Parts.{shard_line, program_line, end_line}
 
 pub get_of_other : (place : Place) (words : List (Bor (List ℕ))) → length words ≢ 3 → get_of place (texts words) ≡ None
 unfolding get_of

@@ -1,7 +1,3 @@
-pub mod Gives
-pub mod Digits
-pub mod Lines
-pub mod Name
 pub mod Parts
 pub mod Places
 pub mod Plain
@@ -9,5 +5,3 @@ pub mod Reading
 pub mod Rules
 pub mod Set
 pub mod Text
-pub mod Word
-pub mod WordLaws

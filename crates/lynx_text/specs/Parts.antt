@@ -1,20 +1,15 @@
 -- Reading the parts of a set, line after line; none where a line has a fault.
-use Rattle.std.specs.Prelude.{ℕ, zero, suc, ◌-◌, ◌^◌, Bool, true, false, not, ◌&&◌, List, [], ◌∷◌, ◌++◌, Option, Some, None, length, map, is_none, nat_lt, nat_le, ◌==◌, if◌then◌else◌, codes}
+use Rattle.std.specs.Prelude.{ℕ, zero, suc, ◌-◌, ◌^◌, Bool, not, ◌&&◌, List, [], ◌∷◌, ◌++◌, Option, Some, None, length, map, is_none, nat_lt, nat_le, ◌==◌, if◌then◌else◌, codes}
 use Rattle.std.specs.Str.{bytes_eq}
 use Rattle.lynx_shards.specs.declared.range.Range.{Range}
 use Rattle.lynx_shards.specs.declared.shard.Shard.{Shard}
 use Rattle.lynx_shards.specs.Ranges.{range_fault, last_key, next_key, shard_of}
 use Rattle.lynx_text.specs.declared.action.Action.{Action}
-use Rattle.lynx_text.specs.Digits.{read_number}
-use Rattle.lynx_text.specs.Lines.{◌>>=◌, next_piece, words_at, begins, is_version, is_feed}
+use Rattle.lynx_words.specs.Digits.{read_number}
+use Rattle.lynx_words.specs.Lines.{◌>>=◌, one_after, after_version, ends, words_at, begins, is_feed, only_if}
 use Rattle.std.specs.List.{slice_split}
 use Rattle.lynx_text.specs.Plain.{PlainProgram, PlainSet}
-use Rattle.lynx_text.specs.Reading.{Place, only_if, place_of, name_of, new_name, action_of}
-
--- the word after this first one, where there are two
-abbrev pub one_after : List ℕ → List (List ℕ) → Option (List ℕ)
-one_after first (word ∷ other ∷ []) = only_if (bytes_eq word first) other
-one_after first words = None
+use Rattle.lynx_text.specs.Reading.{Place, place_of, name_of, new_name, action_of}
 
 -- servers N
 unfoldable pub servers_of : List (List ℕ) → Option ℕ
@@ -152,11 +147,6 @@ program_at set lines = do
 abbrev pub goes_program : List (List ℕ) → Bool
 goes_program lines = begins lines (codes "program")
 
--- no line is left
-abbrev pub ends : List (List ℕ) → Bool
-ends ([] ∷ []) = true
-ends lines = false
-
 -- a set after the version's line
 unfoldable pub set_at : List (List ℕ) → Option PlainSet
 set_at lines = do
@@ -165,10 +155,6 @@ set_at lines = do
   tables ← parts goes_table table_at 64 (record { servers = servers; tables = []; shards = []; programs = [] }) words.1
   programs ← parts goes_program program_at 64 tables.0 tables.1
   only_if (ends programs.1) programs.0
-
--- the lines after the version's
-abbrev pub after_version : List (List ℕ) → Option (List (List ℕ))
-after_version lines = next_piece lines >>= λ next. only_if (is_version lines) next.1
 
 -- a set, from the version's line on
 unfoldable pub lines_at : List (List ℕ) → Option PlainSet

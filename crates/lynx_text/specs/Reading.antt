@@ -1,7 +1,6 @@
 -- Reading the lines of a set; none where a line has a fault.
-use Rattle.std.specs.Prelude.{ℕ, Bool, true, false, List, [], ◌∷◌, Option, Some, None, position, option_map, is_none, nat_lt, ◌==◌, if◌then◌else◌, codes}
+use Rattle.std.specs.Prelude.{ℕ, Bool, true, List, [], ◌∷◌, Option, Some, None, position, option_map, is_none, nat_lt, ◌==◌, if◌then◌else◌, codes}
 use Rattle.std.specs.Str.{bytes_eq}
-use Rattle.std.specs.Char.{is_ascii_digit}
 use Rattle.lynx_shards.specs.declared.shard.Shard.{Shard}
 use Rattle.lynx_shards.specs.Shards.{server_of}
 use Rattle.lynx_text.specs.declared.action.Action.{Action}
@@ -15,9 +14,9 @@ use Rattle.lynx_text.specs.declared.action.Operator.TheVariants.{Plus, Minus}
 use Rattle.lynx_text.specs.declared.action.Relation.{Relation}
 use Rattle.lynx_text.specs.declared.action.Relation.TheVariants.{Below, AtMost, Same, Differs, AtLeast, Above}
 use Rattle.lynx_text.specs.declared.action_line.ActionLine.{ActionLine}
-use Rattle.lynx_text.specs.Digits.{read_number}
-use Rattle.lynx_text.specs.Lines.{◌>>=◌}
-use Rattle.lynx_text.specs.Word.{is_name}
+use Rattle.lynx_words.specs.Digits.{read_number, begins_with_digit}
+use Rattle.lynx_words.specs.Lines.{◌>>=◌, only_if}
+use Rattle.lynx_words.specs.Word.{is_name}
 
 -- the place of a name
 abbrev pub place_of : List (List ℕ) → List ℕ → Option ℕ
@@ -26,10 +25,6 @@ place_of names name = position (λ known. bytes_eq known name) names
 -- the place of a name among the first
 abbrev pub place_below : ℕ → List (List ℕ) → List ℕ → Option ℕ
 place_below limit names name = place_of names name >>= λ place. if nat_lt place limit then Some place else None
-
--- a value, where a test holds
-abbrev pub only_if : {X : Type 0} → Bool → X → Option X
-only_if test x = if test then Some x else None
 
 -- a word that is a name
 abbrev pub name_of : List ℕ → Option (List ℕ)
@@ -46,10 +41,6 @@ known_name names word = name_of word >>= λ name. place_below 256 names name
 -- the number of a table
 abbrev pub table_of : List (List ℕ) → List ℕ → Option ℕ
 table_of tables word = name_of word >>= λ name. place_below 64 tables name
-
-abbrev pub begins_with_digit : List ℕ → Bool
-begins_with_digit [] = false
-begins_with_digit (byte ∷ bytes) = is_ascii_digit byte
 
 -- a number, or one of so many parameters
 abbrev pub key_of : List (List ℕ) → ℕ → List ℕ → Option Key

@@ -13,7 +13,7 @@ use Rattle.lynx_text.specs.Plain.{PlainHop, PlainProgram, PlainSet, plain_set}
 use Rattle.lynx_text.specs.Reading.{Place, place_of, is_home}
 use Rattle.lynx_text.specs.Set.{Set as ChainSet}
 use Rattle.lynx_text.specs.Text.{text_of}
-use Rattle.lynx_text.specs.Word.{is_name}
+use Rattle.lynx_words.specs.Word.{is_name}
 
 -- a new name, where these are known
 pub record IsNew (known : List (List ℕ)) (name : List ℕ) : Type 0 where

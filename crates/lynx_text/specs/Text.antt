@@ -14,20 +14,7 @@ use Rattle.lynx_text.specs.declared.action.Relation.TheVariants.{Below, AtMost, 
 use Rattle.lynx_text.specs.declared.program.Hop.{Hop}
 use Rattle.lynx_text.specs.declared.program.Program.{Program}
 use Rattle.lynx_text.specs.Set.{Set as ChainSet}
-
--- a space before each word
-abbrev pub spaced : List (List ℕ) → List ℕ
-spaced [] = []
-spaced (word ∷ words) = 32 ∷ word ++ spaced words
-
--- words with one space between two
-abbrev pub joined : List (List ℕ) → List ℕ
-joined [] = []
-joined (first ∷ words) = first ++ spaced words
-
--- a line: its words, and a line feed
-abbrev pub line : List (List ℕ) → List ℕ
-line words = joined words ++ 10 ∷ []
+use Rattle.lynx_words.specs.Lines.{line}
 
 -- lines, one after another
 abbrev pub text : List (List (List ℕ)) → List ℕ

@@ -2,17 +2,16 @@
 
 ghost use Rattle.std.specs.Prelude.{◌<◌, ◌≡◌, option_map, OnOk};
 ghost use Rattle.lynx_names.specs.declared.limits.TheConstants.{MAX_ACTIONS};
-ghost use Rattle.lynx_text.specs.Gives.{Gives};
-ghost use Rattle.lynx_text.specs.Lines.{texts};
+ghost use Rattle.lynx_words.specs.Gives.{Gives};
+ghost use Rattle.lynx_words.specs.Lines.{texts};
 ghost use Rattle.lynx_text.specs.Places.{place};
 ghost use Rattle.lynx_text.specs.Reading.{operator_of, relation_of, binding, plain, changing, get_of, change_of, let_of, need_of, action_of};
 
 use crate::action::{Action, Key, Operand, Operator, Relation};
-use crate::fault::FaultKind;
-use crate::lines::{four_words, three_words};
-use crate::name::Name;
 use crate::scope::Scope;
 use lynx_names::TableId;
+use lynx_words::lines::{four_words, three_words};
+use lynx_words::{FaultKind, Name};
 
 /// An action, and the name that its line binds.
 #[derive(Clone, Copy, Debug)]

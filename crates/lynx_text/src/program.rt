@@ -2,8 +2,8 @@ ghost use Rattle.std.specs.Prelude.{◌≤◌, length};
 ghost use Rattle.lynx_names.specs.declared.limits.TheConstants.{MAX_ACTIONS, MAX_HOPS, MAX_PARAMETERS};
 
 use crate::action::Action;
-use crate::name::Name;
 use lynx_names::{Items, Memory, ServerId, TryCopy};
+use lynx_words::Name;
 use std::alloc::Global;
 
 /// A hop of a program: its server, and its actions in order.

@@ -1,8 +1,8 @@
 //! Reading the text of a set.
 
 ghost use Rattle.std.specs.Prelude.{◌≡◌, ◌≢◌, ◌↔◌, ◌⊎◌, false, codes, IfErr, IsErrAnd, IsErrOf, ◌<◌, ◌≤◌, ◌+◌, ◌-◌, [], None, Some, length, map, OnOk, IfOk};
-ghost use Rattle.lynx_text.specs.Gives.{Gives, IsOfLine};
-ghost use Rattle.lynx_text.specs.Lines.{texts, is_version, until};
+ghost use Rattle.lynx_words.specs.Gives.{Gives, IsOfLine};
+ghost use Rattle.lynx_words.specs.Lines.{texts, is_version, until};
 ghost use Rattle.lynx_text.specs.Plain.{plain_set, plain_program};
 ghost use Rattle.lynx_text.specs.Rules.{IsSet};
 ghost use Rattle.lynx_text.specs.Set.{Set};
@@ -13,9 +13,6 @@ ghost use Rattle.lynx_names.specs.declared.limits.TheConstants.{MAX_ACTIONS, MAX
 
 use crate::action::Action;
 use crate::action_line::read_action;
-use crate::fault::{FaultKind, TextFault};
-use crate::lines::{Lines, four_words, one_after, two_and_more};
-use crate::name::Name;
 use crate::program::{Hop, Program};
 use crate::scope::{Scope, name_of, new_name, number_of};
 use crate::set::ChainSet;
@@ -24,6 +21,8 @@ use lynx_names::limits::{
 };
 use lynx_names::{Items, ServerId};
 use lynx_shards::{Range, ShardFault, TableShards};
+use lynx_words::lines::{four_words, one_after, two_and_more};
+use lynx_words::{FaultKind, Lines, Name, TextFault};
 use std::alloc::Global;
 
 /// The set that the text spells. An error tells the fault on the earliest line, or want of memory.

@@ -2,17 +2,17 @@
 
 ghost use Rattle.std.specs.Prelude.{◌<◌, ◌≡◌, true, false, nat_lt, IfOk, OnOk};
 ghost use Rattle.lynx_names.specs.declared.limits.TheConstants.{MAX_ACTIONS};
-ghost use Rattle.lynx_text.specs.Digits.{read_number};
-ghost use Rattle.lynx_text.specs.Gives.{Gives};
-ghost use Rattle.lynx_text.specs.Reading.{place_of, place_below, only_if, name_of, new_name, known_name, table_of, begins_with_digit, key_of, operand_of, is_home};
+ghost use Rattle.lynx_words.specs.Digits.{read_number, begins_with_digit};
+ghost use Rattle.lynx_words.specs.Gives.{Gives};
+ghost use Rattle.lynx_text.specs.Reading.{place_of, place_below, name_of, new_name, known_name, table_of, key_of, operand_of, is_home};
+ghost use Rattle.lynx_words.specs.Lines.{only_if};
 
 use crate::action::{Key, Operand};
-use crate::fault::FaultKind;
-use crate::name::Name;
-use crate::number::number;
 use crate::set::ChainSet;
 use lynx_names::limits::MAX_ACTIONS;
 use lynx_names::{ServerId, TableId};
+use lynx_words::number::number;
+use lynx_words::{FaultKind, Name};
 
 /// What an action may name, and where it stands.
 #[derive(Clone, Copy)]

@@ -1,15 +1,15 @@
-ghost use Rattle.std.specs.Prelude.{◌≡◌, ◌≤◌, ◌++◌, ◌∷◌, [], None, OnOk, length, slice_get, option_copied, option_map, map, IfOk};
-ghost use Rattle.lynx_names.specs.declared.limits.TheConstants.{MAX_SERVERS};
+ghost use Rattle.std.specs.Prelude.{◌≡◌, ◌<◌, ◌≤◌, ◌++◌, ◌∷◌, [], None, OnOk, length, slice_get, option_copied, option_map, map, IfOk};
+ghost use Rattle.lynx_names.specs.declared.limits.TheConstants.{MAX_PROGRAMS, MAX_SERVERS};
 ghost use Rattle.lynx_shards.specs.Ranges.{Covers};
 ghost use Rattle.lynx_text.specs.Plain.{plain_set, plain_program};
 ghost use Rattle.lynx_text.specs.Reading.{place_of, place_below};
 
-use crate::name::Name;
 use crate::program::Program;
 use indexmap::{IndexMap, IndexSet};
 use lynx_names::limits::{MAX_PROGRAMS, MAX_TABLES};
 use lynx_names::{Memory, ProgramId, TableId, TryCopy};
 use lynx_shards::{ShardMap, TableShards};
+use lynx_words::Name;
 use std::alloc::Global;
 use std::marker::Model;
 
@@ -34,10 +34,13 @@ impl Model for ChainSet {
       programs = set.programs.entries;
     } };
 
-    ghost use Rattle.std.specs.Prelude.{◌≤◌};
-    ghost use Rattle.lynx_names.specs.declared.limits.TheConstants.{MAX_SERVERS};
+    ghost use Rattle.std.specs.Prelude.{◌≤◌, length};
+    ghost use Rattle.lynx_names.specs.declared.limits.TheConstants.{MAX_PROGRAMS, MAX_SERVERS};
 
-    ghost invariant = { λ set. set.servers ≤ MAX_SERVERS };
+    ghost invariant = { λ set. record {
+      few_servers : set.servers ≤ MAX_SERVERS;
+      few_programs : length set.programs.entries ≤ MAX_PROGRAMS;
+    } };
 }
 
 impl ChainSet {
@@ -78,7 +81,8 @@ impl ChainSet {
 
     /// Its programs under their names.
     pub fn programs(&self) -> &IndexMap<Name, Program>
-        ensures { result.now.entries ≡ self.now.programs }
+        ensures value { result.now.entries ≡ self.now.programs }
+        ensures few { length result.now.entries ≤ MAX_PROGRAMS }
     {
         &self.programs
     }
@@ -145,7 +149,8 @@ impl ChainSet {
 
     /// Adds a program of this name, which is new.
     pub(crate) fn add_program(&mut self, name: Name, program: Program) -> Result<(), Memory>
-        requires { place_of (map (λ named. named.0) self.old.programs) name ≡ None }
+        requires new { place_of (map (λ named. named.0) self.old.programs) name ≡ None }
+        requires few { length self.old.programs < MAX_PROGRAMS }
         ensures ok { OnOk result (self.new ≡ record self.old { programs = self.old.programs ++ (name, program) ∷ [] }) }
         ensures plain { OnOk result (plain_set self.new ≡ record (plain_set self.old) {
           programs = (plain_set self.old).programs ++ (name, plain_program program) ∷ [];

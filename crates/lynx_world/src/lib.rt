@@ -11,6 +11,4 @@ pub mod event;
 pub mod laws;
 pub mod placed;
 mod sending;
-#[cfg(test)]
-mod worked_runs;
 pub mod world;

@@ -5,4 +5,4 @@ use Rattle.lynx_graph.proofs.nodes.places_of.Goals as goal
 pub loop-number-preserved : goal.loop-number-preserved
 loop-number-preserved c =
     let more = flat_map-range_more (places_in c.args.set.now) c.loop-number.number in
-    cc (more, c.in_ok-add_places.ensures, c.in_ok-program_of.ensures, c.loop-number.invariant)
+    cc (more, c.in_ok-add_places.ensures, c.program_of.ensures, c.loop-number.invariant)

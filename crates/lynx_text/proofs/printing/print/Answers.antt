@@ -13,4 +13,4 @@ returns c =
     ∙ ap (λ tables. c.put_head.new.out.items ++ text (tables_lines set.tables tables)) (c.tables-2.ensures.value ∙ c.shards.ensures))
     (c.in_ok-put_programs.ensures
     ∙ ap (λ names. c.put_tables.new.out.items ++ text (programs_lines names c.programs.result.now.entries)) (c.as_slice-2.ensures.keys ∙ c.tables-3.ensures)
-    ∙ ap (λ programs. c.put_tables.new.out.items ++ text (programs_lines set.tables programs)) c.programs.ensures)
+    ∙ ap (λ programs. c.put_tables.new.out.items ++ text (programs_lines set.tables programs)) c.programs.ensures.value)

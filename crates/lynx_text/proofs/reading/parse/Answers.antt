@@ -1,7 +1,7 @@
 use Rattle.std.proofs.Common.{◌≡◌, ◌≢◌, ◌⊎◌, inl, inr, List, ℕ, Some, None, Result, Ok, Err, sym, ap, ◌∙◌}
 use Rattle.std.specs.Prelude.{IfOk, IfErr}
-use Rattle.lynx_text.specs.declared.fault.FaultKind.TheVariants.{Memory}
-use Rattle.lynx_text.specs.declared.fault.TextFault.{TextFault}
+use Rattle.lynx_words.specs.declared.fault.FaultKind.TheVariants.{Memory}
+use Rattle.lynx_words.specs.declared.fault.TextFault.{TextFault}
 use Rattle.lynx_text.specs.Parts.{read_text}
 use Rattle.lynx_text.specs.Plain.{plain_set}
 use Rattle.lynx_text.specs.Rules.{IsSet}

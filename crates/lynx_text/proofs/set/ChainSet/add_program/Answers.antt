@@ -9,7 +9,7 @@ pub returns-clause-ok : goal.returns-clause-ok
 returns-clause-ok c =
     let programs = c.self.inside.programs.entries in
     let names = map (λ entry. entry.0) programs in
-    let new : place_of names c.args.name ≡ None = ap (λ (s : Set). place_of (map (λ named. named.0) s.programs) c.args.name) c.self.view_is ∙ c.requires in
+    let new : place_of names c.args.name ≡ None = ap (λ (s : Set). place_of (map (λ named. named.0) s.programs) c.args.name) c.self.view_is ∙ c.requires.new in
     one_more_program c.args.self.now c.self.inside.servers c.self.inside.tables.keys c.self.inside.shards programs c.insert.new.self.entries (c.args.name, c.args.program)
     c.self.view_is (c.in_ok-insert.ensures.entries ∙ insert_entry-new programs c.args.name c.args.program (none_same names c.args.name new))
 
@@ -17,7 +17,7 @@ pub returns-clause-plain : goal.returns-clause-plain
 returns-clause-plain c =
     let programs = c.self.inside.programs.entries in
     let names = map (λ entry. entry.0) programs in
-    let new : place_of names c.args.name ≡ None = ap (λ (s : Set). place_of (map (λ named. named.0) s.programs) c.args.name) c.self.view_is ∙ c.requires in
+    let new : place_of names c.args.name ≡ None = ap (λ (s : Set). place_of (map (λ named. named.0) s.programs) c.args.name) c.self.view_is ∙ c.requires.new in
     plain_more c.args.self.now _ c.args.name c.args.program
     (one_more_program c.args.self.now c.self.inside.servers c.self.inside.tables.keys c.self.inside.shards programs c.insert.new.self.entries (c.args.name, c.args.program)
     c.self.view_is (c.in_ok-insert.ensures.entries ∙ insert_entry-new programs c.args.name c.args.program (none_same names c.args.name new)))

@@ -1,0 +1,198 @@
+//! A run: a set text and a script in, lines out.
+ghost use Rattle.std.specs.Prelude.{◌≡◌, ◌⊎◌, ℕ, List, [], ◌++◌, OnOk, IfOk, IfErr, slice_get, unwrap_or};
+ghost use Rattle.std.specs.List.Sorted.{IsPermutation, IsSorted};
+ghost use Rattle.lynx_world.specs.Tables.{cells_of, triple_cmp};
+ghost use Rattle.lynx_world.specs.Steps.{step};
+ghost use Rattle.lynx_print.specs.Printed.{line, outcome_text};
+ghost use Rattle.lynx_text.specs.Rules.{IsSet};
+ghost use Rattle.lynx_text.specs.Text.{text_of};
+ghost use Rattle.lynx_run.specs.Runs.{new_world, world_after, outcome_lines, cell_lines, Prints, IsNoSet, IsNoScript, IsLate, StopsFor};
+ghost use Rattle.lynx_script.specs.Scripts.{IsScript, script_of};
+ghost use Rattle.std.specs.Io.KnownBytes.{Appends, Keeps};
+
+use lynx_names::{Memory, TableId};
+use lynx_print::{cell_line, outcome_line};
+use lynx_script::parse_script;
+use lynx_text::{ChainSet, FaultKind, TextFault, parse};
+use lynx_world::{Event, Outcome, World};
+use std::alloc::{AllocError, Global};
+use std::io::Write;
+use thiserror::Error;
+
+/// Why a run stopped. What was written before stands.
+#[derive(Clone, Copy, Debug, PartialEq, Eq, Error)]
+pub enum RunFault {
+    /// The set text is faulty. It is never for want of memory.
+    #[error("set {0}")]
+    Set(TextFault),
+    /// The script is faulty. It is never for want of memory.
+    #[error("script {0}")]
+    Script(TextFault),
+    #[error("cannot write")]
+    Write,
+    #[error("out of memory")]
+    Memory,
+}
+
+impl From<Memory> for RunFault {
+    ghost use Rattle.std.specs.Prelude.{◌≡◌};
+    ghost use Rattle.lynx_run.specs.declared.run.RunFault.TheVariants.{Memory as NoMemory};
+
+    ghost from_gives = { λ _ fault. fault ≡ NoMemory };
+
+    fn from(_: Memory) -> RunFault {
+        RunFault::Memory
+    }
+}
+
+impl From<AllocError> for RunFault {
+    ghost use Rattle.std.specs.Prelude.{◌≡◌};
+    ghost use Rattle.lynx_run.specs.declared.run.RunFault.TheVariants.{Memory as NoMemory};
+
+    ghost from_gives = { λ _ fault. fault ≡ NoMemory };
+
+    fn from(_: AllocError) -> RunFault {
+        RunFault::Memory
+    }
+}
+
+/// The set that a text spells.
+pub(crate) fn read_set(alloc: Global, text: &[u8]) -> Result<ChainSet, RunFault>
+    ensures found { IfOk result (λ set. IsSet set × (text.now ≡ text_of set)) }
+    ensures only { IfErr result (λ fault. (fault ≡ RunFault.Memory) ⊎ ((found : TextFault) × (fault ≡ RunFault.Set found) × IsNoSet text.now)) }
+{
+    match parse(alloc, text) {
+        Ok(set) => Ok(set),
+        Err(fault) => match fault.kind {
+            FaultKind::Memory => Err(RunFault::Memory),
+            _ => Err(RunFault::Set(fault)),
+        },
+    }
+}
+
+/// The events that a script spells.
+fn read_script(alloc: Global, set: &ChainSet, text: &[u8]) -> Result<Vec<Event>, RunFault>
+    ensures found { IfOk result (λ events. IsScript set.now events.items × (text.now ≡ script_of set.now events.items)) }
+    ensures only { IfErr result (λ fault. (fault ≡ RunFault.Memory) ⊎ ((found : TextFault) × (fault ≡ RunFault.Script found) × IsNoScript set.now text.now)) }
+{
+    match parse_script(alloc, set, text) {
+        Ok(events) => Ok(events),
+        Err(fault) => match fault.kind {
+            FaultKind::Memory => Err(RunFault::Memory),
+            _ => Err(RunFault::Script(fault)),
+        },
+    }
+}
+
+pub(crate) fn write_line<W: Write>(writer: &mut W, line: &[u8]) -> Result<(), RunFault>
+    ensures line { OnOk result (Appends (W.contents writer.old) (W.contents writer.new) line.now) }
+    ensures late { IfErr result IsLate }
+{
+    writer.write_all(line).map_err(|_| RunFault::Write)
+}
+
+/// Runs one event, and writes its line.
+fn run_event<W: Write>(
+    alloc: Global,
+    world: &mut World,
+    event: Event,
+    writer: &mut W,
+) -> Result<(), RunFault>
+    ensures worlds { OnOk result (world.new ≡ (step 0 world.old event).world) }
+    ensures lines { OnOk result (Appends (W.contents writer.old) (W.contents writer.new) (line (outcome_text (step 0 world.old event).outcome))) }
+    ensures late { IfErr result IsLate }
+{
+    let outcome = world.apply(alloc, event);
+    if let Outcome::Memory = outcome {
+        return Err(RunFault::Memory);
+    }
+    let line = outcome_line(alloc, &outcome)?;
+    write_line(writer, line.as_bytes())
+}
+
+/// Runs the events in order, and writes a line for each.
+pub fn run_events<W: Write>(
+    alloc: Global,
+    world: &mut World,
+    events: Vec<Event>,
+    writer: &mut W,
+) -> Result<(), RunFault>
+    ensures worlds { OnOk result (world.new ≡ world_after world.old events.items) }
+    ensures lines { OnOk result (Appends (W.contents writer.old) (W.contents writer.new) (outcome_lines world.old events.items)) }
+    ensures late { IfErr result IsLate }
+{
+    for event in events {
+        run_event(alloc, world, event, writer)?;
+    }
+    Ok(())
+}
+
+/// Writes a line for each nonzero cell, tables in order of declaration, keys rising.
+pub fn write_cells<W: Write>(alloc: Global, world: &World, writer: &mut W) -> Result<(), RunFault>
+    ensures cells { OnOk result ((cells : List (ℕ × ℕ × ℕ)) × IsPermutation (cells_of world.now) cells × IsSorted triple_cmp cells
+        × Appends (W.contents writer.old) (W.contents writer.new) (cell_lines world.now.set.tables cells)) }
+    ensures late { IfErr result IsLate }
+{
+    let cells = world.cells(alloc)?;
+    write_each_cell(alloc, world.set(), cells.as_slice(), writer)
+}
+
+/// Writes a line for each of the cells.
+fn write_each_cell<W: Write>(
+    alloc: Global,
+    set: &ChainSet,
+    cells: &[(TableId, u64, u64)],
+    writer: &mut W,
+) -> Result<(), RunFault>
+    ensures lines { OnOk result (Appends (W.contents writer.old) (W.contents writer.new) (cell_lines set.now.tables cells.now)) }
+    ensures late { IfErr result IsLate }
+{
+    for (table, key, value) in cells {
+        let line = cell_line(alloc, table_name(set, *table), *key, *value)?;
+        write_line(writer, line.as_slice())?;
+    }
+    Ok(())
+}
+
+/// The name of a table of the set.
+fn table_name(set: &ChainSet, table: TableId) -> &[u8]
+    ensures { result.now ≡ unwrap_or (slice_get set.now.tables table) [] }
+{
+    match set.tables().get_index(table.index()) {
+        Some(name) => name.as_bytes(),
+        None => &[],
+    }
+}
+
+/// Runs the events in a new world, and writes the line of each and then those of the cells.
+fn run_script<W: Write>(
+    alloc: Global,
+    set: ChainSet,
+    events: Vec<Event>,
+    writer: &mut W,
+) -> Result<(), RunFault>
+    ensures ok { OnOk result ((cells : List (ℕ × ℕ × ℕ)) × IsPermutation (cells_of (world_after (new_world set) events.items)) cells × IsSorted triple_cmp cells
+        × Appends (W.contents writer.old) (W.contents writer.new)
+        (outcome_lines (new_world set) events.items ++ cell_lines (world_after (new_world set) events.items).set.tables cells)) }
+    ensures late { IfErr result IsLate }
+{
+    let mut world = World::new(alloc, set)?;
+    run_events(alloc, &mut world, events, writer)?;
+    write_cells(alloc, &world, writer)
+}
+
+/// Judges the set text and then the script, runs the script in a new world, and writes a line for each event and
+/// then a line for each nonzero cell.
+pub fn run_texts<W: Write>(
+    alloc: Global,
+    set: &[u8],
+    script: &[u8],
+    writer: &mut W,
+) -> Result<(), RunFault>
+    ensures ok { OnOk result ((printed : List ℕ) × Prints set.now script.now printed × Appends (W.contents writer.old) (W.contents writer.new) printed) }
+    ensures err { IfErr result (λ fault. StopsFor set.now script.now (Keeps (W.contents writer.old) (W.contents writer.new)) fault) }
+{
+    let set = read_set(alloc, set)?;
+    let events = read_script(alloc, &set, script)?;
+    run_script(alloc, set, events, writer)
+}

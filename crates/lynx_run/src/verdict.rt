@@ -1,0 +1,118 @@
+//! The verdict on a set, as it is printed: docs/FORMATS.md has the lines.
+ghost use Rattle.std.specs.Prelude.{◌≡◌, ◌⊎◌, ℕ, List, [], OnOk, IfOk, IfErr, codes, take};
+ghost use Rattle.std.specs.List.{flat_map};
+ghost use Rattle.std.specs.Io.KnownBytes.{Appends, Keeps};
+ghost use Rattle.lynx_graph.specs.Walks.{IsAccepted, IsOffending};
+ghost use Rattle.lynx_text.specs.Rules.{IsSet};
+ghost use Rattle.lynx_print.specs.Printed.{line};
+ghost use Rattle.lynx_run.specs.Runs.{IsLate};
+ghost use Rattle.lynx_run.specs.Checks.{edge_line, edge_lines, edges, program_name, IsVerdict, Finds, NoVerdictFor};
+
+use crate::run::{RunFault, read_set, write_line};
+use lynx_graph::{Verdict, Visit, check};
+use lynx_names::ProgramId;
+use lynx_print::conflict_line;
+use lynx_text::ChainSet;
+use std::alloc::{AllocError, Global};
+use std::io::Write;
+
+/// What was found of a set.
+#[derive(Clone, Copy, Debug, PartialEq, Eq)]
+pub enum Finding {
+    Accepted,
+    Offending,
+}
+
+/// Judges a set text, and writes `accepted`, or `offending` and a line for each conflict edge of a walk that
+/// offends. `RunFault::Script` is never its fault.
+pub fn check_text<W: Write>(alloc: Global, set: &[u8], writer: &mut W) -> Result<Finding, RunFault>
+    ensures ok { IfOk result (λ finding. (printed : List ℕ) × Finds set.now finding printed × Appends (W.contents writer.old) (W.contents writer.new) printed) }
+    ensures err { IfErr result (λ fault. NoVerdictFor set.now (Keeps (W.contents writer.old) (W.contents writer.new)) fault) }
+{
+    let set = read_set(alloc, set)?;
+    check_set(alloc, &set, writer)
+}
+
+/// Judges a set, and writes its verdict.
+fn check_set<W: Write>(alloc: Global, set: &ChainSet, writer: &mut W) -> Result<Finding, RunFault>
+    ensures ok { IfOk result (λ finding. (printed : List ℕ) × IsVerdict set.now finding printed × Appends (W.contents writer.old) (W.contents writer.new) printed) }
+    ensures late { IfErr result IsLate }
+{
+    match check(alloc, set)? {
+        Verdict::Accepted(_) => {
+            write_line(writer, b"accepted\n")?;
+            Ok(Finding::Accepted)
+        }
+        Verdict::Offending(walk) => {
+            write_line(writer, b"offending\n")?;
+            write_walk(alloc, set, walk.as_slice(), writer)?;
+            Ok(Finding::Offending)
+        }
+    }
+}
+
+/// The conflict edges of a walk: each visit with the next, and the last with the first.
+fn edges_of(alloc: Global, walk: &[Visit]) -> Result<Vec<(Visit, Visit)>, AllocError>
+    ensures { IfOk result (λ found. found.items ≡ edges walk.now) }
+{
+    let next = walk.iter().skip(1).chain(walk.iter().take(1));
+    walk.iter()
+        .zip(next)
+        .map(|(visit, next)| (*visit, *next))
+        .collect(alloc)
+}
+
+/// Writes a line for each conflict edge of a walk.
+fn write_walk<W: Write>(
+    alloc: Global,
+    set: &ChainSet,
+    walk: &[Visit],
+    writer: &mut W,
+) -> Result<(), RunFault>
+    ensures lines { OnOk result (Appends (W.contents writer.old) (W.contents writer.new) (edge_lines set.now walk.now)) }
+    ensures late { IfErr result IsLate }
+{
+    let edges = edges_of(alloc, walk)?;
+    write_edges(alloc, set, edges.as_slice(), writer)
+}
+
+/// Writes a line for each of the conflict edges.
+fn write_edges<W: Write>(
+    alloc: Global,
+    set: &ChainSet,
+    edges: &[(Visit, Visit)],
+    writer: &mut W,
+) -> Result<(), RunFault>
+    ensures lines { OnOk result (Appends (W.contents writer.old) (W.contents writer.new) (flat_map (edge_line set.now) edges.now)) }
+    ensures late { IfErr result IsLate }
+{
+    for (visit, next) in edges {
+        let line = edge_line(alloc, set, *visit, *next)?;
+        write_line(writer, line.as_slice())?;
+    }
+    Ok(())
+}
+
+/// The line of a conflict edge.
+fn edge_line(
+    alloc: Global,
+    set: &ChainSet,
+    visit: Visit,
+    next: Visit,
+) -> Result<Vec<u8>, AllocError>
+    ensures { IfOk result (λ text. text.items ≡ edge_line set.now (visit, next)) }
+{
+    let program = program_name(set, visit.program);
+    let next_program = program_name(set, next.program);
+    conflict_line(alloc, program, visit.left, next_program, next.entered)
+}
+
+/// The name of a program of the set.
+fn program_name(set: &ChainSet, program: ProgramId) -> &[u8]
+    ensures { result.now ≡ program_name set.now program }
+{
+    match set.programs().get_index(program.index()) {
+        Some((name, _)) => name.as_bytes(),
+        None => &[],
+    }
+}

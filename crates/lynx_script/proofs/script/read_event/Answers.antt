@@ -1,0 +1,16 @@
+use Rattle.std.proofs.Common.{rules}
+use Rattle.std.proofs.lemmas.Result.{err_from_is_err_and}
+use Rattle.lynx_words.specs.Lines.{texts}
+use Rattle.lynx_script.proofs.EventLemmas.{no_begin, no_deliver}
+use Rattle.lynx_script.proofs.SpelledLemmas.{fails_so}
+use Rattle.lynx_script.proofs.script.read_event.Goals as goal
+
+pub returns-in_err-server : goal.returns-in_err-server
+returns-in_err-server c =
+    let p = err_from_is_err_and c.from_residual.result c.from_residual.ensures.1 in
+    rw (p.1, p.2) (fails_so c.in_err-server.field-0.0 _ _ (no_begin c.args.set.now (texts c.args.words.now) (texts c.in-Some.words.now) (search rules)) c.in_err-server.ensures)
+
+pub returns-in_err-chain : goal.returns-in_err-chain
+returns-in_err-chain c =
+    let p = err_from_is_err_and c.from_residual-in_err-chain.result c.from_residual-in_err-chain.ensures.1 in
+    rw (p.1, p.2) (fails_so c.in_err-chain.field-0.0 _ _ (no_deliver c.args.set.now (texts c.args.words.now) (texts c.in-Some.words.now) (search rules)) c.in_err-chain.ensures)

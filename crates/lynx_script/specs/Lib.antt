@@ -1,0 +1,3 @@
+pub mod Inputs
+pub mod Scripts
+pub mod Spelled

@@ -1,0 +1,16 @@
+-- What a reader answers of what is written: a value that is spelled so, or why none is.
+use Rattle.std.specs.Prelude.{◌≡◌, ◌≢◌, Result, Ok, Err}
+use Rattle.lynx_words.specs.declared.fault.FaultKind.{FaultKind}
+use Rattle.lynx_words.specs.declared.fault.FaultKind.TheVariants.{Memory, TooLong, BadVersion}
+
+-- a fault of a line is answered only so, want of memory at any time, and no other fault
+abbrev pub Fails : FaultKind → Type 0 → Type 0
+Fails Memory only = Unit {0}
+Fails TooLong only = ⊥
+Fails BadVersion only = ⊥
+Fails kind only = only
+
+-- what is read fits and is spelled so; a fault of a line means that nothing that fits is spelled so
+abbrev pub IsRead : {X W : Type 0} → (X → Type 0) → (X → W) → W → Result X FaultKind → Type 0
+IsRead fits spelling written (Ok value) = fits value × (written ≡ spelling value)
+IsRead {X} fits spelling written (Err kind) = Fails kind ((value : X) → fits value → written ≢ spelling value)

@@ -1,0 +1,9 @@
+pub mod Digits
+pub mod Gives
+pub mod LineLaws
+pub mod Lines
+pub mod Name
+pub mod NumberLaws
+pub mod PieceLaws
+pub mod Word
+pub mod WordLaws

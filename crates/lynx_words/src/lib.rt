@@ -1,0 +1,11 @@
+//! Words, lines, numbers and names of texts, and the faults of texts.
+#![tactic(auto)]
+
+pub use fault::{FaultKind, TextFault};
+pub use lines::Lines;
+pub use name::Name;
+
+pub mod fault;
+pub mod lines;
+pub mod name;
+pub mod number;

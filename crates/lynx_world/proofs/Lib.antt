@@ -18,3 +18,4 @@ pub mod Turns
 pub mod Ran
 pub mod Formed
 pub mod Answered
+pub mod Origins

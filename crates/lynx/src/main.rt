@@ -1,21 +1,14 @@
 //! `lynx`: judges sets of chain programs, and runs scripts over them.
 #![tactic(auto)]
 
-use crate::fault::Fault;
-use crate::jobs::do_job;
-use crate::words::{command, job_of};
-use clap::Error;
 use clap::error::ErrorKind;
+use clap::{ArgMatches, Error};
+use lynx_command::{command, job_of};
+use lynx_jobs::{Fault, do_job};
 use lynx_run::RunFault;
 use std::env;
 use std::process::ExitCode;
 use std::rt::{Env, Files};
-
-mod fault;
-mod jobs;
-#[cfg(test)]
-mod tests;
-mod words;
 
 /// Prints the one line of a fault, and gives its status.
 fn report<R: Eprint>(rt: &R, fault: &Fault) -> u8 {
@@ -34,29 +27,47 @@ fn explain<R: Print + Eprint>(rt: &R, error: &Error) -> u8 {
     }
 }
 
-/// Reads the words, does what they ask for, and gives the status.
-fn obey<R: Env + Input + Files + Print + Eprint + AllocGlobal>(rt: &R) -> Result<u8, RunFault> {
-    let alloc = rt.alloc();
-    let words: Vec<String> = match env::args(rt) {
-        Ok(args) => args.collect(alloc)?,
-        Err(_) => return Err(RunFault::Memory),
-    };
-    let matches = match command(alloc)?.try_get_matches_from(words.as_slice()) {
-        Ok(matches) => matches,
-        Err(error) => return Ok(explain(rt, &error)),
-    };
-    let done = match job_of(&matches) {
+/// The words of the command line, the program's name first.
+fn words_of<R: Env + AllocGlobal>(rt: &R) -> Result<Vec<String>, RunFault> {
+    match env::args(rt) {
+        Ok(args) => Ok(args.collect(rt.alloc())?),
+        Err(_) => Err(RunFault::Memory),
+    }
+}
+
+/// Does what the matched words ask for, and gives the status.
+fn do_matches<R: Input + Files + Print + Eprint + AllocGlobal>(rt: &R, matches: &ArgMatches) -> u8 {
+    let done = match job_of(matches) {
         Ok(job) => do_job(rt, job),
         Err(fault) => Err(Fault::Words(fault)),
     };
     match done {
-        Ok(status) => Ok(status),
-        Err(fault) => Ok(report(rt, &fault)),
+        Ok(status) => status,
+        Err(fault) => report(rt, &fault),
     }
 }
 
+/// Does what the words ask for, and gives the status.
+fn obey<R: Input + Files + Print + Eprint + AllocGlobal>(
+    rt: &R,
+    words: &[String],
+) -> Result<u8, RunFault> {
+    match command(rt.alloc())?.try_get_matches_from(words) {
+        Ok(matches) => Ok(do_matches(rt, &matches)),
+        Err(error) => Ok(explain(rt, &error)),
+    }
+}
+
+/// Reads the words, does what they ask for, and gives the status.
+fn status_of<R: Env + Input + Files + Print + Eprint + AllocGlobal>(
+    rt: &R,
+) -> Result<u8, RunFault> {
+    let words = words_of(rt)?;
+    obey(rt, words.as_slice())
+}
+
 fn main(rt: HostRuntime) -> ExitCode {
-    match obey(&rt) {
+    match status_of(&rt) {
         Ok(status) => ExitCode::from(status),
         Err(fault) => ExitCode::from(report(&rt, &Fault::Run(fault))),
     }

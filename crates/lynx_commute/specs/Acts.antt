@@ -1,7 +1,7 @@
 -- A hop that a chain runs, what it answers and what it leaves.
 use Rattle.std.specs.Prelude.{◌≡◌, ◌≢◌, ℕ, List, Result, Ok, Err, All}
 use Rattle.lynx_cells.specs.Database.{Database, value_at}
-use Rattle.lynx_text.specs.Set.{Set}
+use Rattle.lynx_set.specs.Set.{Set}
 use Rattle.lynx_hops.specs.Meaning.{Outcome, meaning}
 use Rattle.lynx_foot.specs.declared.touch.Touch.{Touch}
 use Rattle.lynx_foot.specs.Feet.{touches_of}

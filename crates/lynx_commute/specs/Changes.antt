@@ -2,8 +2,8 @@
 use Rattle.std.specs.Prelude.{◌≡◌, ℕ, ◌+◌, ◌-◌, ◌^◌, ◌++◌, List, [], ◌∷◌, Ok, Err, refl, if◌then◌else◌, true, false}
 use Rattle.std.proofs.Common.{ap, ◌∙◌}
 use Rattle.lynx_cells.specs.Database.{Database, value_at, with_value}
-use Rattle.lynx_text.specs.declared.action.Action.{Action}
-use Rattle.lynx_text.specs.declared.action.Action.TheVariants.{Get, Set as SetCell, Add, Sub, Let, Need}
+use Rattle.lynx_set.specs.declared.action.Action.{Action}
+use Rattle.lynx_set.specs.declared.action.Action.TheVariants.{Get, Set as SetCell, Add, Sub, Let, Need}
 use Rattle.lynx_hops.specs.Meaning.{Outcome, after_results, key_of, value_of, sum_of, result_of, is_met, run}
 use Rattle.lynx_commute.specs.Acts.{answer_in, database_in}
 

@@ -7,9 +7,9 @@ use Rattle.std.specs.FinMap as map
 use Rattle.lynx_cells.specs.Database.{cell_cmp, Database, value_at, with_value}
 use Rattle.lynx_cells.specs.CellOrder.{same_cell}
 use Rattle.lynx_cells.specs.Writes.{get-with_value, kept}
-use Rattle.lynx_text.specs.declared.action.Action.{Action}
-use Rattle.lynx_text.specs.declared.action.Action.TheVariants.{Get, Set as SetCell, Add, Sub, Let, Need}
-use Rattle.lynx_text.specs.Set.{Set}
+use Rattle.lynx_set.specs.declared.action.Action.{Action}
+use Rattle.lynx_set.specs.declared.action.Action.TheVariants.{Get, Set as SetCell, Add, Sub, Let, Need}
+use Rattle.lynx_set.specs.Set.{Set}
 use Rattle.lynx_hops.specs.Meaning.{Outcome, actions_at, after_results, key_of, value_of, sum_of, difference_of, result_of, is_met, run}
 use Rattle.lynx_foot.specs.declared.kind.Kind.TheVariants.{Getting, Setting, Adding}
 use Rattle.lynx_foot.specs.declared.touch.Touch.{Touch}

@@ -8,9 +8,9 @@ use Rattle.std.proofs.lemmas.List.{get_or-map, length-map}
 use Rattle.std.proofs.lemmas.List.Elements.{All-contains, All-map, All-head, All-tail, All-weaker}
 use Rattle.lynx_cells.specs.Database.{cell_cmp, Database, IsZeroFree, value_at, with_value}
 use Rattle.lynx_cells.specs.Writes.{IsZeroFree-with_value, get-with_value, kept}
-use Rattle.lynx_text.specs.declared.action.Action.{Action}
-use Rattle.lynx_text.specs.declared.action.Action.TheVariants.{Get, Set as SetCell, Add, Sub, Let, Need}
-use Rattle.lynx_text.specs.Set.{Set}
+use Rattle.lynx_set.specs.declared.action.Action.{Action}
+use Rattle.lynx_set.specs.declared.action.Action.TheVariants.{Get, Set as SetCell, Add, Sub, Let, Need}
+use Rattle.lynx_set.specs.Set.{Set}
 use Rattle.lynx_hops.specs.Meaning.{Outcome, actions_at, after_results, key_of, value_of, sum_of, difference_of, result_of, is_met, run}
 use Rattle.lynx_foot.specs.declared.kind.Kind.TheVariants.{Getting, Setting, Adding}
 use Rattle.lynx_foot.specs.declared.touch.Touch.{Touch}

@@ -8,8 +8,8 @@ use Rattle.std.proofs.Math.Nat.{mod-add-mod}
 use Rattle.lynx_cells.specs.Database.{cell_cmp, Database, value_at, with_value}
 use Rattle.lynx_cells.specs.CellOrder.{cell_cmp_total, same_cell}
 use Rattle.lynx_cells.specs.Writes.{value_at-with_value_same, value_at-with_value_other, with_value-with_value_same, with_value-with_value_other}
-use Rattle.lynx_text.specs.declared.action.Action.{Action}
-use Rattle.lynx_text.specs.declared.action.Action.TheVariants.{Get, Set as SetCell, Add, Sub, Let, Need}
+use Rattle.lynx_set.specs.declared.action.Action.{Action}
+use Rattle.lynx_set.specs.declared.action.Action.TheVariants.{Get, Set as SetCell, Add, Sub, Let, Need}
 use Rattle.lynx_hops.specs.Meaning.{key_of, sum_of}
 use Rattle.lynx_foot.specs.declared.kind.Kind.{Kind}
 use Rattle.lynx_foot.specs.declared.kind.Kind.TheVariants.{Getting, Setting, Adding}

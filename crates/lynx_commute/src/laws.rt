@@ -2,7 +2,7 @@
 //! has the words, `specs/Commuting.antt` and `specs/Framing.antt` the lemmas.
 ghost use Rattle.std.specs.Prelude.{◌≡◌, ℕ};
 ghost use Rattle.lynx_cells.specs.Database.{Database, IsZeroFree, value_at};
-ghost use Rattle.lynx_text.specs.Set.{Set};
+ghost use Rattle.lynx_set.specs.Set.{Set};
 ghost use Rattle.lynx_foot.specs.Conflicts.{Conflicts};
 ghost use Rattle.lynx_commute.specs.Acts.{Act, AgreeOn, ChangePlaces, IsUntouched, after, answer, touched};
 

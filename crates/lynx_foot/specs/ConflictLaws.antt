@@ -2,9 +2,9 @@
 use Rattle.std.specs.Prelude.{◌≡◌, ℕ, List, [], ◌∷◌, map, Any, Some, not, IsTrue, refl}
 use Rattle.std.proofs.Common.{zero, suc, sym, ap, ◌∙◌, subst, arith}
 use Rattle.std.proofs.lemmas.List.Elements.{All-contains}
-use Rattle.lynx_text.specs.declared.action.Key.{Key}
-use Rattle.lynx_text.specs.declared.action.Key.TheVariants.{Literal, Param}
-use Rattle.lynx_text.specs.Set.{Set}
+use Rattle.lynx_set.specs.declared.action.Key.{Key}
+use Rattle.lynx_set.specs.declared.action.Key.TheVariants.{Literal, Param}
+use Rattle.lynx_set.specs.Set.{Set}
 use Rattle.lynx_shards.specs.Shards.{server_of}
 use Rattle.lynx_hops.specs.Meaning.{key_of}
 use Rattle.lynx_foot.specs.declared.kind.Kind.{Kind}

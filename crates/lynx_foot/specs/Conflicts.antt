@@ -1,9 +1,9 @@
 -- When two hops conflict, and when they may.
 use Rattle.std.specs.Prelude.{◌≡◌, ℕ, List, All, Any, IsTrue, not, Option, Some, option_map}
 use Rattle.lynx_shards.specs.Shards.{server_of}
-use Rattle.lynx_text.specs.declared.action.Key.{Key}
-use Rattle.lynx_text.specs.declared.action.Key.TheVariants.{Literal, Param}
-use Rattle.lynx_text.specs.Set.{Set}
+use Rattle.lynx_set.specs.declared.action.Key.{Key}
+use Rattle.lynx_set.specs.declared.action.Key.TheVariants.{Literal, Param}
+use Rattle.lynx_set.specs.Set.{Set}
 use Rattle.lynx_hops.specs.Meaning.{hop_at}
 use Rattle.lynx_foot.specs.declared.foot.Foot.{Foot}
 use Rattle.lynx_foot.specs.declared.touch.Touch.{Touch}

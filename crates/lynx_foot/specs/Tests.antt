@@ -1,8 +1,8 @@
 -- The tests that decide the relations of conflicts.
 use Rattle.std.specs.Prelude.{Bool, true, not, ◌==◌, ◌&&◌, List}
 use Rattle.std.specs.List.{list_any}
-use Rattle.lynx_text.specs.declared.action.Key.{Key}
-use Rattle.lynx_text.specs.declared.action.Key.TheVariants.{Literal, Param}
+use Rattle.lynx_set.specs.declared.action.Key.{Key}
+use Rattle.lynx_set.specs.declared.action.Key.TheVariants.{Literal, Param}
 use Rattle.lynx_foot.specs.declared.foot.Foot.{Foot}
 use Rattle.lynx_foot.specs.declared.touch.Touch.{Touch}
 use Rattle.lynx_foot.specs.Kinds.{commute}

@@ -7,7 +7,7 @@ ghost use Rattle.lynx_foot.specs.Tests.{clash, some_clash};
 use crate::foot::{actions_of, foot_of};
 use crate::touch::{Touch, touch_of};
 use lynx_names::ProgramId;
-use lynx_text::{Action, ChainSet};
+use lynx_set::{Action, ChainSet};
 
 /// Whether the touches are of one cell, and their kinds don't commute.
 fn clashes(left: Touch, right: Touch) -> bool

@@ -3,7 +3,7 @@ ghost use Rattle.lynx_hops.specs.Meaning.{actions_at, hop_at};
 
 use crate::kind::Kind;
 use lynx_names::{Memory, ProgramId, TableId};
-use lynx_text::{Action, ChainSet, Hop, Key};
+use lynx_set::{Action, ChainSet, Hop, Key};
 use std::alloc::Global;
 
 /// What one action of a program does: the table, the key as the program's text has it, and the kind.

@@ -1,7 +1,7 @@
 //! The laws of conflict, each the contract of a function that does nothing. `specs/ConflictLaws.antt` has the
 //! lemmas.
 ghost use Rattle.std.specs.Prelude.{ℕ, List};
-ghost use Rattle.lynx_text.specs.Set.{Set};
+ghost use Rattle.lynx_set.specs.Set.{Set};
 ghost use Rattle.lynx_foot.specs.declared.touch.Touch.{Touch};
 ghost use Rattle.lynx_foot.specs.Feet.{touches_of};
 ghost use Rattle.lynx_foot.specs.Conflicts.{Conflicts, KeysLieAtServer, MayConflict};

@@ -6,7 +6,7 @@ ghost use Rattle.lynx_foot.specs.Tests.{may_clash, may_meet, some_may_clash};
 
 use crate::foot::{Foot, foot_of, hop_of};
 use lynx_names::ProgramId;
-use lynx_text::{Action, ChainSet, Key};
+use lynx_set::{Action, ChainSet, Key};
 
 /// Whether the keys aren't two different literals.
 fn keys_may_meet(left: Key, right: Key) -> bool

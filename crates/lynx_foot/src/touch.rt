@@ -5,7 +5,7 @@ use crate::foot::{Foot, actions_of, foot_of};
 use crate::kind::Kind;
 use lynx_hops::value::key_of;
 use lynx_names::{Memory, ProgramId, TableId};
-use lynx_text::ChainSet;
+use lynx_set::ChainSet;
 use std::alloc::Global;
 
 /// What one action of a chain does to which cell.

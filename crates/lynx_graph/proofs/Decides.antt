@@ -5,7 +5,7 @@ use Rattle.std.specs.List.{Any, list_any}
 use Rattle.std.proofs.lemmas.Bool.{false≢true}
 use Rattle.std.proofs.lemmas.Bool.Decides.{Decides-eqb, Decides-and, Decides-not, Decides-like}
 use Rattle.std.proofs.lemmas.Option.{same_Some}
-use Rattle.lynx_text.specs.Set.{Set}
+use Rattle.lynx_set.specs.Set.{Set}
 use Rattle.lynx_foot.specs.Feet.{footprint_of}
 use Rattle.lynx_foot.specs.Conflicts.{MayClash, MayConflict, server_at}
 use Rattle.lynx_foot.proofs.Decides.{Decides-some_may_clash}

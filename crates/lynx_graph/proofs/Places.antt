@@ -4,9 +4,9 @@ use Rattle.std.specs.Prelude.{Any, filter_map, option_map, option_and_then, slic
 use Rattle.std.specs.List.{range_with_len}
 use Rattle.std.specs.Option.{option_map_or}
 use Rattle.std.proofs.lemmas.Option.{none-some, slice_get-map, slice_get_within}
-use Rattle.lynx_text.specs.declared.program.Hop.{Hop}
-use Rattle.lynx_text.specs.declared.program.Program.{Program}
-use Rattle.lynx_text.specs.Set.{Set}
+use Rattle.lynx_set.specs.declared.program.Hop.{Hop}
+use Rattle.lynx_set.specs.declared.program.Program.{Program}
+use Rattle.lynx_set.specs.Set.{Set}
 use Rattle.lynx_hops.specs.Meaning.{hop_at, program_at}
 use Rattle.lynx_foot.specs.declared.foot.Foot.{Foot}
 use Rattle.lynx_foot.specs.Feet.{foot_of, footprint_of}

@@ -1,7 +1,7 @@
 -- The tests that decide whether a walk is closed and offends.
 use Rattle.std.specs.Prelude.{Bool, true, false, not, ◌==◌, ◌&&◌, ℕ, List, [], ◌∷◌, Option, Some, None}
 use Rattle.std.specs.List.{list_any}
-use Rattle.lynx_text.specs.Set.{Set}
+use Rattle.lynx_set.specs.Set.{Set}
 use Rattle.lynx_foot.specs.Feet.{footprint_of}
 use Rattle.lynx_foot.specs.Conflicts.{server_at}
 use Rattle.lynx_foot.specs.Tests.{some_may_clash}

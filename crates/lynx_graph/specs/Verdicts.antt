@@ -1,6 +1,6 @@
 -- What a verdict says of a set.
 use Rattle.std.specs.Prelude.{◌≡◌}
-use Rattle.lynx_text.specs.Set.{Set}
+use Rattle.lynx_set.specs.Set.{Set}
 use Rattle.lynx_graph.specs.declared.verdict.Verdict.{Verdict}
 use Rattle.lynx_graph.specs.declared.verdict.Verdict.TheVariants.{Accepted, Offending}
 use Rattle.lynx_graph.specs.Walks.{IsAccepted, IsOffending}

@@ -1,6 +1,6 @@
 -- Closed walks of a set, and which of them offend.
 use Rattle.std.specs.Prelude.{◌≢◌, ℕ, List, [], ◌∷◌, Any, Option}
-use Rattle.lynx_text.specs.Set.{Set}
+use Rattle.lynx_set.specs.Set.{Set}
 use Rattle.lynx_foot.specs.Conflicts.{MayConflict, server_at}
 use Rattle.lynx_graph.specs.declared.visit.Visit.{Visit}
 

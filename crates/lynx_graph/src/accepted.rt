@@ -1,4 +1,4 @@
-use lynx_text::ChainSet;
+use lynx_set::ChainSet;
 use std::marker::Model;
 
 /// A set of which no closed walk offends. [`check`](crate::check()) alone makes one.
@@ -8,7 +8,7 @@ pub struct AcceptedSet {
 }
 
 impl Model for AcceptedSet {
-    ghost use Rattle.lynx_text.specs.Set.{Set};
+    ghost use Rattle.lynx_set.specs.Set.{Set};
     ghost use Rattle.lynx_graph.specs.Walks.{IsAccepted};
 
     ghost Value = { Set };

@@ -6,7 +6,7 @@ ghost use Rattle.lynx_graph.specs.Tests.{crosses, differs, is_closed, joins_arou
 use crate::joins::{Place, joins, origin_of, same_server};
 use crate::visit::{Visit, Walk};
 use lynx_names::ServerId;
-use lynx_text::ChainSet;
+use lynx_set::ChainSet;
 
 /// Whether the hop by which the visit is left may conflict with the hop at which the next is entered.
 fn joins_next(set: &ChainSet, visit: &Visit, next: &Visit) -> bool

@@ -5,7 +5,7 @@ ghost use Rattle.lynx_graph.specs.Tests.{joins, same_server};
 
 use lynx_foot::may_conflict;
 use lynx_names::{ProgramId, ServerId};
-use lynx_text::ChainSet;
+use lynx_set::ChainSet;
 
 /// One hop of one program.
 #[derive(Clone, Copy, Debug, PartialEq, Eq)]

@@ -6,13 +6,13 @@ use crate::nodes::nodes_of;
 use crate::shortest::shortest;
 use crate::verdict::Verdict;
 use lynx_names::{Memory, TryCopy};
-use lynx_text::ChainSet;
+use lynx_set::ChainSet;
 use std::alloc::Global;
 
 /// Judges the set. The walk given has the fewest visits of all that offend; of those it is the one whose list of
 /// conflict edges (program, hop left, next program, hop entered) is the least, compared number by number, and it
 /// begins with the visit whose leaving edge stands first in that list. Memory is answered where a growth was
-/// refused, and of a set with a program outside the range of `ProgramId`, which no text spells.
+/// refused.
 pub fn check(alloc: Global, set: &ChainSet) -> Result<Verdict, Memory>
     ensures { IfOk result (Judges set.now) }
 {

@@ -6,7 +6,7 @@ ghost use Rattle.lynx_graph.specs.Nodes.{exits_of, neighbours_of, node_of, nodes
 
 use crate::joins::{Place, joins, origin_of};
 use lynx_names::{Items, Memory, ProgramId, ServerId};
-use lynx_text::ChainSet;
+use lynx_set::ChainSet;
 use std::alloc::Global;
 
 /// A hop by which a program may be left, and its place in the list of nodes.

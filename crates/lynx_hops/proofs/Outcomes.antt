@@ -3,7 +3,7 @@ use Rattle.std.proofs.Common.{◌≡◌, ℕ, List, [], ◌∷◌, length, Ok, E
 use Rattle.std.proofs.lemmas.List.{drop_all, append-nil}
 use Rattle.std.specs.FinMap as map
 use Rattle.lynx_cells.specs.Database.{Database, cell_cmp, applied, written}
-use Rattle.lynx_text.specs.declared.action.Action.{Action}
+use Rattle.lynx_set.specs.declared.action.Action.{Action}
 use Rattle.lynx_hops.specs.declared.run.Running.{Running}
 use Rattle.lynx_hops.specs.Meaning.{Outcome, after_results}
 use Rattle.lynx_hops.specs.Runs.{here, outcome_of}

@@ -2,19 +2,19 @@
 use Rattle.std.specs.Prelude.{ℕ, ◌+◌, ◌-◌, ◌%◌, ◌^◌, ◌==◌, Bool, not, if◌then◌else◌, nat_lt, nat_le, List, [], ◌∷◌, ◌++◌, slice_get, slice_index, unwrap_or, option_and_then, option_map, Option, Result, Ok, Err}
 use Rattle.std.specs.List.{flat_map}
 use Rattle.lynx_cells.specs.Database.{Database, value_at, with_value}
-use Rattle.lynx_text.specs.declared.action.Action.{Action}
-use Rattle.lynx_text.specs.declared.action.Action.TheVariants.{Get, Set as SetCell, Add, Sub, Let, Need}
-use Rattle.lynx_text.specs.declared.action.Key.{Key}
-use Rattle.lynx_text.specs.declared.action.Key.TheVariants.{Literal, Param}
-use Rattle.lynx_text.specs.declared.action.Operand.{Operand}
-use Rattle.lynx_text.specs.declared.action.Operand.TheVariants.{Number, Name}
-use Rattle.lynx_text.specs.declared.action.Operator.{Operator}
-use Rattle.lynx_text.specs.declared.action.Operator.TheVariants.{Plus, Minus}
-use Rattle.lynx_text.specs.declared.action.Relation.{Relation}
-use Rattle.lynx_text.specs.declared.action.Relation.TheVariants.{Below, AtMost, Same, Differs, AtLeast, Above}
-use Rattle.lynx_text.specs.declared.program.Hop.{Hop}
-use Rattle.lynx_text.specs.declared.program.Program.{Program}
-use Rattle.lynx_text.specs.Set.{Set}
+use Rattle.lynx_set.specs.declared.action.Action.{Action}
+use Rattle.lynx_set.specs.declared.action.Action.TheVariants.{Get, Set as SetCell, Add, Sub, Let, Need}
+use Rattle.lynx_set.specs.declared.action.Key.{Key}
+use Rattle.lynx_set.specs.declared.action.Key.TheVariants.{Literal, Param}
+use Rattle.lynx_set.specs.declared.action.Operand.{Operand}
+use Rattle.lynx_set.specs.declared.action.Operand.TheVariants.{Number, Name}
+use Rattle.lynx_set.specs.declared.action.Operator.{Operator}
+use Rattle.lynx_set.specs.declared.action.Operator.TheVariants.{Plus, Minus}
+use Rattle.lynx_set.specs.declared.action.Relation.{Relation}
+use Rattle.lynx_set.specs.declared.action.Relation.TheVariants.{Below, AtMost, Same, Differs, AtLeast, Above}
+use Rattle.lynx_set.specs.declared.program.Hop.{Hop}
+use Rattle.lynx_set.specs.declared.program.Program.{Program}
+use Rattle.lynx_set.specs.Set.{Set}
 
 -- the key that is meant, where the parameters have these arguments
 abbrev pub key_of : List ℕ → Key → ℕ

@@ -1,7 +1,7 @@
 -- A hop on its way, and what all its actions come to.
 use Rattle.std.specs.Prelude.{List}
 use Rattle.lynx_cells.specs.Database.{Database, applied}
-use Rattle.lynx_text.specs.declared.action.Action.{Action}
+use Rattle.lynx_set.specs.declared.action.Action.{Action}
 use Rattle.lynx_hops.specs.declared.run.Running.{Running}
 use Rattle.lynx_hops.specs.Meaning.{Outcome, after_results, run}
 

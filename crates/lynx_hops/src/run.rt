@@ -2,13 +2,13 @@ ghost use Rattle.std.specs.Prelude.{◌≡◌, ◌+◌, ◌<◌, ◌≤◌, ◌+
 ghost use Rattle.std.specs.List.{flat_map};
 ghost use Rattle.lynx_cells.specs.Database.{applied, value_at, with_value};
 ghost use Rattle.lynx_hops.specs.Meaning.{actions_at, hop_at, key_of, meaning, run};
-ghost use Rattle.lynx_text.specs.declared.action.Action.{Action};
+ghost use Rattle.lynx_set.specs.declared.action.Action.{Action};
 
 use crate::ran::Ran;
 use crate::value::{is_met, key_of, result_of, value_of};
 use lynx_cells::{Cells, Changes};
 use lynx_names::{Memory, ProgramId, TableId, Values};
-use lynx_text::{Action, ChainSet, Key};
+use lynx_set::{Action, ChainSet, Key};
 use std::alloc::Global;
 use thiserror::Error;
 

@@ -2,7 +2,7 @@
 ghost use Rattle.std.specs.Prelude.{◌≡◌, slice_index};
 ghost use Rattle.lynx_hops.specs.Meaning.{key_of, value_of, is_met, result_of};
 
-use lynx_text::{Key, Operand, Operator, Relation};
+use lynx_set::{Key, Operand, Operator, Relation};
 
 /// The value at a place of a list. There is one at each place that a parsed program names.
 fn at(values: &[u64], place: u8) -> u64

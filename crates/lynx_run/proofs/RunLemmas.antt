@@ -6,9 +6,9 @@ use Rattle.std.proofs.lemmas.List.{append-nil}
 use Rattle.std.specs.Io.KnownBytes.{Appends}
 use Rattle.std.specs.List.Sorted.{IsPermutation, IsSorted}
 use Rattle.std.specs.Prelude.{Result, Ok, Err, OnOk, IfErr}
-use Rattle.lynx_text.specs.Rules.{IsSet}
-use Rattle.lynx_text.specs.Set.{Set}
-use Rattle.lynx_text.specs.Text.{text_of}
+use Rattle.lynx_set.specs.Rules.{IsSet}
+use Rattle.lynx_set.specs.Set.{Set}
+use Rattle.lynx_set.specs.Text.{text_of}
 use Rattle.lynx_world.specs.Tables.{cells_of, triple_cmp}
 use Rattle.lynx_world.specs.declared.event.Event.{Event}
 use Rattle.lynx_world.specs.Worlds.{WorldState}
@@ -43,6 +43,12 @@ appends_both None second third xs ys a b = tt
 appends_both (Some f) None third xs ys a b = absurd a
 appends_both (Some f) (Some s) None xs ys a b = absurd b
 appends_both (Some f) (Some s) (Some t) xs ys a b = b ∙ ap (λ bytes. bytes ++ ys) a ∙ append_assoc f xs ys
+
+-- and where the second step may fail
+pub appends_on : (first second third : Option (List ℕ)) (xs ys : List ℕ) (r : Result (Unit {0}) RunFault) → Appends first second xs
+    → OnOk r (Appends second third ys) → OnOk r (Appends first third (xs ++ ys))
+appends_on first second third xs ys (Ok done) a b = appends_both first second third xs ys a b
+appends_on first second third xs ys (Err fault) a b = tt
 
 -- the lines of one more event
 pub lines_on : (first second third : Option (List ℕ)) (start world : WorldState) (events : List Event) (event : Event) →

@@ -4,9 +4,9 @@ use Rattle.std.specs.List.{flat_map, zip}
 use Rattle.std.specs.Fmt.{decimal}
 use Rattle.lynx_graph.specs.declared.visit.Visit.{Visit}
 use Rattle.lynx_graph.specs.Walks.{IsAccepted, IsOffending}
-use Rattle.lynx_text.specs.Rules.{IsSet}
-use Rattle.lynx_text.specs.Set.{Set}
-use Rattle.lynx_text.specs.Text.{text_of}
+use Rattle.lynx_set.specs.Rules.{IsSet}
+use Rattle.lynx_set.specs.Set.{Set}
+use Rattle.lynx_set.specs.Text.{text_of}
 use Rattle.lynx_run.specs.declared.run.RunFault.{RunFault}
 use Rattle.lynx_run.specs.declared.run.RunFault.TheVariants.{Set as SetFault, Script as ScriptFault, Write, Memory}
 use Rattle.lynx_run.specs.declared.verdict.Finding.{Finding}

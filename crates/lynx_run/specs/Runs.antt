@@ -3,9 +3,9 @@ use Rattle.std.specs.Prelude.{◌≡◌, ◌≢◌, ℕ, List, [], ◌∷◌, �
 use Rattle.std.specs.List.{flat_map}
 use Rattle.std.specs.List.Sorted.{IsPermutation, IsSorted}
 use Rattle.std.specs.Fmt.{decimal}
-use Rattle.lynx_text.specs.Rules.{IsSet}
-use Rattle.lynx_text.specs.Set.{Set}
-use Rattle.lynx_text.specs.Text.{text_of}
+use Rattle.lynx_set.specs.Rules.{IsSet}
+use Rattle.lynx_set.specs.Set.{Set}
+use Rattle.lynx_set.specs.Text.{text_of}
 use Rattle.lynx_world.specs.declared.event.Event.{Event}
 use Rattle.lynx_world.specs.declared.event.Outcome.{Outcome}
 use Rattle.lynx_world.specs.Worlds.{WorldState}

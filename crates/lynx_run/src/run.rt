@@ -4,8 +4,8 @@ ghost use Rattle.std.specs.List.Sorted.{IsPermutation, IsSorted};
 ghost use Rattle.lynx_world.specs.Tables.{cells_of, triple_cmp};
 ghost use Rattle.lynx_world.specs.Steps.{step};
 ghost use Rattle.lynx_print.specs.Printed.{line, outcome_text};
-ghost use Rattle.lynx_text.specs.Rules.{IsSet};
-ghost use Rattle.lynx_text.specs.Text.{text_of};
+ghost use Rattle.lynx_set.specs.Rules.{IsSet};
+ghost use Rattle.lynx_set.specs.Text.{text_of};
 ghost use Rattle.lynx_run.specs.Runs.{new_world, world_after, outcome_lines, cell_lines, Prints, IsNoSet, IsNoScript, IsLate, StopsFor};
 ghost use Rattle.lynx_script.specs.Scripts.{IsScript, script_of};
 ghost use Rattle.std.specs.Io.KnownBytes.{Appends, Keeps};
@@ -13,7 +13,9 @@ ghost use Rattle.std.specs.Io.KnownBytes.{Appends, Keeps};
 use lynx_names::{Memory, TableId};
 use lynx_print::{cell_line, outcome_line};
 use lynx_script::parse_script;
-use lynx_text::{ChainSet, FaultKind, TextFault, parse};
+use lynx_set::ChainSet;
+use lynx_text::parse;
+use lynx_words::{FaultKind, TextFault};
 use lynx_world::{Event, Outcome, World};
 use std::alloc::{AllocError, Global};
 use std::io::Write;
@@ -91,6 +93,15 @@ pub(crate) fn write_line<W: Write>(writer: &mut W, line: &[u8]) -> Result<(), Ru
     writer.write_all(line).map_err(|_| RunFault::Write)
 }
 
+/// Writes the line of what an event came to.
+fn write_outcome<W: Write>(alloc: Global, outcome: &Outcome, writer: &mut W) -> Result<(), RunFault>
+    ensures line { OnOk result (Appends (W.contents writer.old) (W.contents writer.new) (line (outcome_text outcome.now))) }
+    ensures late { IfErr result IsLate }
+{
+    let line = outcome_line(alloc, outcome)?;
+    write_line(writer, line.as_bytes())
+}
+
 /// Runs one event, and writes its line.
 fn run_event<W: Write>(
     alloc: Global,
@@ -106,8 +117,7 @@ fn run_event<W: Write>(
     if let Outcome::Memory = outcome {
         return Err(RunFault::Memory);
     }
-    let line = outcome_line(alloc, &outcome)?;
-    write_line(writer, line.as_bytes())
+    write_outcome(alloc, &outcome, writer)
 }
 
 /// Runs the events in order, and writes a line for each.

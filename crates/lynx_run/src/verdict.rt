@@ -1,9 +1,9 @@
 //! The verdict on a set, as it is printed: docs/FORMATS.md has the lines.
-ghost use Rattle.std.specs.Prelude.{◌≡◌, ◌⊎◌, ℕ, List, [], OnOk, IfOk, IfErr, codes, take};
+ghost use Rattle.std.specs.Prelude.{◌≡◌, ◌⊎◌, ℕ, List, [], ◌++◌, OnOk, IfOk, IfErr, codes, take};
 ghost use Rattle.std.specs.List.{flat_map};
 ghost use Rattle.std.specs.Io.KnownBytes.{Appends, Keeps};
 ghost use Rattle.lynx_graph.specs.Walks.{IsAccepted, IsOffending};
-ghost use Rattle.lynx_text.specs.Rules.{IsSet};
+ghost use Rattle.lynx_set.specs.Rules.{IsSet};
 ghost use Rattle.lynx_print.specs.Printed.{line};
 ghost use Rattle.lynx_run.specs.Runs.{IsLate};
 ghost use Rattle.lynx_run.specs.Checks.{edge_line, edge_lines, edges, program_name, IsVerdict, Finds, NoVerdictFor};
@@ -12,7 +12,7 @@ use crate::run::{RunFault, read_set, write_line};
 use lynx_graph::{Verdict, Visit, check};
 use lynx_names::ProgramId;
 use lynx_print::conflict_line;
-use lynx_text::ChainSet;
+use lynx_set::ChainSet;
 use std::alloc::{AllocError, Global};
 use std::io::Write;
 
@@ -44,11 +44,24 @@ fn check_set<W: Write>(alloc: Global, set: &ChainSet, writer: &mut W) -> Result<
             Ok(Finding::Accepted)
         }
         Verdict::Offending(walk) => {
-            write_line(writer, b"offending\n")?;
-            write_walk(alloc, set, walk.as_slice(), writer)?;
+            write_offending(alloc, set, walk.as_slice(), writer)?;
             Ok(Finding::Offending)
         }
     }
+}
+
+/// Writes that a set offends, and the conflict edges of the walk.
+fn write_offending<W: Write>(
+    alloc: Global,
+    set: &ChainSet,
+    walk: &[Visit],
+    writer: &mut W,
+) -> Result<(), RunFault>
+    ensures lines { OnOk result (Appends (W.contents writer.old) (W.contents writer.new) (line (codes "offending") ++ edge_lines set.now walk.now)) }
+    ensures late { IfErr result IsLate }
+{
+    write_line(writer, b"offending\n")?;
+    write_walk(alloc, set, walk, writer)
 }
 
 /// The conflict edges of a walk: each visit with the next, and the last with the first.

@@ -10,8 +10,8 @@ use Rattle.lynx_words.specs.declared.fault.FaultKind.{FaultKind}
 use Rattle.lynx_words.specs.declared.fault.FaultKind.TheVariants.{TooLong, BadVersion, BadLine, BadName, BadNumber, Repeated, Unknown, NeedNotFirst, LimitPassed, LiteralElsewhere, Shard, Memory}
 use Rattle.lynx_words.specs.Gives.{Fails as TextFails}
 use Rattle.lynx_words.specs.Lines.{is_word, is_filled, is_graphic, AreWords, next_line, words_in, texts, joined, line}
-use Rattle.lynx_text.specs.Set.{Set}
-use Rattle.lynx_text.specs.Text.{name_at}
+use Rattle.lynx_set.specs.Set.{Set}
+use Rattle.lynx_set.specs.Text.{name_at}
 use Rattle.lynx_words.specs.WordLaws.{and_true, both_true, number-word, name-word, next_line_again}
 use Rattle.lynx_entry.specs.declared.request.Request.{Request}
 use Rattle.lynx_world.specs.declared.event.Event.{Event}
@@ -19,7 +19,7 @@ use Rattle.lynx_world.specs.declared.event.Event.TheVariants.{Begin, Deliver, Wa
 use Rattle.lynx_print.specs.Printed.{chain_text}
 use Rattle.lynx_script.specs.Scripts.{names_of, begin_words, message_words, event_words, FitsBegin, FitsDeliver, FitsEvent, script_of}
 use Rattle.lynx_script.specs.Spelled.{Fails}
-use Rattle.lynx_script.proofs.LineLemmas.{first_is, rest_is, some_none}
+use Rattle.lynx_words.specs.Equal.{first_is, rest_is, some_none}
 
 -- the fourth of some words
 pub fourth : (words : List (Bor (List ℕ))) (a b c d : List ℕ) (more : List (List ℕ)) (x : Bor (List ℕ)) → texts words ≡ a ∷ b ∷ c ∷ d ∷ more → (get_or words 3 x).now ≡ d

@@ -9,7 +9,8 @@ use Rattle.lynx_words.specs.Lines.{is_feed, next_line}
 use Rattle.lynx_words.specs.WordLaws.{and_true}
 use Rattle.lynx_script.specs.Inputs.{IsOther, IsCut, HasNoCut}
 use Rattle.lynx_print.specs.Printed.{line}
-use Rattle.lynx_script.proofs.LineLemmas.{first_is, rest_is, HasNoFeed, line_taken, last_line}
+use Rattle.lynx_script.proofs.LineLemmas.{HasNoFeed, line_taken, last_line}
+use Rattle.lynx_words.specs.Equal.{first_is, rest_is}
 
 feed_not : (y : ℕ) → 10 ≡ y → not (is_feed y) ≡ true → ⊥
 feed_not y is none = let bad : false ≡ true = ap (λ n. not (is_feed n)) is ∙ none in cc

@@ -7,18 +7,7 @@ use Rattle.std.proofs.lemmas.List.{take-append-drop, take_all, drop_more}
 use Rattle.std.proofs.lemmas.List.Sums.{passes_at_first}
 use Rattle.lynx_words.specs.Lines.{is_feed, next_line}
 use Rattle.lynx_words.specs.WordLaws.{both_true, cond_some, cond_none}
-
-pub first_is : {X : Type 0} (a b : X) (xs ys : List X) → a ∷ xs ≡ b ∷ ys → a ≡ b
-first_is a b xs ys e = cc
-
-pub rest_is : {X : Type 0} (a b : X) (xs ys : List X) → a ∷ xs ≡ b ∷ ys → xs ≡ ys
-rest_is a b xs ys e = cc
-
-pub some_is : {X : Type 0} (x y : X) → Some x ≡ Some y → x ≡ y
-some_is x y e = cc
-
-pub some_none : {X : Type 0} {x : X} → Some x ≡ None → ⊥
-some_none e = cc
+use Rattle.lynx_words.specs.Equal.{some_is}
 
 -- no byte of the text is a line feed
 abbrev pub HasNoFeed : List ℕ → Type 0

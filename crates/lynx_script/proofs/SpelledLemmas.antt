@@ -17,14 +17,14 @@ use Rattle.lynx_names.specs.declared.chain.ChainId.{ChainId}
 use Rattle.lynx_words.specs.declared.fault.FaultKind.{FaultKind}
 use Rattle.lynx_words.specs.declared.fault.FaultKind.TheVariants.{TooLong, BadVersion, BadLine, BadName, BadNumber, Repeated, Unknown, NeedNotFirst, LimitPassed, LiteralElsewhere, Shard, Memory}
 use Rattle.lynx_words.specs.Lines.{◌>>=◌, texts}
-use Rattle.lynx_text.specs.Reading.{place_of, place_below}
-use Rattle.lynx_text.specs.Set.{Set}
-use Rattle.lynx_text.specs.Text.{name_at}
+use Rattle.lynx_set.specs.Names.{place_of, place_below}
+use Rattle.lynx_set.specs.Set.{Set}
+use Rattle.lynx_set.specs.Text.{name_at}
 use Rattle.lynx_words.specs.WordLaws.{and_true, cond_some, own}
 use Rattle.lynx_print.specs.Printed.{chain_text}
 use Rattle.lynx_script.specs.Scripts.{is_colon, FitsServer}
 use Rattle.lynx_script.specs.Spelled.{Fails, IsRead}
-use Rattle.lynx_script.proofs.LineLemmas.{first_is, rest_is}
+use Rattle.lynx_words.specs.Equal.{first_is, rest_is}
 
 -- a fault that means one thing means what follows from it
 pub fails_so : (kind : FaultKind) (only then : Type 0) → (only → then) → Fails kind only → Fails kind then

@@ -2,8 +2,8 @@
 use Rattle.std.specs.Prelude.{◌≡◌, ◌==◌, Bool, true, ℕ, ◌^◌, ◌<◌, ◌≤◌, List, [], ◌∷◌, length, map, codes, decimal}
 use Rattle.std.specs.List.{AllByRecursion}
 use Rattle.lynx_names.specs.declared.chain.ChainId.{ChainId}
-use Rattle.lynx_text.specs.Set.{Set}
-use Rattle.lynx_text.specs.Text.{name_at, text}
+use Rattle.lynx_set.specs.Set.{Set}
+use Rattle.lynx_set.specs.Text.{name_at, text}
 use Rattle.lynx_words.specs.Word.{is_name}
 use Rattle.lynx_entry.specs.declared.request.Request.{Request}
 use Rattle.lynx_world.specs.declared.event.Event.{Event}

@@ -3,7 +3,7 @@ ghost use Rattle.std.specs.Prelude.{ℕ, List, ◌≡◌, ◌≢◌, ◌<◌, �
 ghost use Rattle.std.specs.List.{AllByRecursion, slice_split};
 ghost use Rattle.lynx_names.specs.declared.limits.TheConstants.{MAX_SERVERS, MAX_TEXT_BYTES};
 ghost use Rattle.lynx_words.specs.Lines.{next_line, texts, line};
-ghost use Rattle.lynx_text.specs.Text.{name_at};
+ghost use Rattle.lynx_set.specs.Text.{name_at};
 ghost use Rattle.lynx_print.specs.Printed.{chain_text};
 ghost use Rattle.lynx_script.specs.Scripts.{is_colon, names_of, begin_words, message_words, event_words, FitsServer, FitsProgram, FitsBegin, FitsDeliver, FitsEvent, script_of, IsScript};
 ghost use Rattle.lynx_script.specs.Spelled.{Fails, IsRead};
@@ -11,9 +11,10 @@ ghost use Rattle.lynx_script.specs.Spelled.{Fails, IsRead};
 use lynx_entry::Request;
 use lynx_names::limits::{MAX_PARAMETERS, MAX_TEXT_BYTES};
 use lynx_names::{ChainId, ClientId, Items, ProgramId, ServerId, Stamp, Values};
-use lynx_text::{ChainSet, FaultKind, Name, TextFault};
+use lynx_set::ChainSet;
 use lynx_words::lines::{next_line, words_of};
 use lynx_words::number::number;
+use lynx_words::{FaultKind, Name, TextFault};
 use lynx_world::Event;
 use std::alloc::Global;
 

@@ -1,9 +1,9 @@
 -- What a begin is answered, and the entry that it adds.
-use Rattle.std.specs.Prelude.{ℕ, ◌+◌, ◌==◌, ◌&&◌, ◌||◌, Bool, true, false, not, max, if◌then◌else◌, nat_lt, nat_eq, [], length, Option, Some, None, Ok, Err}
+use Rattle.std.specs.Prelude.{ℕ, ◌+◌, ◌==◌, ◌&&◌, ◌||◌, Bool, true, false, not, max, if◌then◌else◌, nat_lt, nat_eq, List, [], length, Option, Some, None, Ok, Err}
 use Rattle.std.specs.Cmp.Lexicographic.{pointwise}
 use Rattle.lynx_names.specs.declared.limits.TheConstants.{MAX_ENTRIES, STAMP_LIMIT}
 use Rattle.lynx_names.specs.declared.chain.ChainId.{ChainId}
-use Rattle.lynx_text.specs.Set.{Set}
+use Rattle.lynx_set.specs.Set.{Set}
 use Rattle.lynx_hops.specs.Meaning.{Outcome, meaning}
 use Rattle.lynx_entry.specs.declared.answer.Answer.{Answer}
 use Rattle.lynx_entry.specs.declared.answer.Answer.TheVariants.{Begun as BegunAnswer, Refused as RefusedAnswer, Clash, Full, Busy}
@@ -46,28 +46,34 @@ is_full history told =
 abbrev pub is_busy : Set → ℕ → History → Bool
 is_busy set server history = not (turn_of set server history server == begun_count history)
 
--- a begin whose hop 0 came out so
-abbrev pub begun_by : Set → ℕ → History → Request → ℕ → Outcome → Begins
-begun_by set server history request seen (Ok outcome) =
+-- a begin whose hop 0 refuses by that need
+abbrev pub refused_by : Request → ℕ → ℕ → ℕ → Begins
+refused_by request seen need stamp = record {
+  answer = RefusedAnswer need stamp false;
+  added = Some (Refused (record { request = request; seen = seen; need = need; stamp = stamp }));
+}
+
+-- a begin whose hop 0 gives these results
+abbrev pub begun_with : Set → ℕ → History → Request → ℕ → List ℕ → Begins
+begun_with set server history request seen results =
     let chain : ChainId = record { origin = server; index = begun_count history } in
     let stamp = max (clock_of history) seen + 1 in
     record {
-      answer = BegunAnswer chain stamp outcome.0 false;
+      answer = BegunAnswer chain stamp results false;
       added = Some (Begun (record {
         request = request;
         seen = seen;
         chain = chain;
         numbers = numbers_of set history request.program;
         stamp = stamp;
-        results = outcome.0;
+        results = results;
       }));
     }
-begun_by set server history request seen (Err need) =
-    let stamp = max (clock_of history) seen + 1 in
-    record {
-      answer = RefusedAnswer need stamp false;
-      added = Some (Refused (record { request = request; seen = seen; need = need; stamp = stamp }));
-    }
+
+-- a begin whose hop 0 came out so
+abbrev pub begun_by : Set → ℕ → History → Request → ℕ → Outcome → Begins
+begun_by set server history request seen (Ok outcome) = begun_with set server history request seen outcome.0
+begun_by set server history request seen (Err need) = refused_by request seen need (max (clock_of history) seen + 1)
 
 -- a new request
 abbrev pub answer_new : Set → ℕ → History → Request → ℕ → Option Answer → Begins

@@ -3,13 +3,13 @@ use Rattle.std.specs.Prelude.{ℕ, ◌==◌, ◌&&◌, ◌||◌, Bool, true, fal
 use Rattle.std.specs.List.{list_all, list_any}
 use Rattle.std.specs.Cmp.Lexicographic.{pointwise}
 use Rattle.std.specs.Prelude.{nat_eq}
-use Rattle.lynx_text.specs.declared.action.Action.{Action}
-use Rattle.lynx_text.specs.declared.action.Action.TheVariants.{Get, Set as SetCell, Add, Sub, Let, Need}
-use Rattle.lynx_text.specs.declared.action.Key.{Key}
-use Rattle.lynx_text.specs.declared.action.Key.TheVariants.{Literal, Param}
-use Rattle.lynx_text.specs.declared.program.Hop.{Hop}
-use Rattle.lynx_text.specs.declared.program.Program.{Program}
-use Rattle.lynx_text.specs.Set.{Set}
+use Rattle.lynx_set.specs.declared.action.Action.{Action}
+use Rattle.lynx_set.specs.declared.action.Action.TheVariants.{Get, Set as SetCell, Add, Sub, Let, Need}
+use Rattle.lynx_set.specs.declared.action.Key.{Key}
+use Rattle.lynx_set.specs.declared.action.Key.TheVariants.{Literal, Param}
+use Rattle.lynx_set.specs.declared.program.Hop.{Hop}
+use Rattle.lynx_set.specs.declared.program.Program.{Program}
+use Rattle.lynx_set.specs.Set.{Set}
 use Rattle.lynx_shards.specs.Shards.{server_of}
 use Rattle.lynx_hops.specs.Meaning.{key_of, program_at}
 use Rattle.lynx_entry.specs.declared.answer.Answer.{Answer}

@@ -3,7 +3,7 @@ use Rattle.std.specs.Prelude.{◌≡◌, ℕ, ◌+◌, ◌==◌, ◌&&◌, Bool,
 use Rattle.std.specs.List.{list_any}
 use Rattle.std.specs.Cmp.Lexicographic.{pointwise}
 use Rattle.lynx_names.specs.declared.chain.ChainId.{ChainId}
-use Rattle.lynx_text.specs.Set.{Set}
+use Rattle.lynx_set.specs.Set.{Set}
 use Rattle.lynx_hops.specs.Meaning.{Outcome, meaning}
 use Rattle.lynx_entry.specs.declared.answer.Delivered.{Delivered}
 use Rattle.lynx_entry.specs.declared.answer.Delivered.TheVariants.{Done, Repeat, Held, Dropped, Malformed, Full}
@@ -65,19 +65,19 @@ early room held message =
     then record { delivered = Held; added = None; held = held ++ message ∷ [] }
     else record { delivered = Dropped; added = None; held = held }))
 
--- a hop whose turn it is came out so; a later hop has no needs, so none refuses
-abbrev pub done_by : Set → History → List Message → Message → Outcome → Delivers
-done_by set history held message (Ok outcome) =
-    let ran = Hop (record {
-      message = message;
-      stamp = max (clock_of history) message.stamp + 1;
-      results = outcome.0;
-    }) in
+-- a hop that ran on this message gives the entry with that stamp, and lets go what was held for it
+abbrev pub done_at : Set → List Message → Message → ℕ → List ℕ → Delivers
+done_at set held message stamp results =
+    let ran = Hop (record { message = message; stamp = stamp; results = results }) in
     record {
-      delivered = Done (max (clock_of history) message.stamp + 1) outcome.0 (next_message set ran);
+      delivered = Done stamp results (next_message set ran);
       added = Some ran;
       held = filter (λ other. not (same_hop other message)) held;
     }
+
+-- a hop whose turn it is came out so; a later hop has no needs, so none refuses
+abbrev pub done_by : Set → History → List Message → Message → Outcome → Delivers
+done_by set history held message (Ok outcome) = done_at set held message (max (clock_of history) message.stamp + 1) outcome.0
 done_by set history held message (Err need) = record { delivered = Malformed; added = None; held = held }
 
 -- a well formed message of a hop that hasn't run, by its number and the turn

@@ -1,9 +1,10 @@
-pub mod Visits
-pub mod Turns
-pub mod Tables
-pub mod Messages
-pub mod Checks
-pub mod Lawful
 pub mod Answers
+pub mod Checks
 pub mod Deliveries
+pub mod Lawful
+pub mod Messages
+pub mod Ranges
 pub mod Steps
+pub mod Tables
+pub mod Turns
+pub mod Visits

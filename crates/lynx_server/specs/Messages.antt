@@ -1,7 +1,7 @@
 -- The message that an entry sends, which is a function of the set and the entry alone.
 use Rattle.std.specs.Prelude.{ℕ, ◌+◌, if◌then◌else◌, nat_lt, List, [], ◌∷◌, ◌++◌, length, Option, Some, None}
 use Rattle.lynx_names.specs.declared.chain.ChainId.{ChainId}
-use Rattle.lynx_text.specs.Set.{Set}
+use Rattle.lynx_set.specs.Set.{Set}
 use Rattle.lynx_entry.specs.declared.entry.Entry.{Entry}
 use Rattle.lynx_entry.specs.declared.entry.Entry.TheVariants.{Begun, Refused, Hop}
 use Rattle.lynx_entry.specs.declared.message.Message.{Message}

@@ -1,11 +1,11 @@
 -- Every entry that a server adds is lawful.
 use Rattle.std.proofs.Common.{◌≡◌, ℕ, ◌+◌, ◌≤◌, Bool, true, false, not, ◌&&◌, ◌||◌, cond, max, List, [], ◌∷◌, length, Option, Some, None, IsTrue, IsNone, IfSome, Ok, Err, nat_lt, nat_eq, is_some, unwrap_or, refl, sym, ap, ◌∙◌, arith}
-use Rattle.std.proofs.lemmas.Bool.{eqb-true, ltb-true, ltb-false}
+use Rattle.std.proofs.lemmas.Bool.{cond_both, eqb-true, ltb-true, ltb-false}
 use Rattle.std.specs.List.{list_any}
 use Rattle.lynx_names.specs.declared.limits.TheConstants.{MAX_ENTRIES, STAMP_LIMIT}
-use Rattle.lynx_text.specs.declared.program.Hop.{Hop}
-use Rattle.lynx_text.specs.declared.program.Program.{Program}
-use Rattle.lynx_text.specs.Set.{Set}
+use Rattle.lynx_set.specs.declared.program.Hop.{Hop}
+use Rattle.lynx_set.specs.declared.program.Program.{Program}
+use Rattle.lynx_set.specs.Set.{Set}
 use Rattle.lynx_hops.specs.Meaning.{Outcome, meaning, program_at}
 use Rattle.lynx_entry.specs.declared.answer.Answer.{Answer}
 use Rattle.lynx_entry.specs.declared.entry.Entry.{Entry}
@@ -46,11 +46,6 @@ begins_visiting-lawful set server history (Begun begun) lawful =
     (origin_of_request set server begun.request (program_at set begun.request.program) lawful.may_begin.in_order)
 begins_visiting-lawful set server history (Refused refused) lawful = refl
 begins_visiting-lawful set server history (HopRan ran) lawful = refl
-
--- a choice by a test, whichever way the test went
-chosen : {X : Type 0} (P : X → Type 0) (b : Bool) (x y : X) → (b ≡ true → P x) → (b ≡ false → P y) → P (cond b x y)
-chosen P true x y yes_then no_then = yes_then refl
-chosen P false x y yes_then no_then = no_then refl
 
 both_pass : (a b : Bool) → (not a || not b) ≡ false → (a ≡ true) × (b ≡ true)
 both_pass true true passed = (refl, refl)
@@ -103,9 +98,9 @@ answer_new-lawful : (set : Set) (server : ℕ) (history : History) (request : Re
     IfSome (answer_new set server history request seen fault).added (Starts set server history)
 answer_new-lawful set server history request seen (Some fault) new is counted = tt
 answer_new-lawful set server history request seen None new is counted =
-    chosen (λ (begins : Begins). IfSome begins.added (Starts set server history)) (is_full history seen) _ _
+    cond_both (is_full history seen) _ _ (λ (begins : Begins). IfSome begins.added (Starts set server history))
     (λ full. tt)
-    (λ left. chosen (λ (begins : Begins). IfSome begins.added (Starts set server history)) (is_busy set server history) _ _
+    (λ left. cond_both (is_busy set server history) _ _ (λ (begins : Begins). IfSome begins.added (Starts set server history))
     (λ busy. tt)
     (λ free. begun_by-lawful set server history request seen _ refl (room_left history seen left)
     (record { new = new; in_order = ap is_some is; in_turn = counted ∙ sym (not_busy _ _ free) })))
@@ -146,11 +141,11 @@ done_by-lawful set server history held message (Err need) is room formed new in_
 -- a message that is held, or not, adds nothing
 early-adds_nothing : (room : ℕ) (held : List Message) (message : Message) (P : Entry → Type 0) → IfSome (early room held message).added P
 early-adds_nothing room held message P =
-    chosen (λ (delivers : Delivers). IfSome delivers.added P) (list_any (λ other. same_hop other message && not (same_message other message)) held) _ _
+    cond_both (list_any (λ other. same_hop other message && not (same_message other message)) held) _ _ (λ (delivers : Delivers). IfSome delivers.added P)
     (λ other. tt)
-    (λ same. chosen (λ (delivers : Delivers). IfSome delivers.added P) (list_any (same_message message) held) _ _
+    (λ same. cond_both (list_any (same_message message) held) _ _ (λ (delivers : Delivers). IfSome delivers.added P)
     (λ there. tt)
-    (λ not_there. chosen (λ (delivers : Delivers). IfSome delivers.added P) (nat_lt (length held) room) _ _
+    (λ not_there. cond_both (nat_lt (length held) room) _ _ (λ (delivers : Delivers). IfSome delivers.added P)
     (λ holds. tt) (λ drops. tt)))
 
 deliver_by_turn-lawful : (set : Set) (server room : ℕ) (history : History) (held : List Message) (message : Message) →
@@ -162,11 +157,11 @@ deliver_by_turn-lawful set server room history held message formed new =
     let number = unwrap_or (number_at message.numbers server) 0 in
     let turn = turn_of set server history message.chain.origin in
     let Lawful : Delivers → Type 0 = λ delivers. IfSome delivers.added (Runs set server history message) in
-    chosen Lawful (nat_lt number turn) _ _
+    cond_both (nat_lt number turn) _ _ Lawful
     (λ past. tt)
-    (λ not_past. chosen Lawful (nat_lt turn number) _ _
+    (λ not_past. cond_both (nat_lt turn number) _ _ Lawful
     (λ ahead. early-adds_nothing room held message (Runs set server history message))
-    (λ not_ahead. chosen Lawful (is_full history message.stamp) _ _
+    (λ not_ahead. cond_both (is_full history message.stamp) _ _ Lawful
     (λ full. tt)
     (λ left. done_by-lawful set server history held message _ refl (room_left history message.stamp left) formed new
     (same_number number turn (ltb-false _ _ not_past) (ltb-false _ _ not_ahead)))))
@@ -185,6 +180,6 @@ deliver_new-lawful set server room history held message None formed is =
 pub delivery-lawful : (set : Set) (server room : ℕ) (history : History) (held : List Message) (message : Message) →
     IfSome (delivery set server room history held message).added (Runs set server history message)
 delivery-lawful set server room history held message =
-    chosen (λ (delivers : Delivers). IfSome delivers.added (Runs set server history message)) (is_well_formed set server history message) _ _
+    cond_both (is_well_formed set server history message) _ _ (λ (delivers : Delivers). IfSome delivers.added (Runs set server history message))
     (λ formed. deliver_new-lawful set server room history held message _ formed refl)
     (λ malformed. tt)

@@ -1,7 +1,7 @@
 -- The tables that a history leaves, and its clock.
 use Rattle.std.specs.Prelude.{ℕ, [], fold, Ok, Err}
 use Rattle.lynx_cells.specs.Database.{Database, empty_database}
-use Rattle.lynx_text.specs.Set.{Set}
+use Rattle.lynx_set.specs.Set.{Set}
 use Rattle.lynx_hops.specs.Meaning.{Outcome, meaning}
 use Rattle.lynx_entry.specs.declared.entry.Entry.{Entry}
 use Rattle.lynx_entry.specs.declared.entry.Entry.TheVariants.{Begun, Refused, Hop}

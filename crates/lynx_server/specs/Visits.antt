@@ -2,8 +2,8 @@
 use Rattle.std.specs.Prelude.{ℕ, ◌+◌, ◌==◌, Bool, false, not, List, [], ◌∷◌, unwrap_or, option_map, drop, filter}
 use Rattle.std.specs.List.{list_any, range_with_len}
 use Rattle.lynx_names.specs.declared.limits.TheConstants.{MAX_SERVERS}
-use Rattle.lynx_text.specs.declared.program.Hop.{Hop}
-use Rattle.lynx_text.specs.Set.{Set}
+use Rattle.lynx_set.specs.declared.program.Hop.{Hop}
+use Rattle.lynx_set.specs.Set.{Set}
 use Rattle.lynx_hops.specs.Meaning.{program_at}
 
 -- the hops of the program of that number

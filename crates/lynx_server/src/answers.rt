@@ -4,7 +4,7 @@ ghost use Rattle.lynx_hops.specs.Meaning.{meaning};
 ghost use Rattle.lynx_server.specs.Turns.{numbered, numbers_of};
 ghost use Rattle.lynx_server.specs.Tables.{tables_of, clock_of};
 ghost use Rattle.lynx_server.specs.Lawful.{is_record_of, record_of};
-ghost use Rattle.lynx_server.specs.Answers.{only, same_call, recorded_answer, is_full, is_busy, begun_by, answer};
+ghost use Rattle.lynx_server.specs.Answers.{only, same_call, recorded_answer, is_full, is_busy, begun_by, begun_with, refused_by, answer};
 
 use crate::checks::request_fault;
 use crate::tables::{clock_of, tables_of};
@@ -13,8 +13,8 @@ use crate::visits::visited;
 use lynx_entry::{Answer, BegunEntry, Entry, NumberAt, Numbers, RefusedEntry, Request};
 use lynx_hops::{HopFault, run_hop};
 use lynx_names::limits::MAX_ENTRIES;
-use lynx_names::{ChainId, Memory, ProgramId, ServerId, Stamp, TryCopy};
-use lynx_text::ChainSet;
+use lynx_names::{ChainId, Memory, ProgramId, ServerId, Stamp, TryCopy, Values};
+use lynx_set::ChainSet;
 use std::alloc::Global;
 
 /// What comes of a begin: its answer, and the entry that it adds, if it adds one.
@@ -123,6 +123,71 @@ fn numbers_of(
     numbers_for(alloc, set, history, servers.as_slice())
 }
 
+/// What comes of a hop 0 that ran, as the entry with that stamp.
+fn begun(
+    alloc: Global,
+    set: &ChainSet,
+    server: ServerId,
+    history: &[Entry],
+    request: &Request,
+    seen: Stamp,
+    stamp: Stamp,
+    results: Values,
+) -> Result<Begins, Memory>
+    requires { stamp ≡ max (clock_of history.now) seen + 1 }
+    ensures { IfOk result (λ begins. begins ≡ begun_with set.now server history.now request.now seen results) }
+{
+    let chain = ChainId {
+        origin: server,
+        index: begun_count(history) as u64,
+    };
+    let numbers = numbers_of(alloc, set, history, request.program)?;
+    let again = results.copy(alloc)?;
+    let entry = BegunEntry {
+        request: request.copy(alloc)?,
+        seen,
+        chain,
+        numbers,
+        stamp,
+        results,
+    };
+    Ok(Begins {
+        answer: Answer::Begun {
+            chain,
+            stamp,
+            results: again,
+            again: false,
+        },
+        added: Some(Entry::Begun(entry)),
+    })
+}
+
+/// What comes of a hop 0 that refused by that need, as the entry with that stamp.
+fn refused(
+    alloc: Global,
+    request: &Request,
+    seen: Stamp,
+    need: u8,
+    stamp: Stamp,
+) -> Result<Begins, Memory>
+    ensures { IfOk result (λ begins. begins ≡ refused_by request.now seen need stamp) }
+{
+    let entry = RefusedEntry {
+        request: request.copy(alloc)?,
+        seen,
+        need,
+        stamp,
+    };
+    Ok(Begins {
+        answer: Answer::Refused {
+            need,
+            stamp,
+            again: false,
+        },
+        added: Some(Entry::Refused(entry)),
+    })
+}
+
 /// Runs hop 0 of a new chain, whose entry has that stamp.
 fn begin_new(
     alloc: Global,
@@ -138,51 +203,13 @@ fn begin_new(
         (meaning set.now request.now.program 0 request.now.args [] (tables_of set.now history.now))) }
 {
     let cells = tables_of(alloc, set, history)?;
-    match run_hop(
-        alloc,
-        set,
-        request.program,
-        0,
-        request.args.as_slice(),
-        &[],
-        &cells,
-    ) {
+    let args = request.args.as_slice();
+    match run_hop(alloc, set, request.program, 0, args, &[], &cells) {
         Ok(ran) => {
             let (results, _) = ran.spend();
-            let chain = ChainId {
-                origin: server,
-                index: begun_count(history) as u64,
-            };
-            Ok(Begins {
-                answer: Answer::Begun {
-                    chain,
-                    stamp,
-                    results: results.copy(alloc)?,
-                    again: false,
-                },
-                added: Some(Entry::Begun(BegunEntry {
-                    request: request.copy(alloc)?,
-                    seen,
-                    chain,
-                    numbers: numbers_of(alloc, set, history, request.program)?,
-                    stamp,
-                    results,
-                })),
-            })
+            begun(alloc, set, server, history, request, seen, stamp, results)
         }
-        Err(HopFault::Refused(need)) => Ok(Begins {
-            answer: Answer::Refused {
-                need,
-                stamp,
-                again: false,
-            },
-            added: Some(Entry::Refused(RefusedEntry {
-                request: request.copy(alloc)?,
-                seen,
-                need,
-                stamp,
-            })),
-        }),
+        Err(HopFault::Refused(need)) => refused(alloc, request, seen, need, stamp),
         Err(HopFault::Memory) => Err(Memory),
     }
 }

@@ -9,7 +9,7 @@ use crate::visits::{is_origin, visited};
 use lynx_entry::{Answer, Entry, Message, NumberAt, Request};
 use lynx_hops::value::key_of;
 use lynx_names::{Memory, ServerId, TableId, Values};
-use lynx_text::{Action, ChainSet, Hop, Key, Program};
+use lynx_set::{Action, ChainSet, Hop, Key, Program};
 use std::alloc::Global;
 
 /// A key that is a parameter names a cell of the server; a literal was judged with the set's text.

@@ -5,7 +5,7 @@ ghost use Rattle.lynx_server.specs.Tables.{tables_of, clock_of};
 ghost use Rattle.lynx_server.specs.Lawful.{is_hop_of, hop_entry_of, number_at};
 ghost use Rattle.lynx_server.specs.Turns.{turn_of};
 ghost use Rattle.lynx_server.specs.Deliveries as spec;
-ghost use Rattle.lynx_server.specs.Deliveries.{repeated, done_by, deliver_new, Gives};
+ghost use Rattle.lynx_server.specs.Deliveries.{repeated, done_at, done_by, deliver_new, Gives};
 
 use crate::answers::next_stamp;
 use crate::checks::is_well_formed;
@@ -14,8 +14,8 @@ use crate::tables::tables_of;
 use crate::turns::turn_of;
 use lynx_entry::{Delivered, Entry, HopEntry, Message, NumberAt};
 use lynx_hops::{HopFault, run_hop};
-use lynx_names::{ChainId, Memory, ServerId, Stamp, TryCopy};
-use lynx_text::ChainSet;
+use lynx_names::{ChainId, Memory, ServerId, Stamp, TryCopy, Values};
+use lynx_set::ChainSet;
 use std::alloc::Global;
 
 /// What comes of a delivery: its answer, and the entry that it adds, if it adds one.
@@ -89,6 +89,34 @@ fn repeated(
     }
 }
 
+/// What comes of a later hop that ran on this message, as the entry with that stamp.
+fn done(
+    alloc: Global,
+    set: &ChainSet,
+    message: &Message,
+    stamp: Stamp,
+    results: Values,
+) -> Result<Delivery, Memory>
+    ensures { IfOk result (λ delivery. Gives delivery (done_at set.now [] message.now stamp results)) }
+{
+    let again = results.copy(alloc)?;
+    let message = message.copy(alloc)?;
+    let entry = Entry::Hop(HopEntry {
+        message,
+        stamp,
+        results,
+    });
+    let next = next_of(alloc, set, &entry)?;
+    Ok(Delivery {
+        delivered: Delivered::Done {
+            stamp,
+            results: again,
+            next,
+        },
+        added: Some(entry),
+    })
+}
+
 /// Runs a hop whose turn it is, and whose entry has that stamp.
 fn run_later_hop(
     alloc: Global,
@@ -107,20 +135,7 @@ fn run_later_hop(
     match run_hop(alloc, set, message.program, hop, args, earlier, &cells) {
         Ok(ran) => {
             let (results, _) = ran.spend();
-            let again = results.copy(alloc)?;
-            let entry = Entry::Hop(HopEntry {
-                message: message.copy(alloc)?,
-                stamp,
-                results,
-            });
-            Ok(Delivery {
-                delivered: Delivered::Done {
-                    stamp,
-                    results: again,
-                    next: next_of(alloc, set, &entry)?,
-                },
-                added: Some(entry),
-            })
+            done(alloc, set, message, stamp, results)
         }
         Err(HopFault::Refused(_)) => Ok(only(Delivered::Malformed)),
         Err(HopFault::Memory) => Err(Memory),

@@ -7,7 +7,7 @@ use lynx_cells::Cells;
 use lynx_entry::Entry;
 use lynx_hops::{HopFault, run_hop};
 use lynx_names::{Memory, ProgramId, Stamp, Values};
-use lynx_text::ChainSet;
+use lynx_set::ChainSet;
 use std::alloc::Global;
 
 /// The cells after a hop. One that refuses changes nothing.

@@ -5,7 +5,7 @@ ghost use Rattle.lynx_server.specs.Turns.{is_begun, begun_count, begins_visiting
 use crate::visits::{hops_of, is_last_at, visits};
 use lynx_entry::Entry;
 use lynx_names::ServerId;
-use lynx_text::ChainSet;
+use lynx_set::ChainSet;
 
 fn is_begun(entry: &Entry) -> bool
     ensures { result ≡ is_begun entry.now }

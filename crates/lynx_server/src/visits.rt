@@ -5,7 +5,7 @@ ghost use Rattle.lynx_server.specs.Visits.{hops_of, is_origin, visits, visited, 
 
 use lynx_names::limits::MAX_SERVERS;
 use lynx_names::{Memory, ProgramId, ServerId};
-use lynx_text::{ChainSet, Hop};
+use lynx_set::{ChainSet, Hop};
 use std::alloc::Global;
 
 /// The hops of the program, none where the set hasn't it.
@@ -61,7 +61,6 @@ fn visited_below(alloc: Global, hops: &[Hop], end: u8) -> Result<Vec<ServerId>, 
 }
 
 /// The servers that the program visits, rising.
-#[tactic(auto, unfolding(crate::specs::Visits::visited))]
 pub fn visited(alloc: Global, set: &ChainSet, program: ProgramId) -> Result<Vec<ServerId>, Memory>
     ensures { IfOk result (λ servers. servers.items ≡ visited set.now program) }
 {

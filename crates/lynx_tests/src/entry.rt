@@ -1,9 +1,10 @@
+use crate::asks::holds;
+use crate::copies::is_copied;
 use lynx_entry::{
     BegunEntry, Entry, HopEntry, Message, NumberAt, Numbers, RefusedEntry, Request, ResultLists,
 };
-use lynx_names::{ChainId, ClientId, Memory, ProgramId, ServerId, Stamp, TryCopy, Values};
+use lynx_names::{ChainId, ClientId, Memory, ProgramId, ServerId, Stamp, Values};
 use std::alloc::Global;
-use std::test::Fail;
 
 fn values(alloc: Global, value: u64) -> Result<Values, Memory> {
     let mut values = Values::new(alloc);
@@ -50,79 +51,77 @@ fn numbers(alloc: Global) -> Result<Numbers, Memory> {
     Ok(numbers)
 }
 
-fn message(alloc: Global) -> Result<Message, Memory> {
+fn results(alloc: Global) -> Result<ResultLists, Memory> {
     let mut results = ResultLists::new(alloc);
     results.push(values(alloc, 100)?)?;
+    Ok(results)
+}
+
+fn message(alloc: Global) -> Result<Message, Memory> {
+    let (program, stamp) = (program(1)?, stamp(2)?);
     Ok(Message {
         chain: chain(),
-        program: program(1)?,
+        program,
         hop: 1,
-        stamp: stamp(2)?,
+        stamp,
         args: values(alloc, 30)?,
         numbers: numbers(alloc)?,
-        results,
+        results: results(alloc)?,
     })
 }
 
 fn begun(alloc: Global) -> Result<Entry, Memory> {
+    let (seen, stamp) = (stamp(1)?, stamp(2)?);
     Ok(Entry::Begun(BegunEntry {
         request: request(alloc)?,
-        seen: stamp(1)?,
+        seen,
         chain: chain(),
         numbers: numbers(alloc)?,
-        stamp: stamp(2)?,
+        stamp,
         results: values(alloc, 100)?,
     }))
 }
 
 fn refused(alloc: Global) -> Result<Entry, Memory> {
+    let (seen, stamp) = (stamp(1)?, stamp(2)?);
     Ok(Entry::Refused(RefusedEntry {
         request: request(alloc)?,
-        seen: stamp(1)?,
+        seen,
         need: 3,
-        stamp: stamp(2)?,
+        stamp,
     }))
 }
 
 fn ran(alloc: Global) -> Result<Entry, Memory> {
+    let stamp = stamp(3)?;
     Ok(Entry::Hop(HopEntry {
         message: message(alloc)?,
-        stamp: stamp(3)?,
+        stamp,
         results: values(alloc, 5)?,
     }))
 }
 
 #[test]
-fn a_request_is_copied(rt: HostRuntime) -> Result<(), Fail> {
-    let request = request(rt.alloc())?;
-    assert!(rt; request.copy(rt.alloc())? == request);
-    Ok(())
+fn a_request_is_copied(rt: HostRuntime) {
+    holds(&rt, is_copied(rt.alloc(), request(rt.alloc())));
 }
 
 #[test]
-fn a_message_is_copied(rt: HostRuntime) -> Result<(), Fail> {
-    let message = message(rt.alloc())?;
-    assert!(rt; message.copy(rt.alloc())? == message);
-    Ok(())
+fn a_message_is_copied(rt: HostRuntime) {
+    holds(&rt, is_copied(rt.alloc(), message(rt.alloc())));
 }
 
 #[test]
-fn an_entry_of_a_begin_is_copied(rt: HostRuntime) -> Result<(), Fail> {
-    let entry = begun(rt.alloc())?;
-    assert!(rt; entry.copy(rt.alloc())? == entry);
-    Ok(())
+fn an_entry_of_a_begin_is_copied(rt: HostRuntime) {
+    holds(&rt, is_copied(rt.alloc(), begun(rt.alloc())));
 }
 
 #[test]
-fn an_entry_of_a_refusal_is_copied(rt: HostRuntime) -> Result<(), Fail> {
-    let entry = refused(rt.alloc())?;
-    assert!(rt; entry.copy(rt.alloc())? == entry);
-    Ok(())
+fn an_entry_of_a_refusal_is_copied(rt: HostRuntime) {
+    holds(&rt, is_copied(rt.alloc(), refused(rt.alloc())));
 }
 
 #[test]
-fn an_entry_of_a_hop_is_copied(rt: HostRuntime) -> Result<(), Fail> {
-    let entry = ran(rt.alloc())?;
-    assert!(rt; entry.copy(rt.alloc())? == entry);
-    Ok(())
+fn an_entry_of_a_hop_is_copied(rt: HostRuntime) {
+    holds(&rt, is_copied(rt.alloc(), ran(rt.alloc())));
 }

@@ -1,12 +1,9 @@
+use crate::asks::holds;
+use crate::texts::{PAYMENT_AND_PUT, set_of};
 use lynx_foot::{Foot, Kind, Touch, conflict, footprint, may_conflict, touches};
-use lynx_names::{Memory, ProgramId, TableId};
-use lynx_text::{ChainSet, Key, parse};
+use lynx_names::{Memory, ProgramId};
+use lynx_set::{ChainSet, Key};
 use std::alloc::Global;
-use std::test::Fail;
-
-/// A payment between two servers. Its programs are seed, pay and put.
-const PAYMENT: &str =
-    "lynx 1\nservers 2\ntable acct\nshard 0 999 0\nshard 1000 18446744073709551615 1\nprogram seed n\nhop 0\nadd acct 0 n\nend\nprogram pay n\nhop 0\nget x acct 0\nneed x >= n\nsub acct 0 n\nhop 1\nadd acct 1000 n\nend\nprogram put k\nhop 0\nadd acct k 1\nend\n";
 
 const SEED: u8 = 0;
 
@@ -14,13 +11,9 @@ const PAY: u8 = 1;
 
 const PUT: u8 = 2;
 
-/// Two tables, of which the second is at the first server alone.
-const TABLES: &str =
-    "lynx 1\nservers 2\ntable a\nshard 0 99 0\nshard 100 18446744073709551615 1\ntable b\nshard 0 18446744073709551615 0\n";
-
-/// Programs over these tables, each of one hop.
-const PROGRAMS: &str =
-    "program one j k\nhop 0\nset a 1 j\nend\nprogram two j k\nhop 0\nset a 2 j\nend\nprogram any j k\nhop 0\nget x a k\nend\nprogram far j k\nhop 1\nget x a k\nend\nprogram other j k\nhop 0\nget x b 1\nend\nprogram last j k\nhop 0\nget x a 1\nlet y x - 1\nset a k y\nend\n";
+/// Programs of one hop each, over two tables, of which the second is at the first server alone.
+const KEYS: &str =
+    "lynx 1\nservers 2\ntable a\nshard 0 99 0\nshard 100 18446744073709551615 1\ntable b\nshard 0 18446744073709551615 0\nprogram one j k\nhop 0\nset a 1 j\nend\nprogram two j k\nhop 0\nset a 2 j\nend\nprogram any j k\nhop 0\nget x a k\nend\nprogram far j k\nhop 1\nget x a k\nend\nprogram other j k\nhop 0\nget x b 1\nend\nprogram last j k\nhop 0\nget x a 1\nlet y x - 1\nset a k y\nend\n";
 
 const ONE: u8 = 0;
 
@@ -34,59 +27,32 @@ const OTHER: u8 = 4;
 
 const LAST: u8 = 5;
 
-fn keys(alloc: Global) -> Result<ChainSet, Fail> {
-    let text = format!(in alloc; "{TABLES}{PROGRAMS}")?;
-    Ok(parse(alloc, text.as_bytes())?)
-}
-
-// The program of a number that is known to be in range.
+/// The program of a number that is known to be in range.
 fn program(number: u8) -> Result<ProgramId, Memory> {
     ProgramId::new(number).ok_or(Memory)
 }
 
-fn may(set: &ChainSet, left: (u8, usize), right: (u8, usize)) -> Result<bool, Fail> {
-    let (left, left_hop) = (program(left.0)?, left.1);
-    let (right, right_hop) = (program(right.0)?, right.1);
-    let answer = may_conflict(set, left, left_hop, right, right_hop);
-    Ok(answer)
+/// A program's number, and a hop of it.
+type At = (u8, usize);
+
+/// Two hops, and whether they may conflict.
+type MayCase = (At, At, bool);
+
+fn may(set: &ChainSet, left: At, right: At) -> Result<bool, Memory> {
+    let (left_program, right_program) = (program(left.0)?, program(right.0)?);
+    Ok(may_conflict(set, left_program, left.1, right_program, right.1))
 }
 
-fn with_args(
-    set: &ChainSet,
-    left: (u8, usize),
-    left_args: &[u64],
-    right: (u8, usize),
-    right_args: &[u64],
-) -> Result<bool, Fail> {
-    let (left, left_hop) = (program(left.0)?, left.1);
-    let (right, right_hop) = (program(right.0)?, right.1);
-    let answer = conflict(set, left, left_hop, left_args, right, right_hop, right_args);
-    Ok(answer)
+/// Whether the two hops may conflict as the case says, in either order.
+fn is_may(set: &ChainSet, (left, right, want): MayCase) -> Result<bool, Memory> {
+    Ok(may(set, left, right)? == want && may(set, right, left)? == want)
 }
 
-/// Two hops, each a program and the hop's number, and whether they may conflict.
-type MayCase = ((u8, usize), (u8, usize), bool);
-
-/// Whether each two hops may conflict as the case says, in either order.
-fn all_may(set: &ChainSet, cases: &[MayCase]) -> Result<bool, Fail> {
-    for &(left, right, want) in cases {
-        if may(set, left, right)? != want || may(set, right, left)? != want {
-            return Ok(false);
-        }
-    }
-    Ok(true)
-}
-
-/// The first hops of two programs with their arguments, and whether they conflict.
-type ConflictCase = (u8, &'static [u64], u8, &'static [u64], bool);
-
-/// Whether each two first hops conflict as the case says, in either order.
-fn all_conflict(set: &ChainSet, cases: &[ConflictCase]) -> Result<bool, Fail> {
-    for &(left, left_args, right, right_args, want) in cases {
-        let (left, right) = ((left, 0), (right, 0));
-        if with_args(set, left, left_args, right, right_args)? != want
-            || with_args(set, right, right_args, left, left_args)? != want
-        {
+/// Whether each two hops of the set may conflict as the case says.
+fn all_may(alloc: Global, text: &str, cases: &[MayCase]) -> Result<bool, Memory> {
+    let set = set_of(alloc, text)?;
+    for case in cases {
+        if !is_may(&set, *case)? {
             return Ok(false);
         }
     }
@@ -103,25 +69,8 @@ const MAY_OF_PAYMENTS: &[MayCase] = &[
 ];
 
 #[test]
-fn payments_and_puts_may_conflict(rt: HostRuntime) -> Result<(), Fail> {
-    let set = parse(rt.alloc(), PAYMENT.as_bytes())?;
-    assert!(rt; all_may(&set, MAY_OF_PAYMENTS)?);
-    Ok(())
-}
-
-const CONFLICTS_OF_PAYMENTS: &[ConflictCase] = &[
-    (PUT, &[5], PAY, &[30], false),
-    (PUT, &[0], PAY, &[30], true),
-    (PUT, &[0], SEED, &[30], false),
-    (PAY, &[1], PAY, &[2], true),
-    (PUT, &[7], PUT, &[7], false),
-];
-
-#[test]
-fn payments_and_puts_conflict(rt: HostRuntime) -> Result<(), Fail> {
-    let set = parse(rt.alloc(), PAYMENT.as_bytes())?;
-    assert!(rt; all_conflict(&set, CONFLICTS_OF_PAYMENTS)?);
-    Ok(())
+fn payments_and_puts_may_conflict(rt: HostRuntime) {
+    holds(&rt, all_may(rt.alloc(), PAYMENT_AND_PUT, MAY_OF_PAYMENTS));
 }
 
 const MAY_OF_KEYS: &[MayCase] = &[
@@ -138,10 +87,52 @@ const MAY_OF_KEYS: &[MayCase] = &[
 ];
 
 #[test]
-fn hops_that_may_conflict(rt: HostRuntime) -> Result<(), Fail> {
-    let set = keys(rt.alloc())?;
-    assert!(rt; all_may(&set, MAY_OF_KEYS)?);
-    Ok(())
+fn hops_that_may_conflict(rt: HostRuntime) {
+    holds(&rt, all_may(rt.alloc(), KEYS, MAY_OF_KEYS));
+}
+
+/// A program whose first hop is run, and its arguments.
+type Run = (u8, &'static [u64]);
+
+/// Two first hops with their arguments, and whether they conflict.
+type ConflictCase = (u8, &'static [u64], u8, &'static [u64], bool);
+
+fn conflicts(set: &ChainSet, left: Run, right: Run) -> Result<bool, Memory> {
+    let (left_program, right_program) = (program(left.0)?, program(right.0)?);
+    Ok(conflict(set, left_program, 0, left.1, right_program, 0, right.1))
+}
+
+/// Whether the two hops conflict as the case says, in either order.
+fn is_conflict(set: &ChainSet, case: ConflictCase) -> Result<bool, Memory> {
+    let (left, right) = ((case.0, case.1), (case.2, case.3));
+    Ok(conflicts(set, left, right)? == case.4 && conflicts(set, right, left)? == case.4)
+}
+
+/// Whether each two hops of the set conflict as the case says.
+fn all_conflict(alloc: Global, text: &str, cases: &[ConflictCase]) -> Result<bool, Memory> {
+    let set = set_of(alloc, text)?;
+    for case in cases {
+        if !is_conflict(&set, *case)? {
+            return Ok(false);
+        }
+    }
+    Ok(true)
+}
+
+const CONFLICTS_OF_PAYMENTS: &[ConflictCase] = &[
+    (PUT, &[5], PAY, &[30], false),
+    (PUT, &[0], PAY, &[30], true),
+    (PUT, &[0], SEED, &[30], false),
+    (PAY, &[1], PAY, &[2], true),
+    (PUT, &[7], PUT, &[7], false),
+];
+
+#[test]
+fn payments_and_puts_conflict(rt: HostRuntime) {
+    holds(
+        &rt,
+        all_conflict(rt.alloc(), PAYMENT_AND_PUT, CONFLICTS_OF_PAYMENTS),
+    );
 }
 
 const CONFLICTS_OF_KEYS: &[ConflictCase] = &[
@@ -158,52 +149,43 @@ const CONFLICTS_OF_KEYS: &[ConflictCase] = &[
 ];
 
 #[test]
-fn hops_that_conflict(rt: HostRuntime) -> Result<(), Fail> {
-    let set = keys(rt.alloc())?;
-    assert!(rt; all_conflict(&set, CONFLICTS_OF_KEYS)?);
-    Ok(())
+fn hops_that_conflict(rt: HostRuntime) {
+    holds(&rt, all_conflict(rt.alloc(), KEYS, CONFLICTS_OF_KEYS));
 }
 
-// Whether the hop has these feet, all of the first table.
+/// Whether these are the feet, all of the first table.
+fn are_feet(feet: &[Foot], want: &[(Key, Kind)]) -> bool {
+    for (foot, want) in feet.iter().zip(want) {
+        if foot.table.index() != 0 || (foot.key, foot.kind) != *want {
+            return false;
+        }
+    }
+    feet.len() == want.len()
+}
+
+/// Whether the hop has these feet.
 fn has_feet(
     alloc: Global,
-    set: &ChainSet,
-    hop: (u8, usize),
+    text: &str,
+    (number, hop): At,
     want: &[(Key, Kind)],
-) -> Result<bool, Fail> {
-    let table = TableId::new(0).ok_or(Memory)?;
-    let mut wanted = Vec::new(alloc);
-    for &(key, kind) in want {
-        wanted.push(Foot { table, key, kind })?;
-    }
-    let feet = footprint(alloc, set, program(hop.0)?, hop.1)?;
-    Ok(feet.as_slice() == wanted.as_slice())
+) -> Result<bool, Memory> {
+    let program = program(number)?;
+    let set = set_of(alloc, text)?;
+    let feet = footprint(alloc, &set, program, hop)?;
+    Ok(are_feet(feet.as_slice(), want))
 }
 
-// Whether the hop has these touches, all of the first table.
-fn has_touches(
-    alloc: Global,
-    set: &ChainSet,
-    hop: (u8, usize),
-    args: &[u64],
-    want: &[(u64, Kind)],
-) -> Result<bool, Fail> {
-    let table = TableId::new(0).ok_or(Memory)?;
-    let mut wanted = Vec::new(alloc);
-    for &(key, kind) in want {
-        wanted.push(Touch { table, key, kind })?;
-    }
-    let touches = touches(alloc, set, program(hop.0)?, hop.1, args)?;
-    Ok(touches.as_slice() == wanted.as_slice())
-}
-
-/// What the hop of last does, by its text and with two arguments.
+/// What the hop of last does.
 const LAST_FEET: &[(Key, Kind)] = &[
     (Key::Literal(1), Kind::Getting),
     (Key::Param(1), Kind::Setting),
 ];
 
-const LAST_TOUCHES: &[(u64, Kind)] = &[(1, Kind::Getting), (6, Kind::Setting)];
+#[test]
+fn feet_in_order(rt: HostRuntime) {
+    holds(&rt, has_feet(rt.alloc(), KEYS, (LAST, 0), LAST_FEET));
+}
 
 /// What the first hop of pay does.
 const PAY_FEET: &[(Key, Kind)] = &[
@@ -212,29 +194,39 @@ const PAY_FEET: &[(Key, Kind)] = &[
 ];
 
 #[test]
-fn feet_in_order(rt: HostRuntime) -> Result<(), Fail> {
-    let set = keys(rt.alloc())?;
-    assert!(rt; has_feet(rt.alloc(), &set, (LAST, 0), LAST_FEET)?);
-    Ok(())
+fn feet_of_a_payment(rt: HostRuntime) {
+    holds(
+        &rt,
+        has_feet(rt.alloc(), PAYMENT_AND_PUT, (PAY, 0), PAY_FEET),
+    );
 }
 
 #[test]
-fn feet_of_a_payment(rt: HostRuntime) -> Result<(), Fail> {
-    let set = parse(rt.alloc(), PAYMENT.as_bytes())?;
-    assert!(rt; has_feet(rt.alloc(), &set, (PAY, 0), PAY_FEET)?);
-    Ok(())
+fn no_hop_has_no_feet(rt: HostRuntime) {
+    holds(&rt, has_feet(rt.alloc(), KEYS, (LAST, 1), &[]));
 }
 
-#[test]
-fn no_hop_has_no_feet(rt: HostRuntime) -> Result<(), Fail> {
-    let set = keys(rt.alloc())?;
-    assert!(rt; has_feet(rt.alloc(), &set, (LAST, 1), &[])?);
-    Ok(())
+/// Whether these are the touches, all of the first table.
+fn are_touches(touches: &[Touch], want: &[(u64, Kind)]) -> bool {
+    for (touch, want) in touches.iter().zip(want) {
+        if touch.table.index() != 0 || (touch.key, touch.kind) != *want {
+            return false;
+        }
+    }
+    touches.len() == want.len()
 }
 
+/// Whether the hop of last has these touches with these arguments.
+fn has_touches(alloc: Global, args: &[u64], want: &[(u64, Kind)]) -> Result<bool, Memory> {
+    let last = program(LAST)?;
+    let set = set_of(alloc, KEYS)?;
+    let touches = touches(alloc, &set, last, 0, args)?;
+    Ok(are_touches(touches.as_slice(), want))
+}
+
+const LAST_TOUCHES: &[(u64, Kind)] = &[(1, Kind::Getting), (6, Kind::Setting)];
+
 #[test]
-fn touches_in_order(rt: HostRuntime) -> Result<(), Fail> {
-    let set = keys(rt.alloc())?;
-    assert!(rt; has_touches(rt.alloc(), &set, (LAST, 0), &[5, 6], LAST_TOUCHES)?);
-    Ok(())
+fn touches_in_order(rt: HostRuntime) {
+    holds(&rt, has_touches(rt.alloc(), &[5, 6], LAST_TOUCHES));
 }

@@ -3,11 +3,17 @@
 #![tactic(auto)]
 
 #[cfg(test)]
+mod asks;
+#[cfg(test)]
 mod cells;
 #[cfg(test)]
 mod check_rows;
 #[cfg(test)]
 mod checks;
+#[cfg(test)]
+mod command;
+#[cfg(test)]
+mod copies;
 #[cfg(test)]
 mod entry;
 #[cfg(test)]
@@ -18,6 +24,8 @@ mod full;
 mod graph;
 #[cfg(test)]
 mod hops;
+#[cfg(test)]
+mod jobs;
 #[cfg(test)]
 mod names;
 #[cfg(test)]
@@ -30,5 +38,7 @@ mod server;
 mod shards;
 #[cfg(test)]
 mod text;
+#[cfg(test)]
+mod texts;
 #[cfg(test)]
 mod world;

@@ -1,4 +1,6 @@
 //! Worked runs: a set, a script, and what is printed.
+use crate::texts;
+
 #[derive(Clone, Copy)]
 pub struct Row {
     pub name: &'static str,
@@ -10,7 +12,7 @@ pub struct Row {
 #[rattlefmt::skip]
 pub const PAYMENT: Row = Row {
     name: "payment",
-    set: "lynx 1\nservers 2\ntable acct\nshard 0 999 0\nshard 1000 18446744073709551615 1\nprogram seed n\nhop 0\nadd acct 0 n\nend\nprogram pay n\nhop 0\nget x acct 0\nneed x >= n\nsub acct 0 n\nhop 1\nadd acct 1000 n\nend\n",
+    set: texts::PAYMENT,
     script: "begin 0 1 1 seed 100\nbegin 0 1 2 pay 30\ndeliver 0:1 1\n",
     printed: "begun 0:0 stamp 1 results -\nbegun 0:1 stamp 2 results 100\ndone 0:1 1 stamp 3 results - end\ncell acct 0 70\ncell acct 1000 30\n",
 };
@@ -18,7 +20,7 @@ pub const PAYMENT: Row = Row {
 #[rattlefmt::skip]
 pub const REPEATED_DELIVERY: Row = Row {
     name: "repeated-delivery",
-    set: "lynx 1\nservers 2\ntable acct\nshard 0 999 0\nshard 1000 18446744073709551615 1\nprogram seed n\nhop 0\nadd acct 0 n\nend\nprogram pay n\nhop 0\nget x acct 0\nneed x >= n\nsub acct 0 n\nhop 1\nadd acct 1000 n\nend\n",
+    set: texts::PAYMENT,
     script: "begin 0 1 1 seed 100\nbegin 0 1 2 pay 30\ndeliver 0:1 1\ndeliver 0:1 1\ndeliver 0:1 1\n",
     printed: "begun 0:0 stamp 1 results -\nbegun 0:1 stamp 2 results 100\ndone 0:1 1 stamp 3 results - end\nrepeat 0:1 1 stamp 3 results - end\nrepeat 0:1 1 stamp 3 results - end\ncell acct 0 70\ncell acct 1000 30\n",
 };
@@ -26,7 +28,7 @@ pub const REPEATED_DELIVERY: Row = Row {
 #[rattlefmt::skip]
 pub const REFUSAL: Row = Row {
     name: "refusal",
-    set: "lynx 1\nservers 2\ntable acct\nshard 0 999 0\nshard 1000 18446744073709551615 1\nprogram seed n\nhop 0\nadd acct 0 n\nend\nprogram pay n\nhop 0\nget x acct 0\nneed x >= n\nsub acct 0 n\nhop 1\nadd acct 1000 n\nend\n",
+    set: texts::PAYMENT,
     script: "begin 0 1 1 seed 100\nbegin 0 1 2 pay 101\nbegin 0 1 3 seed 50\nbegin 0 1 2 pay 101\nbegin 0 1 4 pay 101\ndeliver 0:2 1\n",
     printed: "begun 0:0 stamp 1 results -\nrefused 0 stamp 2\nbegun 0:1 stamp 3 results -\nrefused 0 stamp 2 again\nbegun 0:2 stamp 4 results 150\ndone 0:2 1 stamp 5 results - end\ncell acct 0 49\ncell acct 1000 101\n",
 };
@@ -34,7 +36,7 @@ pub const REFUSAL: Row = Row {
 #[rattlefmt::skip]
 pub const CLASH: Row = Row {
     name: "clash",
-    set: "lynx 1\nservers 2\ntable acct\nshard 0 999 0\nshard 1000 18446744073709551615 1\nprogram seed n\nhop 0\nadd acct 0 n\nend\nprogram pay n\nhop 0\nget x acct 0\nneed x >= n\nsub acct 0 n\nhop 1\nadd acct 1000 n\nend\n",
+    set: texts::PAYMENT,
     script: "begin 0 1 1 seed 100\nbegin 0 1 1 seed 99\n",
     printed: "begun 0:0 stamp 1 results -\nclash\ncell acct 0 100\n",
 };
@@ -42,7 +44,7 @@ pub const CLASH: Row = Row {
 #[rattlefmt::skip]
 pub const WRAPPING_SUM: Row = Row {
     name: "wrapping-sum",
-    set: "lynx 1\nservers 2\ntable acct\nshard 0 999 0\nshard 1000 18446744073709551615 1\nprogram seed n\nhop 0\nadd acct 0 n\nend\nprogram pay n\nhop 0\nget x acct 0\nneed x >= n\nsub acct 0 n\nhop 1\nadd acct 1000 n\nend\n",
+    set: texts::PAYMENT,
     script: "begin 0 1 1 seed 18446744073709551615\nbegin 0 1 2 seed 1\n",
     printed: "begun 0:0 stamp 1 results -\nbegun 0:1 stamp 2 results -\n",
 };
@@ -50,7 +52,7 @@ pub const WRAPPING_SUM: Row = Row {
 #[rattlefmt::skip]
 pub const CROSSING_CYCLE: Row = Row {
     name: "crossing-cycle",
-    set: "lynx 1\nservers 2\ntable acct\nshard 0 999 0\nshard 1000 18446744073709551615 1\nprogram pay n\nhop 0\nget x acct 0\nneed x >= n\nsub acct 0 n\nhop 1\nadd acct 1000 n\nend\nprogram back n\nhop 1\nget y acct 1000\nneed y >= n\nsub acct 1000 n\nhop 0\nadd acct 0 n\nend\nprogram seed0 n\nhop 0\nadd acct 0 n\nend\nprogram seed1 n\nhop 1\nadd acct 1000 n\nend\n",
+    set: texts::CROSSING,
     script: "begin 0 1 1 seed0 100\nbegin 1 1 2 seed1 100\nbegin 0 1 3 pay 5\nbegin 1 1 4 back 5\ndeliver 0:1 1\ndeliver 1:1 1\n",
     printed: "begun 0:0 stamp 1 results -\nbegun 1:0 stamp 1 results -\nbegun 0:1 stamp 2 results 100\nbegun 1:1 stamp 2 results 100\ndone 0:1 1 stamp 3 results - end\ndone 1:1 1 stamp 3 results - end\ncell acct 0 100\ncell acct 1000 100\n",
 };
@@ -58,7 +60,7 @@ pub const CROSSING_CYCLE: Row = Row {
 #[rattlefmt::skip]
 pub const LET_WRAPS: Row = Row {
     name: "let-wraps",
-    set: "lynx 1\nservers 1\ntable t\nshard 0 18446744073709551615 0\nprogram calc a b\nhop 0\nlet s a + b\nlet d a - b\nset t 0 d\nend\n",
+    set: texts::CALC,
     script: "begin 0 1 1 calc 3 5\n",
     printed: "begun 0:0 stamp 1 results 8 18446744073709551614\ncell t 0 18446744073709551614\n",
 };
@@ -66,7 +68,7 @@ pub const LET_WRAPS: Row = Row {
 #[rattlefmt::skip]
 pub const SHARD_BORDER: Row = Row {
     name: "shard-border",
-    set: "lynx 1\nservers 2\ntable acct\nshard 0 999 0\nshard 1000 18446744073709551615 1\nprogram put k\nhop 0\nadd acct k 1\nend\n",
+    set: texts::PUT,
     script: "begin 0 1 1 put 999\nbegin 0 1 2 put 1000\n",
     printed: "begun 0:0 stamp 1 results -\nwrong-shard\ncell acct 999 1\n",
 };
@@ -74,7 +76,7 @@ pub const SHARD_BORDER: Row = Row {
 #[rattlefmt::skip]
 pub const ORDER_NOT_OF_BEGIN: Row = Row {
     name: "order-not-of-begin",
-    set: "lynx 1\nservers 2\ntable t\nshard 0 9 0\nshard 10 18446744073709551615 1\nprogram late\nhop 0\nadd t 0 1\nhop 1\nget y t 10\nend\nprogram mark v\nhop 1\nset t 10 v\nend\n",
+    set: texts::LATE_AND_MARK,
     script: "begin 0 1 1 late\nbegin 1 1 2 mark 5\ndeliver 0:0 1\n",
     printed: "begun 0:0 stamp 1 results -\nbegun 1:0 stamp 1 results -\ndone 0:0 1 stamp 2 results 5 end\ncell t 0 1\ncell t 10 5\n",
 };
@@ -82,7 +84,7 @@ pub const ORDER_NOT_OF_BEGIN: Row = Row {
 #[rattlefmt::skip]
 pub const RETURN_TO_ORIGIN: Row = Row {
     name: "return-to-origin",
-    set: "lynx 1\nservers 2\ntable t\nshard 0 9 0\nshard 10 18446744073709551615 1\nprogram trip\nhop 0\nadd t 0 1\nhop 1\nadd t 10 1\nhop 0\nadd t 0 1\nend\n",
+    set: texts::TRIP,
     script: "begin 0 1 1 trip\nbegin 0 1 2 trip\ndeliver 0:0 1\ndeliver 0:0 2\nbegin 0 1 2 trip\n",
     printed: "begun 0:0 stamp 1 results -\nbusy\ndone 0:0 1 stamp 2 results - next 2\ndone 0:0 2 stamp 3 results - end\nbegun 0:1 stamp 4 results -\ncell t 0 3\ncell t 10 1\n",
 };
@@ -90,7 +92,7 @@ pub const RETURN_TO_ORIGIN: Row = Row {
 #[rattlefmt::skip]
 pub const NOT_SENT: Row = Row {
     name: "not-sent",
-    set: "lynx 1\nservers 2\ntable t\nshard 0 9 0\nshard 10 18446744073709551615 1\nprogram trip\nhop 0\nadd t 0 1\nhop 1\nadd t 10 1\nhop 0\nadd t 0 1\nend\n",
+    set: texts::TRIP,
     script: "begin 0 1 1 trip\ndeliver 0:0 2\n",
     printed: "begun 0:0 stamp 1 results -\nnot-sent 0:0 2\ncell t 0 1\n",
 };
@@ -98,7 +100,7 @@ pub const NOT_SENT: Row = Row {
 #[rattlefmt::skip]
 pub const UNFINISHED_CHAIN: Row = Row {
     name: "unfinished-chain",
-    set: "lynx 1\nservers 2\ntable acct\nshard 0 999 0\nshard 1000 18446744073709551615 1\nprogram seed n\nhop 0\nadd acct 0 n\nend\nprogram pay n\nhop 0\nget x acct 0\nneed x >= n\nsub acct 0 n\nhop 1\nadd acct 1000 n\nend\n",
+    set: texts::PAYMENT,
     script: "begin 0 1 1 seed 100\nbegin 0 1 2 pay 30\n",
     printed: "begun 0:0 stamp 1 results -\nbegun 0:1 stamp 2 results 100\ncell acct 0 70\n",
 };
@@ -106,7 +108,7 @@ pub const UNFINISHED_CHAIN: Row = Row {
 #[rattlefmt::skip]
 pub const EMPTY_SET: Row = Row {
     name: "empty-set",
-    set: "lynx 1\nservers 1\n",
+    set: texts::EMPTY_SET,
     script: "",
     printed: "",
 };

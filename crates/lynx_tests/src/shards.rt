@@ -1,81 +1,111 @@
-use lynx_names::{ServerId, TableId, TryCopy};
+use lynx_names::{Memory, TableId, TryCopy};
 use lynx_shards::{Range, ShardFault, ShardMap};
 use std::alloc::Global;
-use std::test::Fail;
 
-fn table_of(alloc: Global, ranges: &[(u64, u64, u64)]) -> Result<Vec<Range>, Fail> {
+/// A range's first key, its last one, and its server.
+type Shard = (u64, u64, u64);
+
+fn table_of(alloc: Global, shards: &[Shard]) -> Result<Vec<Range>, Memory> {
     let mut table = Vec::new(alloc);
-    for (low, high, server) in ranges {
-        table.push(Range {
-            low: *low,
-            high: *high,
-            server: *server,
-        })?;
+    for &(low, high, server) in shards {
+        table.push(Range { low, high, server })?;
     }
     Ok(table)
 }
 
-/// What is wrong with these two tables at three servers.
-fn fault_of(
-    alloc: Global,
-    first: &[(u64, u64, u64)],
-    second: &[(u64, u64, u64)],
-) -> Result<Option<ShardFault>, Fail> {
-    let tables = vec![in alloc; table_of(alloc, first)?, table_of(alloc, second)?]?;
-    Ok(ShardMap::from_ranges(alloc, 3, tables).err())
+fn tables_of(alloc: Global, first: &[Shard], second: &[Shard]) -> Result<Vec<Vec<Range>>, Memory> {
+    let mut tables = Vec::new(alloc);
+    tables.push(table_of(alloc, first)?)?;
+    tables.push(table_of(alloc, second)?)?;
+    Ok(tables)
+}
+
+/// These two tables at three servers.
+fn map_of(alloc: Global, first: &[Shard], second: &[Shard]) -> Result<ShardMap, ShardFault> {
+    ShardMap::from_ranges(alloc, 3, tables_of(alloc, first, second)?)
+}
+
+/// What is wrong with them.
+fn fault_of(alloc: Global, first: &[Shard], second: &[Shard]) -> Option<ShardFault> {
+    map_of(alloc, first, second).err()
 }
 
 const LAST: u64 = u64::MAX;
 
+const WHOLE: &[Shard] = &[(0, 99, 1), (100, LAST, 2)];
+
+const PAST_THE_LAST: &[Shard] = &[(0, LAST, 0), (0, 1, 0)];
+
+/// Two tables, and what is wrong with them.
+type Case = (&'static [Shard], &'static [Shard], Option<ShardFault>);
+
+const TABLES: &[Case] = &[
+    (WHOLE, WHOLE, None),
+    (WHOLE, &[], Some(ShardFault::Gap)),
+    (PAST_THE_LAST, WHOLE, Some(ShardFault::Overlap)),
+];
+
 #[test]
-fn the_first_fault_is_answered(rt: HostRuntime) -> Result<(), Fail> {
-    let whole = [(0, 99, 1), (100, LAST, 2)];
-    let gap = Some(ShardFault::Gap);
-    let overlap = Some(ShardFault::Overlap);
-    let bad_server = Some(ShardFault::BadServer);
-    assert_eq!(rt; fault_of(rt.alloc(), &whole, &whole)?, None);
-    assert_eq!(rt; fault_of(rt.alloc(), &whole, &[])?, gap);
-    for (low, high, server, want) in [
-        (101, LAST, 3, gap),
-        (99, LAST, 3, overlap),
-        (100, 99, 3, overlap),
-        (100, LAST, 3, bad_server),
-        (100, LAST - 1, 2, gap),
-    ] {
-        let faulty = [(0, 99, 1), (low, high, server)];
-        assert_eq!(rt;
-            fault_of(rt.alloc(), &whole, &faulty)?,
-            want,
-            "{low} {high} {server}"
-        );
-        assert_eq!(rt;
-            fault_of(rt.alloc(), &faulty, &[])?,
-            want,
-            "{low} {high} {server}"
-        );
+fn the_fault_of_two_tables_is_answered(rt: HostRuntime) {
+    for &(first, second, want) in TABLES {
+        assert!(rt; fault_of(rt.alloc(), first, second) == want);
     }
-    let past_the_last = [(0, LAST, 0), (0, 1, 0)];
-    assert_eq!(rt; fault_of(rt.alloc(), &past_the_last, &whole)?, overlap);
-    Ok(())
+}
+
+/// Tables with a fault in their second range.
+const FAULTY: &[(&[Shard], ShardFault)] = &[
+    (&[(0, 99, 1), (101, LAST, 3)], ShardFault::Gap),
+    (&[(0, 99, 1), (99, LAST, 3)], ShardFault::Overlap),
+    (&[(0, 99, 1), (100, 99, 3)], ShardFault::Overlap),
+    (&[(0, 99, 1), (100, LAST, 3)], ShardFault::BadServer),
+    (&[(0, 99, 1), (100, LAST - 1, 2)], ShardFault::Gap),
+];
+
+/// Whether that is wrong with the faulty table, as the second one and as the first one.
+fn is_answered(alloc: Global, faulty: &[Shard], want: ShardFault) -> bool {
+    fault_of(alloc, WHOLE, faulty) == Some(want) && fault_of(alloc, faulty, &[]) == Some(want)
 }
 
 #[test]
-fn keys_have_the_server_of_their_shard(rt: HostRuntime) -> Result<(), Fail> {
-    let alloc = rt.alloc();
-    let first = table_of(alloc, &[(0, 0, 2), (1, 99, 1), (100, LAST, 0)])?;
-    let second = table_of(alloc, &[(0, LAST, 2)])?;
-    let map = ShardMap::from_ranges(alloc, 3, vec![in alloc; first, second]?);
-    let map = map.ok().ok_or("a map")?.copy(alloc).ok().ok_or("memory")?;
-    for (table, key, server) in [
-        (0, 0, 2),
-        (0, 1, 1),
-        (0, 99, 1),
-        (0, 100, 0),
-        (0, LAST, 0),
-        (1, 50, 2),
-    ] {
-        let table = TableId::new(table).ok_or("a table")?;
-        assert_eq!(rt; Some(map.server_of(table, key)), ServerId::new(server));
+fn the_first_fault_is_answered(rt: HostRuntime) {
+    for &(faulty, want) in FAULTY {
+        assert!(rt; is_answered(rt.alloc(), faulty, want), "{want}");
     }
-    Ok(())
+}
+
+const SPLIT: &[Shard] = &[(0, 0, 2), (1, 99, 1), (100, LAST, 0)];
+
+const AT_THE_THIRD: &[Shard] = &[(0, LAST, 2)];
+
+/// A copy of a map.
+fn copied(alloc: Global) -> Result<ShardMap, ShardFault> {
+    let map = map_of(alloc, SPLIT, AT_THE_THIRD)?;
+    Ok(map.copy(alloc)?)
+}
+
+/// The number of the server that has a key there.
+fn server_at(alloc: Global, table: u8, key: u64) -> Result<u8, ShardFault> {
+    let table = TableId::new(table).ok_or(ShardFault::Memory)?;
+    let map = copied(alloc)?;
+    Ok(map.server_of(table, key).number())
+}
+
+/// A table, a key and its server.
+const SERVERS: &[(u8, u64, u8)] = &[
+    (0, 0, 2),
+    (0, 1, 1),
+    (0, 99, 1),
+    (0, 100, 0),
+    (0, LAST, 0),
+    (1, 50, 2),
+];
+
+#[test]
+fn keys_have_the_server_of_their_shard(rt: HostRuntime) {
+    for &(table, key, server) in SERVERS {
+        assert!(rt;
+            server_at(rt.alloc(), table, key) == Ok(server),
+            "{table} {key}"
+        );
+    }
 }

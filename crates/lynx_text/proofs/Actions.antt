@@ -4,20 +4,23 @@ use Rattle.std.specs.Prelude.{option_map, codes}
 use Rattle.std.specs.Str.{bytes_eq}
 use Rattle.std.proofs.lemmas.Bool.{ltb-true}
 use Rattle.std.proofs.lemmas.Slice.Eq.{bytes_eq-Decides}
-use Rattle.lynx_text.specs.declared.action.Action.TheVariants.{Get, Set, Add, Sub, Let, Need}
-use Rattle.lynx_text.specs.declared.action.Key.{Key}
-use Rattle.lynx_text.specs.declared.action.Operand.{Operand}
-use Rattle.lynx_text.specs.declared.action.Operator.{Operator}
-use Rattle.lynx_text.specs.declared.action.Operator.TheVariants.{Plus, Minus}
-use Rattle.lynx_text.specs.declared.action.Relation.{Relation}
-use Rattle.lynx_text.specs.declared.action.Relation.TheVariants.{Below, AtMost, Same, Differs, AtLeast, Above}
+use Rattle.lynx_set.specs.declared.action.Action.TheVariants.{Get, Set, Add, Sub, Let, Need}
+use Rattle.lynx_set.specs.declared.action.Key.{Key}
+use Rattle.lynx_set.specs.declared.action.Operand.{Operand}
+use Rattle.lynx_set.specs.declared.action.Operator.{Operator}
+use Rattle.lynx_set.specs.declared.action.Operator.TheVariants.{Plus, Minus}
+use Rattle.lynx_set.specs.declared.action.Relation.{Relation}
+use Rattle.lynx_set.specs.declared.action.Relation.TheVariants.{Below, AtMost, Same, Differs, AtLeast, Above}
 use Rattle.lynx_text.specs.declared.action_line.ActionLine.{ActionLine}
 use Rattle.lynx_words.specs.Lines.{◌>>=◌, only_if}
 use Rattle.lynx_words.specs.Word.{is_name}
-use Rattle.lynx_text.specs.Rules.{IsNew, FitsKey, FitsOperand, FitsAction, BindsNew, bound}
-use Rattle.lynx_text.specs.Reading.{Place, place_of, name_of, new_name, table_of, key_of, operand_of, is_home, room, home, binding, plain, changing, operator_of, relation_of, get_of, change_of, let_of, need_of, action_of}
-use Rattle.lynx_text.specs.Text.{name_at, key_word, operand_word, operator_word, relation_word, action_words}
+use Rattle.lynx_set.specs.Rules.{IsNew, FitsKey, FitsOperand, FitsAction, BindsNew, bound}
+use Rattle.lynx_set.specs.Names.{place_of}
+use Rattle.lynx_set.specs.Standing.{Place, is_home}
+use Rattle.lynx_text.specs.Reading.{name_of, new_name, table_of, key_of, operand_of, room, home, binding, plain, changing, operator_of, relation_of, get_of, change_of, let_of, need_of, action_of}
+use Rattle.lynx_set.specs.Text.{name_at, key_word, operand_word, operator_word, relation_word, action_words}
 use Rattle.lynx_text.proofs.Lookups.{bind_some, only_if_some, map_some, choose, name_at-next, table_take, key_take, operand_take}
+use Rattle.lynx_words.specs.Equal.{some_is, none_some}
 
 -- a line that can stand there, and its words, whatever names come after
 pub record IsLine (place : Place) (line : ActionLine) (words : List (List ℕ)) : Type 0 where
@@ -25,9 +28,6 @@ pub record IsLine (place : Place) (line : ActionLine) (words : List (List ℕ)) 
   pub fits : FitsAction place line.action
   pub binds : BindsNew place line.action line.binds
   pub spelled : (more : List (List ℕ)) → words ≡ action_words place.tables (place.names ++ (bound line.binds ++ more)) (length place.names) line.action
-
-some_is : {X : Type 0} (x y : X) → Some x ≡ Some y → x ≡ y
-some_is x y e = cc
 
 pub new_take : (names : List (List ℕ)) (word name : List ℕ) → new_name names word ≡ Some name → IsNew names name × (word ≡ name)
 new_take names word name e =
@@ -221,9 +221,6 @@ sub_take place words line e =
       binds = tt;
       spelled = λ more. ap (λ (ws : List (List ℕ)). codes "sub" ∷ ws) (change.spelled more);
     })
-
-none_some : {X : Type 0} {x : X} → None ≡ Some x → ⊥
-none_some e = cc
 
 -- an action that is read is spelled so
 pub action_take : (place : Place) (words : List (List ℕ)) (line : ActionLine) → action_of place words ≡ Some line → IsLine place line words

@@ -3,19 +3,20 @@ use Rattle.std.proofs.Common.{◌≡◌, ℕ, ◌<◌, ◌≤◌, true, ltb, Lis
 use Rattle.std.specs.Prelude.{option_map, codes}
 use Rattle.std.specs.List.{list_all}
 use Rattle.std.proofs.lemmas.Bool.{lt-ltb}
-use Rattle.lynx_text.specs.declared.action.Action.{Action}
-use Rattle.lynx_text.specs.declared.action.Action.TheVariants.{Get, Set, Add, Sub, Let, Need}
-use Rattle.lynx_text.specs.declared.action.Key.{Key}
-use Rattle.lynx_text.specs.declared.action.Operand.{Operand}
-use Rattle.lynx_text.specs.declared.action.Operator.{Operator}
-use Rattle.lynx_text.specs.declared.action.Operator.TheVariants.{Plus, Minus}
-use Rattle.lynx_text.specs.declared.action.Relation.{Relation}
-use Rattle.lynx_text.specs.declared.action.Relation.TheVariants.{Below, AtMost, Same, Differs, AtLeast, Above}
+use Rattle.lynx_set.specs.declared.action.Action.{Action}
+use Rattle.lynx_set.specs.declared.action.Action.TheVariants.{Get, Set, Add, Sub, Let, Need}
+use Rattle.lynx_set.specs.declared.action.Key.{Key}
+use Rattle.lynx_set.specs.declared.action.Operand.{Operand}
+use Rattle.lynx_set.specs.declared.action.Operator.{Operator}
+use Rattle.lynx_set.specs.declared.action.Operator.TheVariants.{Plus, Minus}
+use Rattle.lynx_set.specs.declared.action.Relation.{Relation}
+use Rattle.lynx_set.specs.declared.action.Relation.TheVariants.{Below, AtMost, Same, Differs, AtLeast, Above}
 use Rattle.lynx_text.specs.declared.action_line.ActionLine.{ActionLine}
 use Rattle.lynx_words.specs.Lines.{◌>>=◌, is_word, AreWords, only_if}
-use Rattle.lynx_text.specs.Reading.{Place, new_name, table_of, key_of, operand_of, is_home, room, home, binding, plain, changing, operator_of, relation_of, get_of, change_of, let_of, need_of, action_of}
-use Rattle.lynx_text.specs.Rules.{IsNew, FitsOperand, FitsCell, FitsAction, BindsNew, bound}
-use Rattle.lynx_text.specs.Text.{name_at, key_word, operand_word, operator_word, relation_word, action_words}
+use Rattle.lynx_set.specs.Standing.{Place, is_home}
+use Rattle.lynx_text.specs.Reading.{new_name, table_of, key_of, operand_of, room, home, binding, plain, changing, operator_of, relation_of, get_of, change_of, let_of, need_of, action_of}
+use Rattle.lynx_set.specs.Rules.{IsNew, FitsOperand, FitsCell, FitsAction, BindsNew, bound}
+use Rattle.lynx_set.specs.Text.{name_at, key_word, operand_word, operator_word, relation_word, action_words}
 use Rattle.lynx_words.specs.WordLaws.{both_true, name-word}
 use Rattle.lynx_text.proofs.Lookups.{name_at-next}
 use Rattle.lynx_text.proofs.Known.{bind_is, only_if_yes, Known, new_again, table_again, key_again, operand_again}

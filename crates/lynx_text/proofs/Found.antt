@@ -7,15 +7,15 @@ use Rattle.std.proofs.lemmas.Bool.{leb-true}
 use Rattle.std.proofs.lemmas.List.{append-nil, map-append}
 use Rattle.std.proofs.lemmas.List.Splits.{join_with_byte-slice_split}
 use Rattle.std.proofs.lemmas.Slice.Eq.{bytes_eq-Decides}
-use Rattle.lynx_text.specs.declared.program.Hop.{Hop}
-use Rattle.lynx_text.specs.declared.program.Program.{Program}
+use Rattle.lynx_set.specs.declared.program.Hop.{Hop}
+use Rattle.lynx_set.specs.declared.program.Program.{Program}
 use Rattle.lynx_words.specs.Digits.{read_number}
 use Rattle.lynx_words.specs.Lines.{◌>>=◌, is_feed, words_at, one_after, ends, after_version, only_if, joined, line}
 use Rattle.lynx_text.specs.Parts.{servers_of, parts, goes_table, table_at, goes_program, program_at, set_at, lines_at, read_text}
-use Rattle.lynx_text.specs.Plain.{PlainSet, plain_hop, plain_named, plain_set}
-use Rattle.lynx_text.specs.Rules.{no_tables, IsPlainSet, IsSet}
-use Rattle.lynx_text.specs.Set.{Set}
-use Rattle.lynx_text.specs.Text.{text, head_lines, tables_lines, programs_lines, hop_lines, hops_lines, bound_in, set_lines, text_of}
+use Rattle.lynx_set.specs.Plain.{PlainSet, plain_hop, plain_named, plain_set}
+use Rattle.lynx_set.specs.Rules.{no_tables, IsPlainSet, IsSet}
+use Rattle.lynx_set.specs.Set.{Set}
+use Rattle.lynx_set.specs.Text.{text, head_lines, tables_lines, programs_lines, hop_lines, hops_lines, bound_in, set_lines, text_of}
 use Rattle.lynx_words.specs.WordLaws.{and_true}
 use Rattle.lynx_words.specs.NumberLaws.{number_takes}
 use Rattle.lynx_text.proofs.Lookups.{bind_some, only_if_some}

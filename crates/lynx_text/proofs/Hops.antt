@@ -5,20 +5,23 @@ use Rattle.std.specs.Str.{bytes_eq}
 use Rattle.std.proofs.lemmas.Bool.{ltb-true}
 use Rattle.std.proofs.lemmas.List.{append-nil, length-append, length_push, map-append}
 use Rattle.std.proofs.lemmas.Slice.Eq.{bytes_eq-Decides}
-use Rattle.lynx_text.specs.declared.action.Action.{Action}
-use Rattle.lynx_text.specs.declared.action.Action.TheVariants.{Get, Set, Add, Sub, Let, Need}
+use Rattle.lynx_set.specs.declared.action.Action.{Action}
+use Rattle.lynx_set.specs.declared.action.Action.TheVariants.{Get, Set, Add, Sub, Let, Need}
 use Rattle.lynx_text.specs.declared.action_line.ActionLine.{ActionLine}
 use Rattle.lynx_words.specs.Digits.{read_number}
 use Rattle.lynx_words.specs.Lines.{◌>>=◌, next_piece, words_in, words_at, AreWords, one_after, only_if, joined}
-use Rattle.lynx_text.specs.Parts.{parts, place_in, with_name, action_at, goes_action, hop_line, hop_at, goes_hop}
-use Rattle.lynx_text.specs.Plain.{PlainHop, PlainProgram, PlainSet}
-use Rattle.lynx_text.specs.Reading.{Place, action_of}
-use Rattle.lynx_text.specs.Rules.{bound, BindsNew, next_place, FitActions, FitHops, with_hop}
-use Rattle.lynx_text.specs.Text.{bound_names, bound_in, action_words, action_lines}
+use Rattle.lynx_set.specs.Standing.{place_in}
+use Rattle.lynx_text.specs.Parts.{parts, with_name, action_at, goes_action, hop_line, hop_at, goes_hop}
+use Rattle.lynx_set.specs.Plain.{PlainHop, PlainProgram, PlainSet}
+use Rattle.lynx_set.specs.Standing.{Place}
+use Rattle.lynx_text.specs.Reading.{action_of}
+use Rattle.lynx_set.specs.Rules.{bound, BindsNew, next_place, FitActions, FitHops, with_hop}
+use Rattle.lynx_set.specs.Text.{bound_names, bound_in, action_words, action_lines}
 use Rattle.lynx_words.specs.NumberLaws.{number_takes}
 use Rattle.lynx_words.specs.LineLaws.{words_take}
-use Rattle.lynx_text.proofs.Lookups.{bind_some, only_if_some, choose, both, both_is, none_some}
+use Rattle.lynx_text.proofs.Lookups.{bind_some, only_if_some, choose, both, both_is}
 use Rattle.lynx_text.proofs.Actions.{IsLine, action_take}
+use Rattle.lynx_words.specs.Equal.{none_some}
 
 -- lines as they stand in the text, without their line feeds
 abbrev pub raw : List (List (List ℕ)) → List (List ℕ)

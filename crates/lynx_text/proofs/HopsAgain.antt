@@ -3,15 +3,17 @@ use Rattle.std.proofs.Common.{◌≡◌, not, ℕ, zero, suc, ◌+◌, ◌<◌, 
 use Rattle.std.specs.Prelude.{codes}
 use Rattle.std.specs.Str.{bytes_eq}
 use Rattle.std.proofs.lemmas.List.{append-nil, length-append}
-use Rattle.lynx_text.specs.declared.action.Action.{Action}
-use Rattle.lynx_text.specs.declared.action.Action.TheVariants.{Get, Set, Add, Sub, Let, Need}
+use Rattle.lynx_set.specs.declared.action.Action.{Action}
+use Rattle.lynx_set.specs.declared.action.Action.TheVariants.{Get, Set, Add, Sub, Let, Need}
 use Rattle.lynx_text.specs.declared.action_line.ActionLine.{ActionLine}
 use Rattle.lynx_words.specs.Lines.{◌>>=◌, until, next_piece, words_in, words_at, begins, AreWords, joined}
-use Rattle.lynx_text.specs.Parts.{parts, place_in, with_name, action_at, goes_action}
-use Rattle.lynx_text.specs.Plain.{PlainProgram, PlainSet}
-use Rattle.lynx_text.specs.Reading.{Place, action_of}
-use Rattle.lynx_text.specs.Rules.{bound, BindsNew, FitsAction, next_place, FitActions}
-use Rattle.lynx_text.specs.Text.{name_at, key_word, operand_word, operator_word, relation_word, bound_names, action_words, action_lines}
+use Rattle.lynx_set.specs.Standing.{place_in}
+use Rattle.lynx_text.specs.Parts.{parts, with_name, action_at, goes_action}
+use Rattle.lynx_set.specs.Plain.{PlainProgram, PlainSet}
+use Rattle.lynx_set.specs.Standing.{Place}
+use Rattle.lynx_text.specs.Reading.{action_of}
+use Rattle.lynx_set.specs.Rules.{bound, BindsNew, FitsAction, next_place, FitActions}
+use Rattle.lynx_set.specs.Text.{name_at, key_word, operand_word, operator_word, relation_word, bound_names, action_words, action_lines}
 use Rattle.lynx_words.specs.PieceLaws.{first_piece}
 use Rattle.lynx_words.specs.LineLaws.{split-joined, words_again}
 use Rattle.lynx_text.proofs.Known.{bind_is, Known, one_known}

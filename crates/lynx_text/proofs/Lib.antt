@@ -14,5 +14,4 @@ pub mod Lookups
 pub mod Sets
 pub mod Loops
 pub mod Shapes
-pub mod Same
 pub mod Texts

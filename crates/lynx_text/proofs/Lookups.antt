@@ -5,18 +5,20 @@ use Rattle.std.specs.List.{position_or_len, prefix_len}
 use Rattle.std.specs.Str.{bytes_eq}
 use Rattle.std.proofs.lemmas.Bool.{ltb-true}
 use Rattle.std.proofs.lemmas.Slice.Eq.{bytes_eq-Decides}
-use Rattle.lynx_text.specs.declared.action.Key.{Key}
-use Rattle.lynx_text.specs.declared.action.Key.TheVariants.{Literal, Param}
-use Rattle.lynx_text.specs.declared.action.Operand.{Operand}
-use Rattle.lynx_text.specs.declared.action.Operand.TheVariants.{Number, Name}
+use Rattle.lynx_set.specs.declared.action.Key.{Key}
+use Rattle.lynx_set.specs.declared.action.Key.TheVariants.{Literal, Param}
+use Rattle.lynx_set.specs.declared.action.Operand.{Operand}
+use Rattle.lynx_set.specs.declared.action.Operand.TheVariants.{Number, Name}
 use Rattle.lynx_words.specs.Digits.{read_number, begins_with_digit}
 use Rattle.lynx_words.specs.Lines.{◌>>=◌, only_if}
-use Rattle.lynx_text.specs.Rules.{FitsKey, FitsOperand}
+use Rattle.lynx_set.specs.Rules.{FitsKey, FitsOperand}
 use Rattle.lynx_words.specs.Word.{is_name}
-use Rattle.lynx_text.specs.Reading.{place_of, place_below, name_of, known_name, table_of, key_of, operand_of}
-use Rattle.lynx_text.specs.Text.{name_at, key_word, operand_word}
+use Rattle.lynx_set.specs.Names.{place_of, place_below}
+use Rattle.lynx_text.specs.Reading.{name_of, known_name, table_of, key_of, operand_of}
+use Rattle.lynx_set.specs.Text.{name_at, key_word, operand_word}
 use Rattle.lynx_words.specs.WordLaws.{cond_some}
 use Rattle.lynx_words.specs.NumberLaws.{number_takes}
+use Rattle.lynx_words.specs.Equal.{some_is}
 
 -- a step that gave a value
 pub bind_some : {A B : Type 0} (o : Option A) (f : A → Option B) (y : B) → (o >>= f) ≡ Some y → (x : A) × (o ≡ Some x) × (f x ≡ Some y)
@@ -25,12 +27,6 @@ bind_some (Some x) f y e = (x, refl, e)
 
 pub only_if_some : {X : Type 0} (test : Bool) (x y : X) → only_if test x ≡ Some y → (test ≡ true) × (x ≡ y)
 only_if_some test x y e = cond_some test x y e
-
-pub some_is : {X : Type 0} (x y : X) → Some x ≡ Some y → x ≡ y
-some_is x y e = cc
-
-pub none_some : {X : Type 0} {x : X} → None ≡ Some x → ⊥
-none_some e = cc
 
 -- two values that were given together
 abbrev pub both : {A B : Type 0} → A → B → Option (A × B)

@@ -2,22 +2,16 @@
 use Rattle.std.proofs.Common.{◌≡◌, ℕ, ◌≤◌, List, [], ◌∷◌, map, length, refl, sym, ap, subst, ◌∙◌}
 use Rattle.std.proofs.Math.Bridge.{le_prop}
 use Rattle.lynx_shards.specs.declared.shard.Shard.{Shard}
-use Rattle.lynx_text.specs.declared.action.Action.{Action}
-use Rattle.lynx_text.specs.declared.program.Hop.{Hop}
-use Rattle.lynx_text.specs.declared.program.Program.{Program}
+use Rattle.lynx_set.specs.declared.action.Action.{Action}
+use Rattle.lynx_set.specs.declared.program.Hop.{Hop}
+use Rattle.lynx_set.specs.declared.program.Program.{Program}
 use Rattle.lynx_text.specs.Parts.{read_text}
-use Rattle.lynx_text.specs.Plain.{PlainHop, PlainProgram, PlainSet, plain_hop, plain_program, plain_named, plain_set}
-use Rattle.lynx_text.specs.Rules.{IsSet}
-use Rattle.lynx_text.specs.Set.{Set}
-use Rattle.lynx_text.specs.Text.{text_of}
-use Rattle.lynx_text.proofs.Lookups.{some_is}
+use Rattle.lynx_set.specs.Plain.{PlainHop, PlainProgram, PlainSet, plain_hop, plain_program, plain_named, plain_set}
+use Rattle.lynx_set.specs.Rules.{IsSet}
+use Rattle.lynx_set.specs.Set.{Set}
+use Rattle.lynx_set.specs.Text.{text_of}
 use Rattle.lynx_text.proofs.SetAgain.{again}
-
-first_is : {X : Type 0} (a b : X) (xs ys : List X) → a ∷ xs ≡ b ∷ ys → a ≡ b
-first_is a b xs ys e = cc
-
-rest_is : {X : Type 0} (a b : X) (xs ys : List X) → a ∷ xs ≡ b ∷ ys → xs ≡ ys
-rest_is a b xs ys e = cc
+use Rattle.lynx_words.specs.Equal.{first_is, rest_is, some_is}
 
 abbrev hop_of : (server : ℕ) (actions : List Action) → length actions ≤ 16 → Hop
 hop_of server actions few = record { server = server; actions = actions; few_actions = few }

@@ -7,14 +7,16 @@ use Rattle.std.proofs.lemmas.List.{append-nil, map-append, take_at}
 use Rattle.std.proofs.lemmas.Slice.Eq.{bytes_eq-Decides}
 use Rattle.lynx_words.specs.Lines.{◌>>=◌, words_at, only_if, joined}
 use Rattle.lynx_text.specs.Parts.{parts, goes_hop, hop_at, end_line, parameters_of, program_line, program_at, goes_program}
-use Rattle.lynx_text.specs.Plain.{PlainProgram, PlainSet}
-use Rattle.lynx_text.specs.Reading.{place_of, name_of, new_name}
-use Rattle.lynx_text.specs.Rules.{IsNew, AreNew, FitsProgram, FitPrograms, with_program}
+use Rattle.lynx_set.specs.Plain.{PlainProgram, PlainSet}
+use Rattle.lynx_set.specs.Names.{place_of}
+use Rattle.lynx_text.specs.Reading.{name_of, new_name}
+use Rattle.lynx_set.specs.Rules.{IsNew, AreNew, FitsProgram, FitPrograms, with_program}
 use Rattle.lynx_words.specs.Word.{is_name}
 use Rattle.lynx_words.specs.WordLaws.{and_true}
-use Rattle.lynx_text.proofs.Lookups.{bind_some, only_if_some, choose, both, both_is, none_some, some_is}
+use Rattle.lynx_text.proofs.Lookups.{bind_some, only_if_some, choose, both, both_is}
 use Rattle.lynx_text.proofs.Actions.{new_take}
 use Rattle.lynx_text.proofs.Hops.{raw, IsNext, words_at_take, HopRead, lines_of_hops, HopsLeft, hop_at_take, more_hops, hops_take}
+use Rattle.lynx_words.specs.Equal.{some_is, none_some}
 
 -- parameters that are read are those that are spelled
 pub parameters_take : (known words names : List (List ℕ)) → parameters_of known words ≡ Some names → AreNew known words × (names ≡ known ++ words)

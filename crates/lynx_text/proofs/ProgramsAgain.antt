@@ -6,14 +6,17 @@ use Rattle.std.specs.Str.{bytes_eq}
 use Rattle.std.proofs.lemmas.Bool.{lt-ltb, le-leb}
 use Rattle.std.proofs.lemmas.List.{append-nil, length-append, length_push, map-append, take_at}
 use Rattle.std.proofs.lemmas.Slice.Eq.{bytes_eq-Decides}
-use Rattle.lynx_text.specs.declared.action.Action.{Action}
+use Rattle.lynx_set.specs.declared.action.Action.{Action}
 use Rattle.lynx_words.specs.Digits.{read_number}
 use Rattle.lynx_words.specs.Lines.{◌>>=◌, is_word, words_at, begins, AreWords, one_after, only_if, joined}
-use Rattle.lynx_text.specs.Parts.{parts, place_in, with_name, action_at, goes_action, hop_line, hop_at, goes_hop, parameters_of, program_line, end_line, program_at, goes_program}
-use Rattle.lynx_text.specs.Plain.{PlainHop, PlainProgram, PlainSet}
-use Rattle.lynx_text.specs.Reading.{Place, place_of, name_of, new_name}
-use Rattle.lynx_text.specs.Rules.{IsNew, AreNew, bound, next_place, FitActions, FitHops, with_hop, FitsProgram, FitPrograms, with_program}
-use Rattle.lynx_text.specs.Text.{bound_names, bound_in, action_words, action_lines}
+use Rattle.lynx_set.specs.Standing.{place_in}
+use Rattle.lynx_text.specs.Parts.{parts, with_name, action_at, goes_action, hop_line, hop_at, goes_hop, parameters_of, program_line, end_line, program_at, goes_program}
+use Rattle.lynx_set.specs.Plain.{PlainHop, PlainProgram, PlainSet}
+use Rattle.lynx_set.specs.Names.{place_of}
+use Rattle.lynx_set.specs.Standing.{Place}
+use Rattle.lynx_text.specs.Reading.{name_of, new_name}
+use Rattle.lynx_set.specs.Rules.{IsNew, AreNew, bound, next_place, FitActions, FitHops, with_hop, FitsProgram, FitPrograms, with_program}
+use Rattle.lynx_set.specs.Text.{bound_names, bound_in, action_words, action_lines}
 use Rattle.lynx_words.specs.Word.{is_name}
 use Rattle.lynx_words.specs.WordLaws.{both_true, name-word, number-word}
 use Rattle.lynx_words.specs.NumberLaws.{number_again}

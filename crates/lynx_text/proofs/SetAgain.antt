@@ -8,15 +8,16 @@ use Rattle.std.proofs.lemmas.Bool.Decides.{nat_tests}
 use Rattle.std.proofs.lemmas.List.{append-nil, length-append, map-append}
 use Rattle.std.proofs.lemmas.List.Splits.{slice_split_at}
 use Rattle.lynx_shards.specs.declared.shard.Shard.{Shard}
-use Rattle.lynx_text.specs.declared.action.Action.{Action}
+use Rattle.lynx_set.specs.declared.action.Action.{Action}
 use Rattle.lynx_words.specs.Digits.{read_number}
 use Rattle.lynx_words.specs.Lines.{◌>>=◌, is_feed, is_printable, words_at, begins, AreWords, one_after, ends, after_version, only_if, joined}
-use Rattle.lynx_text.specs.Parts.{servers_of, parts, place_in, goes_table, table_at, goes_program, program_at, set_at, lines_at, read_text}
-use Rattle.lynx_text.specs.Plain.{PlainHop, PlainProgram, PlainSet, plain_set}
-use Rattle.lynx_text.specs.Reading.{Place}
-use Rattle.lynx_text.specs.Rules.{IsNew, bound, next_place, FitActions, FitHops, with_hop, FitsProgram, FitPrograms, with_program, FitShards, FitTables, with_table, no_tables, no_programs, IsPlainSet}
-use Rattle.lynx_text.specs.Set.{Set}
-use Rattle.lynx_text.specs.Text.{text, bound_names, bound_in, action_words, action_lines, shard_words, tables_lines, text_of}
+use Rattle.lynx_set.specs.Standing.{place_in}
+use Rattle.lynx_text.specs.Parts.{servers_of, parts, goes_table, table_at, goes_program, program_at, set_at, lines_at, read_text}
+use Rattle.lynx_set.specs.Plain.{PlainHop, PlainProgram, PlainSet, plain_set}
+use Rattle.lynx_set.specs.Standing.{Place}
+use Rattle.lynx_set.specs.Rules.{IsNew, bound, next_place, FitActions, FitHops, with_hop, FitsProgram, FitPrograms, with_program, FitShards, FitTables, with_table, no_tables, no_programs, IsPlainSet}
+use Rattle.lynx_set.specs.Set.{Set}
+use Rattle.lynx_set.specs.Text.{text, bound_names, bound_in, action_words, action_lines, shard_words, tables_lines, text_of}
 use Rattle.lynx_words.specs.WordLaws.{and_true, both_true, number-word, printable-joined}
 use Rattle.lynx_words.specs.NumberLaws.{number_again}
 use Rattle.lynx_text.proofs.Known.{bind_is, only_if_yes, Known, none_known}

@@ -5,7 +5,8 @@ use Rattle.lynx_words.specs.Lines.{texts, only_if, one_after}
 use Rattle.std.proofs.Common.{◌<◌, get_or}
 use Rattle.std.specs.Prelude.{codes}
 use Rattle.std.specs.Str.{bytes_eq}
-use Rattle.lynx_text.specs.Reading.{Place, get_of, change_of, let_of, need_of}
+use Rattle.lynx_set.specs.Standing.{Place}
+use Rattle.lynx_text.specs.Reading.{get_of, change_of, let_of, need_of}
 use Rattle.lynx_text.specs.Parts.{shard_line, program_line, end_line}
 
 pub get_of_other : (place : Place) (words : List (Bor (List ℕ))) → length words ≢ 3 → get_of place (texts words) ≡ None

@@ -12,10 +12,11 @@ use Rattle.lynx_shards.specs.Ranges.{range_fault, last_key, next_key, shard_of}
 use Rattle.lynx_words.specs.Digits.{read_number}
 use Rattle.lynx_words.specs.Lines.{◌>>=◌, is_word, words_at, AreWords, one_after, only_if, joined}
 use Rattle.lynx_text.specs.Parts.{parts, shard_line, shard_at, goes_shard, table_line, table_at, goes_table}
-use Rattle.lynx_text.specs.Plain.{PlainSet}
-use Rattle.lynx_text.specs.Reading.{place_of, name_of}
-use Rattle.lynx_text.specs.Rules.{IsNew, FitShards, FitTables, with_table}
-use Rattle.lynx_text.specs.Text.{shard_words, table_lines, tables_lines}
+use Rattle.lynx_set.specs.Plain.{PlainSet}
+use Rattle.lynx_set.specs.Names.{place_of}
+use Rattle.lynx_text.specs.Reading.{name_of}
+use Rattle.lynx_set.specs.Rules.{IsNew, FitShards, FitTables, with_table}
+use Rattle.lynx_set.specs.Text.{shard_words, table_lines, tables_lines}
 use Rattle.lynx_words.specs.Word.{is_name}
 use Rattle.lynx_words.specs.WordLaws.{both_true, name-word, number-word}
 use Rattle.lynx_words.specs.NumberLaws.{number_again}

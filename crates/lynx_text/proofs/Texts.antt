@@ -4,10 +4,10 @@ use Rattle.std.proofs.lemmas.List.{at_drop_more, at_drop_all}
 use Rattle.lynx_shards.specs.declared.shard.Shard.{Shard}
 use Rattle.std.proofs.lemmas.List.{append-nil}
 use Rattle.std.specs.Prelude.{codes, decimal}
-use Rattle.lynx_text.specs.declared.action.Action.{Action}
-use Rattle.lynx_text.specs.declared.action.Action.TheVariants.{Get, Set, Add, Sub, Let, Need}
+use Rattle.lynx_set.specs.declared.action.Action.{Action}
+use Rattle.lynx_set.specs.declared.action.Action.TheVariants.{Get, Set, Add, Sub, Let, Need}
 use Rattle.lynx_words.specs.Lines.{line}
-use Rattle.lynx_text.specs.Text.{text, table_lines, tables_lines, head_lines, bound_names, bound_in}
+use Rattle.lynx_set.specs.Text.{text, table_lines, tables_lines, head_lines, bound_names, bound_in}
 
 -- the text of two lists of lines
 pub text_append : (xs ys : List (List (List ℕ))) → text (xs ++ ys) ≡ text xs ++ text ys

@@ -4,12 +4,14 @@ use Rattle.std.specs.Str.{bytes_eq}
 use Rattle.lynx_shards.specs.declared.range.Range.{Range}
 use Rattle.lynx_shards.specs.declared.shard.Shard.{Shard}
 use Rattle.lynx_shards.specs.Ranges.{range_fault, last_key, next_key, shard_of}
-use Rattle.lynx_text.specs.declared.action.Action.{Action}
+use Rattle.lynx_set.specs.declared.action.Action.{Action}
 use Rattle.lynx_words.specs.Digits.{read_number}
 use Rattle.lynx_words.specs.Lines.{◌>>=◌, one_after, after_version, ends, words_at, begins, is_feed, only_if}
 use Rattle.std.specs.List.{slice_split}
-use Rattle.lynx_text.specs.Plain.{PlainProgram, PlainSet}
-use Rattle.lynx_text.specs.Reading.{Place, place_of, name_of, new_name, action_of}
+use Rattle.lynx_set.specs.Plain.{PlainProgram, PlainSet}
+use Rattle.lynx_set.specs.Names.{place_of}
+use Rattle.lynx_set.specs.Standing.{place_in}
+use Rattle.lynx_text.specs.Reading.{name_of, new_name, action_of}
 
 -- servers N
 unfoldable pub servers_of : List (List ℕ) → Option ℕ
@@ -98,18 +100,6 @@ goes_table lines = begins lines (codes "table")
 abbrev pub with_name : PlainProgram → Option (List ℕ) → PlainProgram
 with_name program None = program
 with_name program (Some name) = record program { names = program.names ++ name ∷ [] }
-
--- where the next action of a hop stands
-abbrev pub place_in : PlainSet → ℕ → PlainProgram → List Action → Place
-place_in set server program actions = record {
-  tables = set.tables;
-  shards = set.shards;
-  parameters = program.parameters;
-  names = program.names;
-  is_first = length program.hops == 0;
-  server = server;
-  actions = length actions;
-}
 
 -- one more action of a hop
 unfoldable pub action_at : PlainSet → ℕ → PlainProgram × List Action → List (List ℕ) → Option ((PlainProgram × List Action) × List (List ℕ))

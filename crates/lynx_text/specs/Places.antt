@@ -1,6 +1,6 @@
 -- Where an action stands.
 use Rattle.lynx_text.specs.declared.scope.Scope.{Scope}
-use Rattle.lynx_text.specs.Reading.{Place}
+use Rattle.lynx_set.specs.Standing.{Place}
 
 -- what a scope says of it
 abbrev pub place : Scope → Place

@@ -1,30 +1,22 @@
 -- Reading the lines of a set; none where a line has a fault.
-use Rattle.std.specs.Prelude.{ℕ, Bool, true, List, [], ◌∷◌, Option, Some, None, position, option_map, is_none, nat_lt, ◌==◌, if◌then◌else◌, codes}
+use Rattle.std.specs.Prelude.{ℕ, List, [], ◌∷◌, Option, Some, None, option_map, is_none, nat_lt, if◌then◌else◌, codes}
 use Rattle.std.specs.Str.{bytes_eq}
-use Rattle.lynx_shards.specs.declared.shard.Shard.{Shard}
-use Rattle.lynx_shards.specs.Shards.{server_of}
-use Rattle.lynx_text.specs.declared.action.Action.{Action}
-use Rattle.lynx_text.specs.declared.action.Action.TheVariants.{Get, Set, Add, Sub, Let, Need}
-use Rattle.lynx_text.specs.declared.action.Key.{Key}
-use Rattle.lynx_text.specs.declared.action.Key.TheVariants.{Literal, Param}
-use Rattle.lynx_text.specs.declared.action.Operand.{Operand}
-use Rattle.lynx_text.specs.declared.action.Operand.TheVariants.{Number, Name}
-use Rattle.lynx_text.specs.declared.action.Operator.{Operator}
-use Rattle.lynx_text.specs.declared.action.Operator.TheVariants.{Plus, Minus}
-use Rattle.lynx_text.specs.declared.action.Relation.{Relation}
-use Rattle.lynx_text.specs.declared.action.Relation.TheVariants.{Below, AtMost, Same, Differs, AtLeast, Above}
+use Rattle.lynx_set.specs.declared.action.Action.{Action}
+use Rattle.lynx_set.specs.declared.action.Action.TheVariants.{Get, Set, Add, Sub, Let, Need}
+use Rattle.lynx_set.specs.declared.action.Key.{Key}
+use Rattle.lynx_set.specs.declared.action.Key.TheVariants.{Literal, Param}
+use Rattle.lynx_set.specs.declared.action.Operand.{Operand}
+use Rattle.lynx_set.specs.declared.action.Operand.TheVariants.{Number, Name}
+use Rattle.lynx_set.specs.declared.action.Operator.{Operator}
+use Rattle.lynx_set.specs.declared.action.Operator.TheVariants.{Plus, Minus}
+use Rattle.lynx_set.specs.declared.action.Relation.{Relation}
+use Rattle.lynx_set.specs.declared.action.Relation.TheVariants.{Below, AtMost, Same, Differs, AtLeast, Above}
+use Rattle.lynx_set.specs.Names.{place_of, place_below}
+use Rattle.lynx_set.specs.Standing.{Place, is_home}
 use Rattle.lynx_text.specs.declared.action_line.ActionLine.{ActionLine}
 use Rattle.lynx_words.specs.Digits.{read_number, begins_with_digit}
 use Rattle.lynx_words.specs.Lines.{◌>>=◌, only_if}
 use Rattle.lynx_words.specs.Word.{is_name}
-
--- the place of a name
-abbrev pub place_of : List (List ℕ) → List ℕ → Option ℕ
-place_of names name = position (λ known. bytes_eq known name) names
-
--- the place of a name among the first
-abbrev pub place_below : ℕ → List (List ℕ) → List ℕ → Option ℕ
-place_below limit names name = place_of names name >>= λ place. if nat_lt place limit then Some place else None
 
 -- a word that is a name
 abbrev pub name_of : List ℕ → Option (List ℕ)
@@ -52,11 +44,6 @@ key_of names parameters word =
 abbrev pub operand_of : List (List ℕ) → List ℕ → Option Operand
 operand_of names word = if begins_with_digit word then option_map Number (read_number word) else option_map Name (known_name names word)
 
--- a literal key is at that server
-abbrev pub is_home : List (List Shard) → ℕ → ℕ → Key → Bool
-is_home shards server table (Literal key) = server_of shards table key == server
-is_home shards server table (Param place) = true
-
 unfoldable pub operator_of : List ℕ → Option Operator
 operator_of word = if bytes_eq word (codes "+") then Some Plus else (if bytes_eq word (codes "-") then Some Minus else None)
 
@@ -68,16 +55,6 @@ relation_of word =
     else (if bytes_eq word (codes "!=") then Some Differs
     else (if bytes_eq word (codes ">=") then Some AtLeast
     else (if bytes_eq word (codes ">") then Some Above else None)))))
-
--- what an action may name, and where it stands
-pub record Place : Type 0 where
-  pub tables : List (List ℕ)
-  pub shards : List (List Shard)
-  pub parameters : ℕ
-  pub names : List (List ℕ)
-  pub is_first : Bool
-  pub server : ℕ
-  pub actions : ℕ
 
 -- the hop has room for one more action
 abbrev pub room : Place → Option (Unit {0})

@@ -7,9 +7,9 @@ ghost use Rattle.lynx_words.specs.Lines.{texts};
 ghost use Rattle.lynx_text.specs.Places.{place};
 ghost use Rattle.lynx_text.specs.Reading.{operator_of, relation_of, binding, plain, changing, get_of, change_of, let_of, need_of, action_of};
 
-use crate::action::{Action, Key, Operand, Operator, Relation};
 use crate::scope::Scope;
 use lynx_names::TableId;
+use lynx_set::{Action, Key, Operand, Operator, Relation};
 use lynx_words::lines::{four_words, three_words};
 use lynx_words::{FaultKind, Name};
 

@@ -1,17 +1,12 @@
-//! Sets of chain programs, and the text that spells them.
+//! Reading and writing the text of a set of chain programs.
 #![tactic(auto)]
 
-pub use action::{Action, Key, Operand, Operator, Relation};
-pub use lynx_words::{FaultKind, Name, TextFault};
+pub use lynx_set::{Action, ChainSet, Hop, Key, Name, Operand, Operator, Program, Relation};
+pub use lynx_words::{FaultKind, TextFault};
 pub use printing::print;
-pub use program::{Hop, Program};
 pub use reading::{no_text_spells_two_sets, parse};
-pub use set::ChainSet;
 
-pub mod action;
 mod action_line;
 pub mod printing;
-pub mod program;
 pub mod reading;
 mod scope;
-pub mod set;

@@ -3,13 +3,11 @@
 ghost use Rattle.std.specs.Prelude.{◌≡◌, ◌<◌, ◌^◌, ◌+◌, ◌++◌, ◌∷◌, [], List, OnOk, IfOk, decimal, sum_by, flat_map, unwrap_or, slice_get};
 ghost use Rattle.lynx_names.specs.declared.limits.TheConstants.{MAX_ACTIONS};
 ghost use Rattle.lynx_words.specs.Lines.{spaced, joined, line};
-ghost use Rattle.lynx_text.specs.Text.{name_at, key_word, operand_word, operator_word, relation_word, action_words, bound_names, bound_in, action_lines, hop_lines, hops_lines, program_words, program_lines, programs_lines, shard_words, table_lines, tables_lines, head_lines, text, text_of};
+ghost use Rattle.lynx_set.specs.Text.{name_at, key_word, operand_word, operator_word, relation_word, action_words, bound_names, bound_in, action_lines, hop_lines, hops_lines, program_words, program_lines, programs_lines, shard_words, table_lines, tables_lines, head_lines, text, text_of};
 
-use crate::action::{Action, Key, Operand, Operator, Relation};
-use crate::program::{Hop, Program};
-use crate::set::ChainSet;
 use indexmap::IndexMap;
 use lynx_names::{Items, Memory, TableId};
+use lynx_set::{Action, ChainSet, Hop, Key, Operand, Operator, Program, Relation};
 use lynx_shards::Shard;
 use lynx_words::Name;
 use std::alloc::Global;

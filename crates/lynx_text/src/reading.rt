@@ -3,23 +3,21 @@
 ghost use Rattle.std.specs.Prelude.{◌≡◌, ◌≢◌, ◌↔◌, ◌⊎◌, false, codes, IfErr, IsErrAnd, IsErrOf, ◌<◌, ◌≤◌, ◌+◌, ◌-◌, [], None, Some, length, map, OnOk, IfOk};
 ghost use Rattle.lynx_words.specs.Gives.{Gives, IsOfLine};
 ghost use Rattle.lynx_words.specs.Lines.{texts, is_version, until};
-ghost use Rattle.lynx_text.specs.Plain.{plain_set, plain_program};
-ghost use Rattle.lynx_text.specs.Rules.{IsSet};
-ghost use Rattle.lynx_text.specs.Set.{Set};
-ghost use Rattle.lynx_text.specs.Text.{text_of};
-ghost use Rattle.lynx_text.specs.Reading.{place_of};
+ghost use Rattle.lynx_set.specs.Plain.{plain_set, plain_program};
+ghost use Rattle.lynx_set.specs.Rules.{IsSet};
+ghost use Rattle.lynx_set.specs.Set.{Set};
+ghost use Rattle.lynx_set.specs.Text.{text_of};
+ghost use Rattle.lynx_set.specs.Names.{place_of};
 ghost use Rattle.lynx_text.specs.Parts.{parts, goes_shard, goes_table, goes_action, goes_hop, goes_program, shard_at, table_at, action_at, hop_at, program_at, set_at, lines_at, read_text, with_name, servers_of, table_line, shard_line, program_line, parameters_of, hop_line, end_line};
 ghost use Rattle.lynx_names.specs.declared.limits.TheConstants.{MAX_ACTIONS, MAX_HOPS, MAX_PARAMETERS, MAX_PROGRAMS, MAX_SERVERS, MAX_SHARDS, MAX_TABLES, MAX_TEXT_BYTES};
 
-use crate::action::Action;
 use crate::action_line::read_action;
-use crate::program::{Hop, Program};
 use crate::scope::{Scope, name_of, new_name, number_of};
-use crate::set::ChainSet;
 use lynx_names::limits::{
     MAX_HOPS, MAX_PARAMETERS, MAX_PROGRAMS, MAX_SERVERS, MAX_SHARDS, MAX_TABLES, MAX_TEXT_BYTES,
 };
 use lynx_names::{Items, ServerId};
+use lynx_set::{Action, ChainSet, Hop, Program};
 use lynx_shards::{Range, ShardFault, TableShards};
 use lynx_words::lines::{four_words, one_after, two_and_more};
 use lynx_words::{FaultKind, Lines, Name, TextFault};

@@ -4,13 +4,14 @@ ghost use Rattle.std.specs.Prelude.{◌<◌, ◌≡◌, true, false, nat_lt, IfO
 ghost use Rattle.lynx_names.specs.declared.limits.TheConstants.{MAX_ACTIONS};
 ghost use Rattle.lynx_words.specs.Digits.{read_number, begins_with_digit};
 ghost use Rattle.lynx_words.specs.Gives.{Gives};
-ghost use Rattle.lynx_text.specs.Reading.{place_of, place_below, name_of, new_name, known_name, table_of, key_of, operand_of, is_home};
+ghost use Rattle.lynx_set.specs.Names.{place_of, place_below};
+ghost use Rattle.lynx_set.specs.Standing.{is_home};
+ghost use Rattle.lynx_text.specs.Reading.{name_of, new_name, known_name, table_of, key_of, operand_of};
 ghost use Rattle.lynx_words.specs.Lines.{only_if};
 
-use crate::action::{Key, Operand};
-use crate::set::ChainSet;
 use lynx_names::limits::MAX_ACTIONS;
 use lynx_names::{ServerId, TableId};
+use lynx_set::{ChainSet, Key, Operand};
 use lynx_words::number::number;
 use lynx_words::{FaultKind, Name};
 

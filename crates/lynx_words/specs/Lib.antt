@@ -1,4 +1,5 @@
 pub mod Digits
+pub mod Equal
 pub mod Gives
 pub mod LineLaws
 pub mod Lines

@@ -1,8 +1,8 @@
 -- What an entry at a server tells of its chain: where it began, that it visits the server, and its number for it.
 use Rattle.std.proofs.Common.{◌≡◌, ℕ, List, Some, option_map, refl, sym, ap, ◌∙◌, subst}
 use Rattle.lynx_names.specs.declared.chain.ChainId.{ChainId}
-use Rattle.lynx_text.specs.declared.program.Hop.{Hop}
-use Rattle.lynx_text.specs.Set.{Set}
+use Rattle.lynx_set.specs.declared.program.Hop.{Hop}
+use Rattle.lynx_set.specs.Set.{Set}
 use Rattle.lynx_entry.specs.declared.entry.BegunEntry.{BegunEntry}
 use Rattle.lynx_entry.specs.declared.entry.HopEntry.{HopEntry}
 use Rattle.lynx_entry.specs.declared.entry.Entry.{Entry}

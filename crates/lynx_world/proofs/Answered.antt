@@ -2,12 +2,12 @@
 use Rattle.std.proofs.Common.{◌≡◌, ◌≢◌, ℕ, ◌<◌, Bool, true, false, cond, not, ◌&&◌, ◌||◌, List, [], ◌∷◌, length, Option, Some, None, is_some, Ok, Err, nat_eq, nat_lt, option_map, refl, sym, ap, ◌∙◌, subst, arith}
 use Rattle.std.specs.Prelude.{All, unwrap_or}
 use Rattle.std.specs.List.{list_any}
-use Rattle.std.proofs.lemmas.Bool.{eqb-true, ltb-true}
+use Rattle.std.proofs.lemmas.Bool.{cond_both, eqb-true, ltb-true}
 use Rattle.std.proofs.lemmas.List.Elements.{All-head, All-tail}
 use Rattle.lynx_names.specs.declared.limits.TheConstants.{MAX_SERVERS}
-use Rattle.lynx_text.specs.declared.program.Hop.{Hop}
-use Rattle.lynx_text.specs.Rules.{IsSet}
-use Rattle.lynx_text.specs.Set.{Set}
+use Rattle.lynx_set.specs.declared.program.Hop.{Hop}
+use Rattle.lynx_set.specs.Rules.{IsSet}
+use Rattle.lynx_set.specs.Set.{Set}
 use Rattle.lynx_hops.specs.Meaning.{Outcome, meaning}
 use Rattle.lynx_entry.specs.declared.answer.Delivered.{Delivered}
 use Rattle.lynx_entry.specs.declared.answer.Delivered.TheVariants.{Repeat, Malformed}
@@ -30,7 +30,7 @@ use Rattle.lynx_world.proofs.LaterHops.{set_fits, meaning-never_refuses}
 use Rattle.lynx_world.proofs.Members.{IsIn, found_in, in_list}
 use Rattle.lynx_world.proofs.Once.{both, same_name}
 use Rattle.lynx_world.proofs.Sent.{message-sent}
-use Rattle.lynx_world.proofs.Tests.{not_both, chosen}
+use Rattle.lynx_world.proofs.Tests.{not_both}
 use Rattle.lynx_world.proofs.Alike.{same_message-self}
 use Rattle.lynx_world.proofs.Chains.{Descends, descends}
 use Rattle.lynx_world.proofs.Unique.{one_message}
@@ -68,11 +68,11 @@ none_other set list (other ∷ held) message legal sent each =
 early_is_good : (set : Set) (list : List Placed) (room : ℕ) (held : List Message) (message : Message) → IsLegal set list → IsSent set list message →
     All (IsSent set list) held → IsGood (early room held message)
 early_is_good set list room held message legal sent each =
-    chosen IsGood (list_any (λ other. same_hop other message && not (same_message other message)) held) _ _
+    cond_both (list_any (λ other. same_hop other message && not (same_message other message)) held) _ _ IsGood
     (λ some. absurd (not_both _ some (none_other set list held message legal sent each)))
-    (λ none. chosen IsGood (list_any (same_message message) held) _ _
+    (λ none. cond_both (list_any (same_message message) held) _ _ IsGood
     (λ there e. cc)
-    (λ not_there. chosen IsGood (nat_lt (length held) room) _ _ (λ room e. cc) (λ full e. cc)))
+    (λ not_there. cond_both (nat_lt (length held) room) _ _ IsGood (λ room e. cc) (λ full e. cc)))
 
 -- a hop that doesn't refuse
 done_is_good : (set : Set) (history : History) (held : List Message) (message : Message) (outcome : Outcome) →
@@ -87,7 +87,7 @@ repeat_is_good set list server message (Begun begun) legal sent there is = cc
 repeat_is_good set list server message (Refused refused) legal sent there is = cc
 repeat_is_good set list server message (HopRan ran) legal sent there is =
     let was = message-sent set list (record { server = server; entry = HopRan ran }) ran.message legal there refl in
-    chosen (λ (answer : Delivered). answer ≢ Malformed) (same_message ran.message message) (Repeat ran.stamp ran.results (next_message set (HopRan ran))) Malformed
+    cond_both (same_message ran.message message) (Repeat ran.stamp ran.results (next_message set (HopRan ran))) Malformed (λ (answer : Delivered). answer ≢ Malformed)
     (λ same e. cc)
     (λ differs. absurd (not_both (same_message ran.message message) (alike set list ran.message message legal was sent is) differs))
 
@@ -110,11 +110,11 @@ by_turn_is_good set list server room held message at each none =
     let history = history_of server list in
     let number = number_in message.numbers server in
     let turn = turn_of set server history message.chain.origin in
-    chosen IsGood (nat_lt number turn) _ _
+    cond_both (nat_lt number turn) _ _ IsGood
     (λ past. absurd (clash _ none (ran_before set list server message at.from at.has at.here at.below at.legal (ltb-true _ _ past))))
-    (λ not_past. chosen IsGood (nat_lt turn number) _ _
+    (λ not_past. cond_both (nat_lt turn number) _ _ IsGood
     (λ ahead. early_is_good set list room held message at.legal at.sent each)
-    (λ now. chosen IsGood (is_full history message.stamp) _ _
+    (λ now. cond_both (is_full history message.stamp) _ _ IsGood
     (λ full e. cc)
     (λ left. done_is_good set history held message (meaning set message.program message.hop message.args message.results (tables_of set history))
     (λ need refused. meaning-never_refuses set message.program message.hop at.has at.is_set at.from.for_hop.later

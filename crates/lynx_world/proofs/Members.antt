@@ -5,7 +5,7 @@ use Rattle.std.proofs.lemmas.Bool.Decides.{eqb_tells}
 use Rattle.std.specs.List.{cons_option, list_any, range_with_len}
 use Rattle.lynx_entry.specs.declared.entry.Entry.{Entry}
 use Rattle.lynx_names.specs.declared.chain.ChainId.{ChainId}
-use Rattle.lynx_text.specs.Set.{Set}
+use Rattle.lynx_set.specs.Set.{Set}
 use Rattle.lynx_entry.specs.declared.message.Message.{Message}
 use Rattle.lynx_server.specs.Messages.{next_message}
 use Rattle.lynx_world.specs.declared.placed.Placed.{Placed}
@@ -84,11 +84,6 @@ pub above_range : (a n h : ℕ) → IsIn h (range_with_len a n) → a ≤ h
 above_range a zero h never = absurd never
 above_range a (suc n) h (inl same) = omega arith
 above_range a (suc n) h (inr later) = let above : a + 1 ≤ h = above_range (a + 1) n h later in omega arith
-
-pub range_more : (a n : ℕ) → range_with_len a (suc n) ≡ range_with_len a n ++ (a + n) ∷ []
-range_more a zero = ap (λ m. m ∷ []) (omega arith)
-range_more a (suc n) =
-    ap (λ rest. a ∷ rest) (range_more (a + 1) n ∙ ap (λ m. range_with_len (a + 1) n ++ m ∷ []) (omega arith))
 
 -- an entry of a done hop
 done_here : (chain : ChainId) (hop : ℕ) (placed : Placed) (list : List Placed) (o : Option ℕ) → hop_in chain placed.entry ≡ o →

@@ -7,9 +7,9 @@ use Rattle.std.proofs.lemmas.Bool.{eqb-true, ltb-true}
 use Rattle.std.proofs.lemmas.Bool.Decides.{eqb_tells}
 use Rattle.std.proofs.lemmas.List.Sums.{sum_by-append}
 use Rattle.lynx_names.specs.declared.chain.ChainId.{ChainId}
-use Rattle.lynx_text.specs.declared.program.Hop.{Hop}
-use Rattle.lynx_text.specs.declared.program.Program.{Program}
-use Rattle.lynx_text.specs.Set.{Set}
+use Rattle.lynx_set.specs.declared.program.Hop.{Hop}
+use Rattle.lynx_set.specs.declared.program.Program.{Program}
+use Rattle.lynx_set.specs.Set.{Set}
 use Rattle.lynx_hops.specs.Meaning.{program_at, hop_at}
 use Rattle.lynx_entry.specs.declared.entry.Entry.{Entry}
 use Rattle.lynx_entry.specs.declared.entry.Entry.TheVariants.{Begun, Refused, Hop as HopRan}
@@ -29,7 +29,8 @@ use Rattle.lynx_world.specs.Worlds.{history_of}
 use Rattle.lynx_world.specs.Legal.{MayFollow, IsLegalAfter, IsLegal}
 use Rattle.lynx_world.specs.Order.{hop_in, done_hops, IsOnceAndInOrder}
 use Rattle.lynx_world.proofs.Histories.{history_of-push}
-use Rattle.lynx_world.proofs.Members.{IsIn, in-push, in_range, below_range, range_more, entry_of_done, done_of_entry, sender_of, none_of}
+use Rattle.lynx_server.specs.Ranges.{range_more}
+use Rattle.lynx_world.proofs.Members.{IsIn, in-push, in_range, below_range, entry_of_done, done_of_entry, sender_of, none_of}
 
 -- the program of an entry
 abbrev pub program_of : Entry → ℕ

@@ -2,8 +2,8 @@
 use Rattle.std.proofs.Common.{◌≡◌, ℕ, ◌+◌, ◌<◌, ◌≤◌, Bool, true, false, cond, ◌&&◌, List, drop, length, Some, None, is_some, nat_eq, eq-eqb, option_map, refl, sym, ap, ◌∙◌, subst, arith}
 use Rattle.lynx_names.specs.declared.chain.ChainId.{ChainId}
 use Rattle.lynx_names.specs.declared.limits.TheConstants.{MAX_SERVERS}
-use Rattle.lynx_text.specs.declared.program.Hop.{Hop}
-use Rattle.lynx_text.specs.Set.{Set}
+use Rattle.lynx_set.specs.declared.program.Hop.{Hop}
+use Rattle.lynx_set.specs.Set.{Set}
 use Rattle.lynx_entry.specs.declared.entry.BegunEntry.{BegunEntry}
 use Rattle.lynx_entry.specs.declared.entry.Entry.{Entry}
 use Rattle.lynx_entry.specs.declared.entry.Entry.TheVariants.{Begun, Refused, Hop as HopRan}

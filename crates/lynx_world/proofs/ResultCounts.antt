@@ -4,9 +4,9 @@ use Rattle.std.specs.Prelude.{count_by}
 use Rattle.std.specs.List.{flat_map}
 use Rattle.std.proofs.lemmas.List.Sums.{sum_by-cons}
 use Rattle.lynx_cells.specs.Database.{Database, value_at, with_value}
-use Rattle.lynx_text.specs.declared.action.Action.{Action}
-use Rattle.lynx_text.specs.declared.action.Action.TheVariants.{Get, Set as SetCell, Add, Sub, Let, Need}
-use Rattle.lynx_text.specs.Set.{Set}
+use Rattle.lynx_set.specs.declared.action.Action.{Action}
+use Rattle.lynx_set.specs.declared.action.Action.TheVariants.{Get, Set as SetCell, Add, Sub, Let, Need}
+use Rattle.lynx_set.specs.Set.{Set}
 use Rattle.lynx_hops.specs.Meaning.{Outcome, after_results, run, meaning, key_of, value_of, sum_of, difference_of, result_of, is_met}
 use Rattle.lynx_server.specs.Checks.{binds, result_count}
 use Rattle.lynx_world.proofs.HopsOf.{HasHop, actions_are}

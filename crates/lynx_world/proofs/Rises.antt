@@ -3,7 +3,7 @@ use Rattle.std.proofs.Common.{◌≡◌, ◌≢◌, ℕ, ◌+◌, ◌<◌, List,
 use Rattle.std.proofs.lemmas.Bool.{cases_lt}
 use Rattle.std.proofs.lemmas.Bool.Decides.{eqb_tells}
 use Rattle.lynx_names.specs.declared.limits.TheConstants.{MAX_SERVERS}
-use Rattle.lynx_text.specs.Set.{Set}
+use Rattle.lynx_set.specs.Set.{Set}
 use Rattle.lynx_entry.specs.declared.entry.BegunEntry.{BegunEntry}
 use Rattle.lynx_entry.specs.declared.entry.Entry.TheVariants.{Begun}
 use Rattle.lynx_server.specs.Turns.{is_begun, begins_visiting, begun_count, number_for}

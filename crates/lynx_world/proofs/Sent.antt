@@ -1,6 +1,6 @@
 -- The messages that were sent, as a list grows; an entry's own message is one of them.
 use Rattle.std.proofs.Common.{◌≡◌, List, [], ◌∷◌, ◌++◌, Some, inl, inr, ◌⊎◌, subst}
-use Rattle.lynx_text.specs.Set.{Set}
+use Rattle.lynx_set.specs.Set.{Set}
 use Rattle.lynx_entry.specs.declared.message.Message.{Message}
 use Rattle.lynx_server.specs.Messages.{next_message}
 use Rattle.lynx_server.specs.Lawful.{message_of}

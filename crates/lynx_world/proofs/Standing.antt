@@ -1,7 +1,7 @@
 -- A legal list by induction on its end, and what each of its entries followed.
 use Rattle.std.proofs.Common.{◌≡◌, List, [], ◌∷◌, ◌++◌, inl, inr, ◌⊎◌, append_assoc, sym, ap, ◌∙◌, subst}
 use Rattle.std.proofs.lemmas.List.{append-nil}
-use Rattle.lynx_text.specs.Set.{Set}
+use Rattle.lynx_set.specs.Set.{Set}
 use Rattle.lynx_world.specs.declared.placed.Placed.{Placed}
 use Rattle.lynx_world.specs.Legal.{MayFollow, IsLegalAfter, IsLegal}
 use Rattle.lynx_world.specs.LegalSteps.{legal-push}

@@ -1,6 +1,6 @@
 -- When a list of entries is legal.
 use Rattle.std.specs.Prelude.{◌≡◌, ◌<◌, List, [], ◌∷◌, ◌++◌, Some, ◌⊎◌}
-use Rattle.lynx_text.specs.Set.{Set}
+use Rattle.lynx_set.specs.Set.{Set}
 use Rattle.lynx_entry.specs.declared.message.Message.{Message}
 use Rattle.lynx_entry.specs.Entry.{History}
 use Rattle.lynx_server.specs.Messages.{next_message}

@@ -5,7 +5,7 @@ use Rattle.std.specs.declared.cmp.Ordering.{Ordering}
 use Rattle.std.specs.Ordering.{nat_cmp, ordering_then}
 use Rattle.std.specs.FinMap.{entries}
 use Rattle.lynx_cells.specs.Triples.{triples_of}
-use Rattle.lynx_text.specs.Set.{Set}
+use Rattle.lynx_set.specs.Set.{Set}
 use Rattle.lynx_entry.specs.Entry.{History}
 use Rattle.lynx_server.specs.Tables.{tables_of}
 use Rattle.lynx_world.specs.Worlds.{WorldState, history_of}

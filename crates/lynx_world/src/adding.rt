@@ -6,6 +6,27 @@ use lynx_entry::Entry;
 use lynx_names::{Items, Memory, ServerId, TryCopy};
 use std::alloc::Global;
 
+/// The entry as one of that server in the one list.
+fn placed(alloc: Global, server: ServerId, entry: &Entry) -> Result<Placed, Memory>
+    ensures { IfOk result (λ placed. placed ≡ record { server = server; entry = entry.now }) }
+{
+    let entry = entry.copy(alloc)?;
+    Ok(Placed { server, entry })
+}
+
+/// Adds the entry at the end of the server's history. An error leaves all as it was.
+fn add_to_history(
+    histories: &mut Vec<Items<Entry>>,
+    server: ServerId,
+    entry: Entry,
+) -> Result<(), Memory>
+    requires { server < length histories.old.items }
+    ensures ok { OnOk result (histories.new.items ≡ slice_set histories.old.items server (slice_index_or histories.old.items server [] ++ entry ∷ [])) }
+    ensures err { OnErr result (histories.new.items ≡ histories.old.items) }
+{
+    histories[server.index()].push(entry)
+}
+
 /// Adds the entry at the end of both. An error leaves both as they were.
 pub fn add_entry(
     alloc: Global,
@@ -20,13 +41,9 @@ pub fn add_entry(
     ensures same_list { OnErr result (list.new.items ≡ list.old.items) }
     ensures same_histories { OnErr result (histories.new.items ≡ histories.old.items) }
 {
-    let placed = Placed {
-        server,
-        entry: entry.copy(alloc)?,
-    };
+    let placed = placed(alloc, server, &entry)?;
     list.reserve(1)?;
-    let history = &mut histories[server.index()];
-    history.push(entry)?;
+    add_to_history(histories, server, entry)?;
     list.push_reserved(placed);
     Ok(())
 }

@@ -6,7 +6,7 @@ ghost use Rattle.lynx_world.specs.Tables.{cells_after};
 use lynx_entry::Entry;
 use lynx_names::{Items, Memory, TableId};
 use lynx_server::tables::tables_of;
-use lynx_text::ChainSet;
+use lynx_set::ChainSet;
 use std::alloc::Global;
 
 /// The nonzero cells that each of the histories leaves, one history after another.

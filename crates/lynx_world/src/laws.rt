@@ -1,8 +1,8 @@
 //! Laws of legal worlds, each the contract of a function that does nothing.
 ghost use Rattle.std.specs.Prelude.{◌≢◌, ◌≤◌, ℕ, List, All};
 ghost use Rattle.lynx_names.specs.declared.limits.TheConstants.{MAX_SERVERS};
-ghost use Rattle.lynx_text.specs.Rules.{IsSet};
-ghost use Rattle.lynx_text.specs.Set.{Set};
+ghost use Rattle.lynx_set.specs.Rules.{IsSet};
+ghost use Rattle.lynx_set.specs.Set.{Set};
 ghost use Rattle.lynx_entry.specs.declared.answer.Delivered.TheVariants.{Malformed};
 ghost use Rattle.lynx_entry.specs.declared.message.Message.{Message};
 ghost use Rattle.lynx_server.specs.Deliveries.{delivery};

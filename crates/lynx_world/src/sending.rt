@@ -6,7 +6,7 @@ use crate::placed::Placed;
 use lynx_entry::Message;
 use lynx_names::{ChainId, Memory};
 use lynx_server::next_of;
-use lynx_text::ChainSet;
+use lynx_set::ChainSet;
 use std::alloc::Global;
 
 fn is_message_of(chain: ChainId, hop: u8, message: &Message) -> bool

@@ -9,7 +9,7 @@ use lynx_entry::{Entry, Message, Request};
 use lynx_names::{ChainId, Items, Memory, ServerId, Stamp, TableId};
 use lynx_server::answers::answer;
 use lynx_server::deliveries::deliver;
-use lynx_text::ChainSet;
+use lynx_set::ChainSet;
 use std::alloc::Global;
 use std::marker::Model;
 

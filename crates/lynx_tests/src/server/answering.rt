@@ -1,8 +1,9 @@
 //! What begins are answered.
-use super::fixtures::{PAY, PUT, SEED, TRIPS, begins, entry, paid, seeded};
+use super::fixtures::{PAY, PUT, SEED, TRIPS, begins, begun, paid, seeded};
 use lynx_entry::{Answer, Entry};
 use lynx_names::{Memory, ServerId};
-use lynx_text::ChainSet;
+use lynx_server::answers::Begins;
+use lynx_set::ChainSet;
 use std::alloc::Global;
 
 /// Whether the first server answers so that a chain began with that index, stamp and results.
@@ -30,8 +31,8 @@ fn answered(
     set: &ChainSet,
     history: &[Entry],
     request: (u64, u8, &[u64]),
-) -> Result<Answer, Memory> {
-    Ok(begins(alloc, set, ServerId::first(), history, request)?.answer)
+) -> Result<Box<Begins>, Memory> {
+    begins(alloc, set, ServerId::first(), history, request)
 }
 
 /// What a request is answered after a seed of 100 and a payment of 30.
@@ -39,27 +40,31 @@ fn after_payment(
     alloc: Global,
     set: &ChainSet,
     request: (u64, u8, &[u64]),
-) -> Result<Answer, Memory> {
+) -> Result<Box<Begins>, Memory> {
     let history = paid(alloc, set)?;
     answered(alloc, set, history.as_slice(), request)
 }
 
 /// What a request is answered after a seed of 100.
-fn after_seed(alloc: Global, set: &ChainSet, request: (u64, u8, &[u64])) -> Result<Answer, Memory> {
+fn after_seed(
+    alloc: Global,
+    set: &ChainSet,
+    request: (u64, u8, &[u64]),
+) -> Result<Box<Begins>, Memory> {
     let history = seeded(alloc, set)?;
     answered(alloc, set, history.as_slice(), request)
 }
 
 /// Whether a payment begins as the second chain, and reads 100.
 pub fn payment_begins(alloc: Global, set: &ChainSet) -> Result<bool, Memory> {
-    let answer = after_seed(alloc, set, (2, PAY, &[30]))?;
-    Ok(is_begun(&answer, (1, 2, &[100], false)))
+    let begins = after_seed(alloc, set, (2, PAY, &[30]))?;
+    Ok(is_begun(&begins.answer, (1, 2, &[100], false)))
 }
 
 /// Whether the same request is answered by the same words again.
 pub fn payment_begins_again(alloc: Global, set: &ChainSet) -> Result<bool, Memory> {
-    let answer = after_payment(alloc, set, (2, PAY, &[30]))?;
-    Ok(is_begun(&answer, (1, 2, &[100], true)))
+    let begins = after_payment(alloc, set, (2, PAY, &[30]))?;
+    Ok(is_begun(&begins.answer, (1, 2, &[100], true)))
 }
 
 /// The numbers that the port gives the answers.
@@ -121,13 +126,13 @@ pub fn kinds_after_seed(alloc: Global, set: &ChainSet) -> Result<bool, Memory> {
 }
 
 /// What a second trip is answered while the first one is on its way.
-fn second_trip(alloc: Global, set: &ChainSet) -> Result<Answer, Memory> {
-    let first = entry(alloc, set, &[], (1, TRIPS, &[]))?;
-    answered(alloc, set, &[first], (2, TRIPS, &[]))
+fn second_trip(alloc: Global, set: &ChainSet) -> Result<Box<Begins>, Memory> {
+    let first = begun(alloc, set, (1, TRIPS, &[]))?;
+    answered(alloc, set, first.as_slice(), (2, TRIPS, &[]))
 }
 
 /// Whether a trip waits until the one before is back.
 pub fn trip_waits(alloc: Global, set: &ChainSet) -> Result<bool, Memory> {
-    let answer = second_trip(alloc, set)?;
-    Ok(kind(&answer) == 7)
+    let begins = second_trip(alloc, set)?;
+    Ok(kind(&begins.answer) == 7)
 }

@@ -1,17 +1,23 @@
 //! What deliveries are answered, and what entries send.
-use super::fixtures::{PAY, TRIPS, entry, seeded};
+use super::fixtures::{PAY, TRIPS, begun, delivered, paid};
 use lynx_entry::{Delivered, Entry, Message};
 use lynx_names::{Memory, ServerId};
-use lynx_server::deliveries::deliver;
+use lynx_server::deliveries::{Delivery, deliver};
 use lynx_server::next_of;
-use lynx_text::ChainSet;
+use lynx_set::ChainSet;
 use std::alloc::Global;
 
+/// The message that the last entry of a history sends, in a box.
+fn sent(alloc: Global, set: &ChainSet, history: &[Entry]) -> Result<Box<Message>, Memory> {
+    let last = history.last().ok_or(Memory)?;
+    let message = next_of(alloc, set, last)?.ok_or(Memory)?;
+    Ok(Box::new(alloc, message)?)
+}
+
 /// The message of a payment of 30 that begins after a seed of 100.
-fn payment(alloc: Global, set: &ChainSet) -> Result<Message, Memory> {
-    let history = seeded(alloc, set)?;
-    let paid = entry(alloc, set, history.as_slice(), (2, PAY, &[30]))?;
-    next_of(alloc, set, &paid)?.ok_or(Memory)
+fn payment(alloc: Global, set: &ChainSet) -> Result<Box<Message>, Memory> {
+    let history = paid(alloc, set)?;
+    sent(alloc, set, history.as_slice())
 }
 
 /// Whether the message is that of the payment's second hop.
@@ -73,38 +79,50 @@ fn hop_of(next: &Option<Message>) -> u8 {
 }
 
 /// What the second server answers to the message.
-fn delivered(
+fn answered(
     alloc: Global,
     set: &ChainSet,
     history: &[Entry],
     message: &Message,
-) -> Result<Delivered, Memory> {
-    Ok(deliver(alloc, set, ServerId::at(1), history, message)?.delivered)
+) -> Result<Box<Delivery>, Memory> {
+    delivered(alloc, set, ServerId::at(1), history, message)
 }
 
 /// What the first delivery of the payment is answered.
-fn arrival(alloc: Global, set: &ChainSet) -> Result<Delivered, Memory> {
+fn arrival(alloc: Global, set: &ChainSet) -> Result<Box<Delivery>, Memory> {
     let message = payment(alloc, set)?;
-    delivered(alloc, set, &[], &message)
+    answered(alloc, set, &[], &message)
 }
 
 /// Whether the payment runs its last hop.
 pub fn payment_arrives(alloc: Global, set: &ChainSet) -> Result<bool, Memory> {
-    let delivered = arrival(alloc, set)?;
-    Ok(is_done(&delivered, 3, 0))
+    let delivery = arrival(alloc, set)?;
+    Ok(is_done(&delivery.delivered, 3, 0))
+}
+
+/// The second server's history after the message.
+fn arrived(alloc: Global, set: &ChainSet, message: &Message) -> Result<Vec<Entry>, Memory> {
+    let first = deliver(alloc, set, ServerId::at(1), &[], message)?.added;
+    let entry = first.ok_or(Memory)?;
+    let mut history = Vec::new(alloc);
+    history.push(entry)?;
+    Ok(history)
 }
 
 /// What the message is answered where it arrived before.
-fn delivered_again(alloc: Global, set: &ChainSet, message: &Message) -> Result<Delivered, Memory> {
-    let first = deliver(alloc, set, ServerId::at(1), &[], message)?;
-    let entry = first.added.ok_or(Memory)?;
-    delivered(alloc, set, &[entry], message)
+fn answered_again(
+    alloc: Global,
+    set: &ChainSet,
+    message: &Message,
+) -> Result<Box<Delivery>, Memory> {
+    let history = arrived(alloc, set, message)?;
+    answered(alloc, set, history.as_slice(), message)
 }
 
 /// What the second delivery of the payment is answered.
-fn second_arrival(alloc: Global, set: &ChainSet) -> Result<Delivered, Memory> {
+fn second_arrival(alloc: Global, set: &ChainSet) -> Result<Box<Delivery>, Memory> {
     let message = payment(alloc, set)?;
-    delivered_again(alloc, set, &message)
+    answered_again(alloc, set, &message)
 }
 
 /// Whether the hop ran before, with the stamp 3 and as the last one.
@@ -121,19 +139,24 @@ fn is_repeat(delivered: &Delivered) -> bool {
 
 /// Whether the payment runs its last hop no second time.
 pub fn payment_arrives_once(alloc: Global, set: &ChainSet) -> Result<bool, Memory> {
-    let delivered = second_arrival(alloc, set)?;
-    Ok(is_repeat(&delivered))
+    let delivery = second_arrival(alloc, set)?;
+    Ok(is_repeat(&delivery.delivered))
 }
 
-/// What the delivery of a trip's second hop is answered.
-fn trip(alloc: Global, set: &ChainSet) -> Result<Delivered, Memory> {
-    let begun = entry(alloc, set, &[], (1, TRIPS, &[]))?;
-    let message = next_of(alloc, set, &begun)?.ok_or(Memory)?;
-    delivered(alloc, set, &[], &message)
+/// The message of a trip's second hop.
+fn trip_message(alloc: Global, set: &ChainSet) -> Result<Box<Message>, Memory> {
+    let history = begun(alloc, set, (1, TRIPS, &[]))?;
+    sent(alloc, set, history.as_slice())
+}
+
+/// What its delivery is answered.
+fn trip(alloc: Global, set: &ChainSet) -> Result<Box<Delivery>, Memory> {
+    let message = trip_message(alloc, set)?;
+    answered(alloc, set, &[], &message)
 }
 
 /// Whether the trip goes on to its third hop.
 pub fn trip_goes_on(alloc: Global, set: &ChainSet) -> Result<bool, Memory> {
-    let delivered = trip(alloc, set)?;
-    Ok(is_done(&delivered, 2, 2))
+    let delivery = trip(alloc, set)?;
+    Ok(is_done(&delivery.delivered, 2, 2))
 }

@@ -1,13 +1,10 @@
 //! Payments between two servers, and trips that come back.
-use lynx_entry::{Entry, Request};
+use lynx_entry::{Entry, Message, Request};
 use lynx_names::{ClientId, Memory, ProgramId, ServerId, Stamp, Values};
 use lynx_server::answers::{Begins, answer};
-use lynx_text::{ChainSet, parse};
+use lynx_server::deliveries::{Delivery, deliver};
+use lynx_set::ChainSet;
 use std::alloc::Global;
-
-/// Its programs are seed, pay and put, which names its cell by a parameter.
-const PAYMENT: &str =
-    "lynx 1\nservers 2\ntable acct\nshard 0 999 0\nshard 1000 18446744073709551615 1\nprogram seed n\nhop 0\nadd acct 0 n\nend\nprogram pay n\nhop 0\nget x acct 0\nneed x >= n\nsub acct 0 n\nhop 1\nadd acct 1000 n\nend\nprogram put k\nhop 0\nadd acct k 1\nend\n";
 
 pub const SEED: u8 = 0;
 
@@ -15,40 +12,17 @@ pub const PAY: u8 = 1;
 
 pub const PUT: u8 = 2;
 
-// The set of a text that is known to have no fault.
-fn set_of(alloc: Global, text: &str) -> Result<ChainSet, Memory> {
-    match parse(alloc, text.as_bytes()) {
-        Ok(set) => Ok(set),
-        Err(_) => Err(Memory),
-    }
-}
-
-pub fn payments(alloc: Global) -> Result<ChainSet, Memory> {
-    set_of(alloc, PAYMENT)
-}
-
-/// Its program goes from the first server to the second, and back.
-const TRIP: &str =
-    "lynx 1\nservers 2\ntable t\nshard 0 9 0\nshard 10 18446744073709551615 1\nprogram trip\nhop 0\nadd t 0 1\nhop 1\nadd t 10 1\nhop 0\nadd t 0 1\nend\n";
-
+/// The program of trips.
 pub const TRIPS: u8 = 0;
-
-pub fn trips(alloc: Global) -> Result<ChainSet, Memory> {
-    set_of(alloc, TRIP)
-}
 
 /// Its programs move an amount from the first server to a cell of the second, and come back; the second program
 /// then goes there once more.
-const MOVE: &str =
+pub const MOVE: &str =
     "lynx 1\nservers 2\ntable acct\nshard 0 999 0\nshard 1000 18446744073709551615 1\nprogram move to n\nhop 0\nget x acct 0\nsub acct 0 n\nhop 1\nadd acct to n\nhop 0\nadd acct 1 1\nend\nprogram round to n\nhop 0\nget x acct 0\nsub acct 0 n\nhop 1\nadd acct to n\nhop 0\nadd acct 1 1\nhop 1\nadd acct to 1\nend\n";
 
 pub const MOVES: u8 = 0;
 
 pub const ROUNDS: u8 = 1;
-
-pub fn moves(alloc: Global) -> Result<ChainSet, Memory> {
-    set_of(alloc, MOVE)
-}
 
 pub fn values(alloc: Global, items: &[u64]) -> Result<Values, Memory> {
     let mut values = Values::new(alloc);
@@ -70,7 +44,7 @@ fn request(alloc: Global, number: u64, program: u8, args: &[u64]) -> Result<Requ
 }
 
 /// What comes of the request of that number of client 1 at a server, which was told nothing.
-pub fn begins(
+fn begins_at(
     alloc: Global,
     set: &ChainSet,
     server: ServerId,
@@ -81,23 +55,44 @@ pub fn begins(
     answer(alloc, set, server, history, &request, Stamp::zero())
 }
 
+/// The same in a box, which is dropped by one call.
+pub fn begins(
+    alloc: Global,
+    set: &ChainSet,
+    server: ServerId,
+    history: &[Entry],
+    request: (u64, u8, &[u64]),
+) -> Result<Box<Begins>, Memory> {
+    let begins = begins_at(alloc, set, server, history, request)?;
+    Ok(Box::new(alloc, begins)?)
+}
+
 /// The entry that the request adds at the first server.
-pub fn entry(
+fn entry(
     alloc: Global,
     set: &ChainSet,
     history: &[Entry],
     request: (u64, u8, &[u64]),
 ) -> Result<Entry, Memory> {
-    begins(alloc, set, ServerId::first(), history, request)?
+    begins_at(alloc, set, ServerId::first(), history, request)?
         .added
         .ok_or(Memory)
 }
 
+/// The first server's history after the request.
+pub fn begun(
+    alloc: Global,
+    set: &ChainSet,
+    request: (u64, u8, &[u64]),
+) -> Result<Vec<Entry>, Memory> {
+    let mut history = Vec::new(alloc);
+    history.push(entry(alloc, set, &[], request)?)?;
+    Ok(history)
+}
+
 /// The first server's history after a seed of 100.
 pub fn seeded(alloc: Global, set: &ChainSet) -> Result<Vec<Entry>, Memory> {
-    let mut history = Vec::new(alloc);
-    history.push(entry(alloc, set, &[], (1, SEED, &[100]))?)?;
-    Ok(history)
+    begun(alloc, set, (1, SEED, &[100]))
 }
 
 /// The first server's history after that and a payment of 30.
@@ -105,4 +100,16 @@ pub fn paid(alloc: Global, set: &ChainSet) -> Result<Vec<Entry>, Memory> {
     let mut history = seeded(alloc, set)?;
     history.push(entry(alloc, set, history.as_slice(), (2, PAY, &[30]))?)?;
     Ok(history)
+}
+
+/// What a server answers to the message, in a box.
+pub fn delivered(
+    alloc: Global,
+    set: &ChainSet,
+    server: ServerId,
+    history: &[Entry],
+    message: &Message,
+) -> Result<Box<Delivery>, Memory> {
+    let delivery = deliver(alloc, set, server, history, message)?;
+    Ok(Box::new(alloc, delivery)?)
 }

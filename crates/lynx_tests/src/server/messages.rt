@@ -101,29 +101,33 @@ fn results_of(alloc: Global, items: &[&[u64]]) -> Result<ResultLists, Memory> {
 
 fn message_of(alloc: Global, parts: Parts) -> Result<Message, Memory> {
     let origin = ServerId::new(parts.origin).ok_or(Memory)?;
+    let program = ProgramId::new(parts.program).ok_or(Memory)?;
+    let stamp = Stamp::new(parts.time).ok_or(Memory)?;
     Ok(Message {
         chain: ChainId {
             origin,
             index: parts.index,
         },
-        program: ProgramId::new(parts.program).ok_or(Memory)?,
+        program,
         hop: parts.hop,
-        stamp: Stamp::new(parts.time).ok_or(Memory)?,
+        stamp,
         args: values(alloc, parts.args)?,
         numbers: numbers_of(alloc, parts.numbers)?,
         results: results_of(alloc, parts.results)?,
     })
 }
 
-/// The message of these parts, one of which may be changed.
-pub fn message(alloc: Global, parts: Parts, change: Change) -> Result<Message, Memory> {
-    message_of(alloc, changed(parts, change))
+/// The message of these parts, one of which may be changed, in a box.
+pub fn message(alloc: Global, parts: Parts, change: Change) -> Result<Box<Message>, Memory> {
+    let message = message_of(alloc, changed(parts, change))?;
+    Ok(Box::new(alloc, message)?)
 }
 
 /// The entry of the message's hop, where it is the server's first and gives no results.
 pub fn hop_entry(alloc: Global, parts: Parts) -> Result<Entry, Memory> {
+    let time = Stamp::new(parts.time).ok_or(Memory)?;
+    let stamp = time.above(Stamp::zero()).ok_or(Memory)?;
     let message = message_of(alloc, parts)?;
-    let stamp = message.stamp.above(Stamp::zero()).ok_or(Memory)?;
     Ok(Entry::Hop(HopEntry {
         message,
         stamp,

@@ -1,16 +1,16 @@
 //! What messages are answered that may not run: those of no chain, those out of turn, and those past the last stamp.
-use super::fixtures::{MOVES, ROUNDS, entry};
+use super::fixtures::{MOVES, ROUNDS, begun, delivered};
 use super::messages::{BACK, Change, NEXT, Parts, ROUND, THERE, hop_entry, message};
 use lynx_entry::{Delivered, Entry};
 use lynx_names::limits::STAMP_LIMIT;
 use lynx_names::{Memory, ServerId};
-use lynx_server::deliveries::deliver;
-use lynx_text::ChainSet;
+use lynx_server::deliveries::Delivery;
+use lynx_set::ChainSet;
 use std::alloc::Global;
 
 /// What kind of answer a delivery gets.
 #[derive(Clone, Copy, PartialEq, Eq)]
-enum Kind {
+pub enum Kind {
     Done,
     Repeat,
     Dropped,
@@ -31,7 +31,12 @@ fn kind_of(delivered: &Delivered) -> Kind {
 }
 
 /// The change of a message, and the kind of its answer.
-type Case = (Change, Kind);
+pub type Case = (Change, Kind);
+
+/// Whether the answer is of that kind, and adds an entry only where the hop is done.
+fn is_kind(delivery: &Delivery, want: Kind) -> bool {
+    kind_of(&delivery.delivered) == want && delivery.added.is_some() == (want == Kind::Done)
+}
 
 /// Whether the changed message is answered so, and adds an entry only where its hop is done.
 fn is_answered(
@@ -43,9 +48,8 @@ fn is_answered(
     (change, want): Case,
 ) -> Result<bool, Memory> {
     let message = message(alloc, parts, change)?;
-    let delivery = deliver(alloc, set, server, history, &message)?;
-    let is_done = want == Kind::Done;
-    Ok(kind_of(&delivery.delivered) == want && delivery.added.is_some() == is_done)
+    let delivery = delivered(alloc, set, server, history, &message)?;
+    Ok(is_kind(&delivery, want))
 }
 
 /// Whether that holds in each case.
@@ -98,27 +102,26 @@ const BEGUN_OTHERWISE: &[Case] = &[
     (Change::Numbers(&[(0, 0), (1, 1)]), Kind::Malformed),
 ];
 
-/// Whether a message to its chain's origin is malformed unless that chain began so.
-pub fn begun_otherwise(alloc: Global, set: &ChainSet) -> Result<bool, Memory> {
-    let begun = entry(alloc, set, &[], (1, MOVES, &[1000, 30]))?;
+/// Whether each of these is answered so by the first server.
+fn are_otherwise(alloc: Global, set: &ChainSet, history: &[Entry]) -> Result<bool, Memory> {
     are_answered(
         alloc,
         set,
         ServerId::first(),
-        &[begun],
+        history,
         BACK,
         BEGUN_OTHERWISE,
     )
 }
 
-/// Whether it is malformed where no chain began.
-pub fn never_began(alloc: Global, set: &ChainSet) -> Result<bool, Memory> {
-    let want = (Change::Nothing, Kind::Malformed);
-    is_answered(alloc, set, ServerId::first(), &[], BACK, want)
+/// Whether a message to its chain's origin is malformed unless that chain began so.
+pub fn begun_otherwise(alloc: Global, set: &ChainSet) -> Result<bool, Memory> {
+    let history = begun(alloc, set, (1, MOVES, &[1000, 30]))?;
+    are_otherwise(alloc, set, history.as_slice())
 }
 
-/// The message whose hop the second server ran before, if it ran one, and cases of a message that comes then.
-type Run = (Option<Parts>, Parts, &'static [Case]);
+/// A server's number, the message whose hop it ran before, if it ran one, and cases of a message that comes then.
+pub type Run = (u8, Option<Parts>, Parts, &'static [Case]);
 
 /// The history of a server that ran that message's hop, or none.
 fn history_of(alloc: Global, first: Option<Parts>) -> Result<Vec<Entry>, Memory> {
@@ -129,20 +132,19 @@ fn history_of(alloc: Global, first: Option<Parts>) -> Result<Vec<Entry>, Memory>
     Ok(history)
 }
 
-/// Whether the second server answers so.
-fn is_run(alloc: Global, set: &ChainSet, (first, parts, cases): Run) -> Result<bool, Memory> {
+/// Whether the server answers so.
+fn is_run(
+    alloc: Global,
+    set: &ChainSet,
+    (number, first, parts, cases): Run,
+) -> Result<bool, Memory> {
+    let server = ServerId::new(number).ok_or(Memory)?;
     let history = history_of(alloc, first)?;
-    are_answered(
-        alloc,
-        set,
-        ServerId::at(1),
-        history.as_slice(),
-        parts,
-        cases,
-    )
+    are_answered(alloc, set, server, history.as_slice(), parts, cases)
 }
 
-fn are_runs(alloc: Global, set: &ChainSet, runs: &[Run]) -> Result<bool, Memory> {
+/// Whether each run is answered so.
+pub fn are_runs(alloc: Global, set: &ChainSet, runs: &[Run]) -> Result<bool, Memory> {
     for run in runs {
         if !is_run(alloc, set, *run)? {
             return Ok(false);
@@ -151,10 +153,11 @@ fn are_runs(alloc: Global, set: &ChainSet, runs: &[Run]) -> Result<bool, Memory>
     Ok(true)
 }
 
-/// Whether a message that nobody can have sent is malformed.
-pub fn nobody_sent(alloc: Global, set: &ChainSet) -> Result<bool, Memory> {
-    are_runs(alloc, set, &[(None, THERE, NOBODY_SENT)])
-}
+/// Messages that nobody can have sent are malformed.
+pub const NOBODY: &[Run] = &[(1, None, THERE, NOBODY_SENT)];
+
+/// A message to its chain's origin is malformed where no chain began.
+pub const NEVER_BEGAN: &[Run] = &[(0, None, BACK, &[(Change::Nothing, Kind::Malformed)])];
 
 /// The message of a hop that ran, and other messages of that hop.
 const RAN: &[Case] = &[
@@ -165,10 +168,8 @@ const RAN: &[Case] = &[
     (Change::Results(&[&[1]]), Kind::Malformed),
 ];
 
-/// Whether a hop runs once, on one message. A round keeps its turn, so the turn forbids none of the others.
-pub fn ran_before(alloc: Global, set: &ChainSet) -> Result<bool, Memory> {
-    are_runs(alloc, set, &[(Some(ROUND), ROUND, RAN)])
-}
+/// A hop runs once, on one message. A round keeps its turn, so the turn forbids none of the others.
+pub const RAN_BEFORE: &[Run] = &[(1, Some(ROUND), ROUND, RAN)];
 
 /// The next move's message before the turn of its number.
 const EARLY: &[Case] = &[(Change::Nothing, Kind::Dropped)];
@@ -180,17 +181,13 @@ const AT_ITS_TURN: &[Case] = &[
     (Change::Numbers(&[(0, 1), (1, 2)]), Kind::Dropped),
 ];
 
-/// Before the first chain came; while it has to come once more; and after it was through.
-const TURNS: &[Run] = &[
-    (None, NEXT, EARLY),
-    (Some(ROUND), NEXT, EARLY),
-    (Some(THERE), NEXT, AT_ITS_TURN),
+/// The next move's hop waits until the chain before it is through with the server: before that chain came; while it
+/// has to come once more; and after it was through.
+pub const TURNS: &[Run] = &[
+    (1, None, NEXT, EARLY),
+    (1, Some(ROUND), NEXT, EARLY),
+    (1, Some(THERE), NEXT, AT_ITS_TURN),
 ];
-
-/// Whether the next move's hop waits until the chain before it is through with the server.
-pub fn out_of_turn(alloc: Global, set: &ChainSet) -> Result<bool, Memory> {
-    are_runs(alloc, set, TURNS)
-}
 
 /// A message of the last stamp but one: its hop has the last stamp.
 const LATE: Parts = Parts {
@@ -223,13 +220,8 @@ const AFTER_THE_LAST: &[Case] = &[
 ];
 
 /// Messages whose hop has no stamp left: above their own, or above that of the server's last entry.
-const LAST_STAMPS: &[Run] = &[
-    (None, TOO_LATE, WITHOUT_STAMP),
-    (Some(LATE), LATE, RAN_LAST),
-    (Some(LATE), NEXT, AFTER_THE_LAST),
+pub const LAST_STAMPS: &[Run] = &[
+    (1, None, TOO_LATE, WITHOUT_STAMP),
+    (1, Some(LATE), LATE, RAN_LAST),
+    (1, Some(LATE), NEXT, AFTER_THE_LAST),
 ];
-
-/// Whether the server is full where the hop would have no stamp.
-pub fn full(alloc: Global, set: &ChainSet) -> Result<bool, Memory> {
-    are_runs(alloc, set, LAST_STAMPS)
-}

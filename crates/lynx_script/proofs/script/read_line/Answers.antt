@@ -3,9 +3,10 @@ use Rattle.std.proofs.lemmas.Result.{err_from_is_err_and}
 use Rattle.lynx_words.specs.Lines.{texts, joined}
 use Rattle.lynx_script.specs.Scripts.{names_of, event_words}
 use Rattle.lynx_script.proofs.EventLemmas.{event_line, event_are_words, no_words}
-use Rattle.lynx_script.proofs.LineLemmas.{same_line, line_taken, some_is, some_none}
+use Rattle.lynx_script.proofs.LineLemmas.{same_line, line_taken}
 use Rattle.lynx_script.proofs.SpelledLemmas.{fails_so}
 use Rattle.lynx_script.proofs.script.read_line.Goals as goal
+use Rattle.lynx_words.specs.Equal.{some_is, some_none}
 
 pub returns-in_default-clause-only : goal.returns-in_default-clause-only
 returns-in_default-clause-only c = λ event more fits is. some_none (sym (event_line c.args.set.now event c.args.text.now more fits is) ∙ sym c.in_default.ensures.value)

@@ -1,5 +1,5 @@
-use Rattle.std.proofs.Common.{◌≡◌, ◌+◌, ◌-◌, List, ℕ, [], ◌∷◌, length, take, drop, Option, Some, None, refl, sym, ap, ◌∙◌, arith}
-use Rattle.std.proofs.lemmas.List.{take_all, length-drop}
+use Rattle.std.proofs.Common.{◌≡◌, ◌+◌, List, ℕ, [], ◌∷◌, take, drop, Option, Some, None, refl, sym, ap, ◌∙◌}
+use Rattle.std.proofs.lemmas.List.{take_rest}
 use Rattle.std.specs.Prelude.{position}
 use Rattle.std.specs.List.{slice_split}
 use Rattle.lynx_words.specs.WordLaws.{split_found, split_none}
@@ -8,9 +8,6 @@ use Rattle.lynx_script.proofs.script.split_chain.Goals as goal
 
 one_piece : {a b c : List ℕ} → a ∷ [] ≡ b ∷ c ∷ [] → ⊥
 one_piece e = cc
-
-rest_is : (word : List ℕ) (i : ℕ) → take (length word - i) (drop i word) ≡ drop i word
-rest_is word i = take_all (length word - i) (drop i word) (omega (arith, length-drop i word))
 
 -- a second colon makes a third piece
 third : (word : List ℕ) (i j : ℕ) (a b : List ℕ) → position is_colon word ≡ Some i → position is_colon (drop (i + 1) word) ≡ Some j → slice_split is_colon word ≡ a ∷ b ∷ [] → ⊥
@@ -39,10 +36,10 @@ returns-in_err-colon-clause-none c =
 pub returns-in-Some-clause-none : goal.returns-in-Some-clause-none
 returns-in-Some-clause-none c = λ origin index is.
     third c.args.word.now c.in_ok-colon.colon c.in-Some.field-0 origin index (sym c.in_ok-colon.ensures.place)
-    (ap (position is_colon) (sym (rest_is c.args.word.now (c.in_ok-colon.colon + 1))) ∙ sym c.in-Some.ensures.place) is
+    (ap (position is_colon) (sym (take_rest c.args.word.now (c.in_ok-colon.colon + 1))) ∙ sym c.in-Some.ensures.place) is
 
 pub returns-in-None-clause-found : goal.returns-in-None-clause-found
 returns-in-None-clause-found c =
     split_found is_colon c.args.word.now c.in_ok-colon.colon (sym c.in_ok-colon.ensures.place)
     ∙ ap (λ (ps : List (List ℕ)). take c.in_ok-colon.colon c.args.word.now ∷ ps)
-    (ap (slice_split is_colon) (sym (rest_is c.args.word.now (c.in_ok-colon.colon + 1))) ∙ split_none is_colon _ (sym c.in-None.ensures.place))
+    (ap (slice_split is_colon) (sym (take_rest c.args.word.now (c.in_ok-colon.colon + 1))) ∙ split_none is_colon _ (sym c.in-None.ensures.place))

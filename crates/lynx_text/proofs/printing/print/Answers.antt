@@ -1,5 +1,5 @@
 use Rattle.std.proofs.Common.{[], ◌++◌, ap, ◌∙◌}
-use Rattle.lynx_text.specs.Text.{head_lines, tables_lines, programs_lines, text}
+use Rattle.lynx_set.specs.Text.{head_lines, tables_lines, programs_lines, text}
 use Rattle.lynx_text.proofs.Texts.{three_written}
 use Rattle.lynx_text.proofs.printing.print.Goals as goal
 

@@ -1,5 +1,5 @@
 use Rattle.std.proofs.Common.{◌≡◌, ◌+◌, ◌≤◌, ◌++◌, drop}
-use Rattle.lynx_text.specs.Text.{text, hop_lines, action_lines, bound_in}
+use Rattle.lynx_set.specs.Text.{text, hop_lines, action_lines, bound_in}
 use Rattle.lynx_text.proofs.printing.put_hop.Given as goal
 
 abbrev pub invariant-loop-action : goal.invariant-loop-action

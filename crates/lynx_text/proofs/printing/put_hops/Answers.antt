@@ -1,6 +1,6 @@
 use Rattle.std.proofs.Common.{◌+◌, ◌++◌, ◌∷◌, drop, ap, sym, ◌∙◌, arith}
 use Rattle.std.proofs.lemmas.List.{at_drop_more}
-use Rattle.lynx_text.specs.Text.{text, hops_lines, hop_lines}
+use Rattle.lynx_set.specs.Text.{text, hops_lines, hop_lines}
 use Rattle.lynx_text.proofs.Texts.{next_written, bound_in-le}
 use Rattle.lynx_text.proofs.printing.put_hops.Goals as goal
 

@@ -1,5 +1,5 @@
 use Rattle.std.proofs.Common.{◌≡◌, ◌+◌, ◌*◌, ◌≤◌, ◌++◌, drop}
-use Rattle.lynx_text.specs.Text.{text, hops_lines}
+use Rattle.lynx_set.specs.Text.{text, hops_lines}
 use Rattle.lynx_text.proofs.printing.put_hops.Given as goal
 
 abbrev pub invariant-loop-hop : goal.invariant-loop-hop

@@ -2,7 +2,7 @@ use Rattle.std.proofs.Common.{[], ◌∷◌, ◌++◌, ap, sym, ◌∙◌}
 use Rattle.std.specs.Prelude.{codes}
 use Rattle.std.proofs.lemmas.List.{append-nil}
 use Rattle.lynx_words.specs.Lines.{line}
-use Rattle.lynx_text.specs.Text.{program_words, hops_lines}
+use Rattle.lynx_set.specs.Text.{program_words, hops_lines}
 use Rattle.lynx_text.proofs.Texts.{three_written}
 use Rattle.lynx_text.proofs.printing.put_program.Goals as goal
 

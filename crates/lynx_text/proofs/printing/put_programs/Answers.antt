@@ -1,5 +1,5 @@
 use Rattle.std.proofs.Common.{ap}
-use Rattle.lynx_text.specs.Text.{programs_lines, program_lines}
+use Rattle.lynx_set.specs.Text.{programs_lines, program_lines}
 use Rattle.lynx_text.proofs.Texts.{next_written}
 use Rattle.lynx_text.proofs.printing.put_programs.Goals as goal
 

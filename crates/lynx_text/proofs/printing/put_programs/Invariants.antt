@@ -1,5 +1,5 @@
 use Rattle.std.proofs.Common.{◌≡◌, ◌++◌}
-use Rattle.lynx_text.specs.Text.{text, programs_lines}
+use Rattle.lynx_set.specs.Text.{text, programs_lines}
 use Rattle.lynx_text.proofs.printing.put_programs.Given as goal
 
 abbrev pub invariant-loop-name : goal.invariant-loop-name

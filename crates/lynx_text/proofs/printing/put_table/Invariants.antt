@@ -1,5 +1,5 @@
 use Rattle.std.proofs.Common.{◌≡◌, ◌++◌, drop, map}
-use Rattle.lynx_text.specs.Text.{text, shard_words, table_lines}
+use Rattle.lynx_set.specs.Text.{text, shard_words, table_lines}
 use Rattle.lynx_text.proofs.printing.put_table.Given as goal
 
 abbrev pub invariant-loop-shard : goal.invariant-loop-shard

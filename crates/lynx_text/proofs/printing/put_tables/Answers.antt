@@ -1,6 +1,6 @@
 use Rattle.std.proofs.Common.{◌++◌, ◌+◌, drop, ap, sym, ◌∙◌}
 use Rattle.std.proofs.lemmas.Bool.{ltb-true}
-use Rattle.lynx_text.specs.Text.{text, table_lines, tables_lines}
+use Rattle.lynx_set.specs.Text.{text, table_lines, tables_lines}
 use Rattle.lynx_text.proofs.Texts.{next_written, tables_lines-more, tables_lines-past}
 use Rattle.lynx_text.proofs.printing.put_tables.Goals as goal
 use Rattle.lynx_text.proofs.printing.put_tables.Goals.{in-Some+in_ok-put_table, in_default}

@@ -1,5 +1,5 @@
 use Rattle.std.proofs.Common.{◌≡◌, ◌++◌, drop}
-use Rattle.lynx_text.specs.Text.{text, tables_lines}
+use Rattle.lynx_set.specs.Text.{text, tables_lines}
 use Rattle.lynx_text.proofs.printing.put_tables.Given as goal
 
 abbrev pub invariant-loop-place : goal.invariant-loop-place

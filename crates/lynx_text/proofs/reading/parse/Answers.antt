@@ -3,14 +3,14 @@ use Rattle.std.specs.Prelude.{IfOk, IfErr}
 use Rattle.lynx_words.specs.declared.fault.FaultKind.TheVariants.{Memory}
 use Rattle.lynx_words.specs.declared.fault.TextFault.{TextFault}
 use Rattle.lynx_text.specs.Parts.{read_text}
-use Rattle.lynx_text.specs.Plain.{plain_set}
-use Rattle.lynx_text.specs.Rules.{IsSet}
-use Rattle.lynx_text.specs.Set.{Set}
-use Rattle.lynx_text.specs.Text.{text_of}
+use Rattle.lynx_set.specs.Plain.{plain_set}
+use Rattle.lynx_set.specs.Rules.{IsSet}
+use Rattle.lynx_set.specs.Set.{Set}
+use Rattle.lynx_set.specs.Text.{text_of}
 use Rattle.lynx_text.proofs.Found.{found}
-use Rattle.lynx_text.proofs.Lookups.{none_some}
 use Rattle.lynx_text.proofs.SetAgain.{again}
 use Rattle.lynx_text.proofs.reading.parse.Goals as goal
+use Rattle.lynx_words.specs.Equal.{none_some}
 
 found_in : (bytes : List ℕ) (r : Result Set TextFault) → IfOk r (λ set. read_text bytes ≡ Some (plain_set set)) → IfOk r (λ set. IsSet set × (bytes ≡ text_of set))
 found_in bytes (Ok set) read = found bytes set read

@@ -1,6 +1,6 @@
 use Rattle.std.proofs.Common.{◌≡◌, sym, ◌∙◌, length, arith}
 use Rattle.std.proofs.lemmas.Result.{err_from_is_err_and}
-use Rattle.lynx_text.specs.Plain.{plain_set, plain_program}
+use Rattle.lynx_set.specs.Plain.{plain_set, plain_program}
 use Rattle.lynx_text.specs.Parts.{goes_action, action_at}
 use Rattle.lynx_text.proofs.Loops.{parts_more, parts_fail, parts_done, Fails-from}
 use Rattle.lynx_text.proofs.reading.read_actions.Goals as goal

@@ -1,7 +1,7 @@
 use Rattle.std.proofs.Common.{◌≡◌, ◌+◌, ap, sym, ◌∙◌, length, arith}
 use Rattle.std.proofs.lemmas.Result.{err_from_is_err_and}
 use Rattle.lynx_words.specs.Lines.{begins}
-use Rattle.lynx_text.specs.Plain.{plain_set, plain_program}
+use Rattle.lynx_set.specs.Plain.{plain_set, plain_program}
 use Rattle.lynx_text.specs.Parts.{goes_hop, hop_at}
 use Rattle.lynx_text.proofs.Sets.{hops_plain}
 use Rattle.lynx_text.proofs.Loops.{parts_more, parts_fail, parts_done, Fails-from}

@@ -1,7 +1,7 @@
 use Rattle.std.proofs.Common.{◌≡◌, ap, sym, ◌∙◌, length}
 use Rattle.std.proofs.lemmas.Result.{err_from_is_err_and}
 use Rattle.lynx_words.specs.Lines.{begins}
-use Rattle.lynx_text.specs.Plain.{plain_set}
+use Rattle.lynx_set.specs.Plain.{plain_set}
 use Rattle.lynx_text.specs.Parts.{goes_program, program_at}
 use Rattle.lynx_text.proofs.Loops.{parts_more, parts_fail, parts_done, Fails-from}
 use Rattle.lynx_text.proofs.reading.read_programs.Goals as goal

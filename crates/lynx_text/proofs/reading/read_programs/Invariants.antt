@@ -1,5 +1,5 @@
 use Rattle.std.proofs.Common.{◌≡◌, ◌-◌, ◌≤◌, length}
-use Rattle.lynx_text.specs.Plain.{plain_set}
+use Rattle.lynx_set.specs.Plain.{plain_set}
 use Rattle.lynx_text.specs.Parts.{parts, goes_program, program_at}
 use Rattle.lynx_text.proofs.reading.read_programs.Given as goal
 

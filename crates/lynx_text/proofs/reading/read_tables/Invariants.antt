@@ -1,5 +1,5 @@
 use Rattle.std.proofs.Common.{◌≡◌, ◌-◌, ◌≤◌, length}
-use Rattle.lynx_text.specs.Plain.{plain_set}
+use Rattle.lynx_set.specs.Plain.{plain_set}
 use Rattle.lynx_text.specs.Parts.{parts, goes_table, table_at}
 use Rattle.lynx_text.proofs.reading.read_tables.Given as goal
 

@@ -1,0 +1,49 @@
+//! Why the program stops short: the one line on standard error, and the status.
+ghost use Rattle.std.specs.Prelude.{◌≡◌};
+ghost use Rattle.lynx_jobs.specs.Statuses.{status_of};
+
+use crate::job::WordsFault;
+use lynx_run::RunFault;
+use lynx_script::InputFault;
+use thiserror::Error;
+
+/// Why the program did not end with status 0 or 1.
+#[derive(Clone, Copy, Debug, PartialEq, Eq, Error)]
+pub enum Fault<'a> {
+    /// The words ask for nothing that there is.
+    #[error("{0}")]
+    Words(WordsFault),
+    /// No line of the input is `--`.
+    #[error("no line -- found")]
+    NoSeparator,
+    /// A file that can't be read, or `-` for standard input.
+    #[error("cannot read {0}")]
+    Unread(&'a str),
+    #[error("{0}")]
+    Run(RunFault),
+}
+
+impl<'a> Fault<'a> {
+    /// The fault of reading this file.
+    pub fn of_reading(name: &'a str, fault: InputFault) -> Fault<'a>
+        ensures read { fault ≡ InputFault.Read → result ≡ Fault.Unread name.entry }
+        ensures memory { fault ≡ InputFault.Memory → result ≡ Fault.Run RunFault.Memory }
+    {
+        match fault {
+            InputFault::Read => Fault::Unread(name),
+            InputFault::Memory => Fault::Run(RunFault::Memory),
+        }
+    }
+
+    /// The exit status: 2 for faulty words or texts, 3 for want of memory, 4 for what can't be read or written.
+    pub fn status(&self) -> u8
+        ensures { result ≡ status_of self.now }
+    {
+        match self {
+            Fault::Words(_) | Fault::NoSeparator => 2,
+            Fault::Run(RunFault::Set(_) | RunFault::Script(_)) => 2,
+            Fault::Run(RunFault::Memory) => 3,
+            Fault::Unread(_) | Fault::Run(RunFault::Write) => 4,
+        }
+    }
+}

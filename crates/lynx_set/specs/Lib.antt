@@ -1,0 +1,6 @@
+pub mod Names
+pub mod Plain
+pub mod Rules
+pub mod Set
+pub mod Standing
+pub mod Text

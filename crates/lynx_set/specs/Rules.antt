@@ -1,0 +1,139 @@
+-- Which sets have a text: within the limits, and with names, keys and shards as they are to be.
+use Rattle.std.specs.Prelude.{◌≡◌, ℕ, ◌+◌, ◌^◌, ◌<◌, ◌≤◌, true, List, [], ◌∷◌, ◌++◌, Option, Some, None, length, map}
+use Rattle.lynx_shards.specs.declared.shard.Shard.{Shard}
+use Rattle.lynx_shards.specs.Ranges.{last_key, next_key}
+use Rattle.lynx_set.specs.declared.action.Action.{Action}
+use Rattle.lynx_set.specs.declared.action.Action.TheVariants.{Get, Set, Add, Sub, Let, Need}
+use Rattle.lynx_set.specs.declared.action.Key.{Key}
+use Rattle.lynx_set.specs.declared.action.Key.TheVariants.{Literal, Param}
+use Rattle.lynx_set.specs.declared.action.Operand.{Operand}
+use Rattle.lynx_set.specs.declared.action.Operand.TheVariants.{Number, Name}
+use Rattle.lynx_set.specs.Standing.{place_in}
+use Rattle.lynx_set.specs.Plain.{PlainHop, PlainProgram, PlainSet, plain_set}
+use Rattle.lynx_set.specs.Names.{place_of}
+use Rattle.lynx_set.specs.Standing.{Place, is_home}
+use Rattle.lynx_set.specs.Set.{Set as ChainSet}
+use Rattle.lynx_set.specs.Text.{text_of}
+use Rattle.lynx_words.specs.Word.{is_name}
+
+-- a new name, where these are known
+pub record IsNew (known : List (List ℕ)) (name : List ℕ) : Type 0 where
+  pub named : is_name name ≡ true
+  pub new : place_of known name ≡ None
+
+-- names each of which is new after those before it
+abbrev pub AreNew : List (List ℕ) → List (List ℕ) → Type 0
+AreNew known [] = Unit {0}
+AreNew known (name ∷ names) = IsNew known name × AreNew (known ++ name ∷ []) names
+
+-- a key is a number below 2^64 or one of the parameters, by a place that a byte holds
+abbrev pub FitsKey : ℕ → Key → Type 0
+FitsKey parameters (Literal key) = key < 2 ^ 64
+FitsKey parameters (Param place) = (place < parameters) × (place < 256)
+
+-- a value is a number below 2^64 or one of the names known so far, by a place that a byte holds
+abbrev pub FitsOperand : ℕ → Operand → Type 0
+FitsOperand names (Number number) = number < 2 ^ 64
+FitsOperand names (Name place) = (place < names) × (place < 256)
+
+-- the cell of an action is one of the tables', and at the hop's server where its key is a number
+pub record FitsCell (place : Place) (table : ℕ) (key : Key) : Type 0 where
+  pub table_is : table < length place.tables
+  pub numbered : table < 64
+  pub key_is : FitsKey place.parameters key
+  pub at_home : is_home place.shards place.server table key ≡ true
+
+-- what an action may say where it stands
+abbrev pub FitsAction : Place → Action → Type 0
+FitsAction place (Get table key) = FitsCell place table key
+FitsAction place (Set table key value) = FitsCell place table key × FitsOperand (length place.names) value
+FitsAction place (Add table key value) = FitsCell place table key × FitsOperand (length place.names) value
+FitsAction place (Sub table key value) = FitsCell place table key × FitsOperand (length place.names) value
+FitsAction place (Let left operator right) = FitsOperand (length place.names) left × FitsOperand (length place.names) right
+FitsAction place (Need left relation right) = (place.is_first ≡ true) × FitsOperand (length place.names) left × FitsOperand (length place.names) right
+
+-- an action binds a new name, or none
+abbrev pub BindsNew : Place → Action → Option (List ℕ) → Type 0
+BindsNew place (Get table key) (Some name) = IsNew place.names name
+BindsNew place (Let left operator right) (Some name) = IsNew place.names name
+BindsNew place (Set table key value) None = Unit {0}
+BindsNew place (Add table key value) None = Unit {0}
+BindsNew place (Sub table key value) None = Unit {0}
+BindsNew place (Need left relation right) None = Unit {0}
+BindsNew place action binds = ⊥
+
+-- the names that are bound
+abbrev pub bound : Option (List ℕ) → List (List ℕ)
+bound None = []
+bound (Some name) = name ∷ []
+
+-- where the action after one stands that binds this
+abbrev pub next_place : Place → Option (List ℕ) → Place
+next_place place binds = record place { names = place.names ++ bound binds; actions = place.actions + 1 }
+
+-- actions that can follow one another, after which these names are known
+abbrev pub FitActions : Place → List Action → List (List ℕ) → Type 0
+FitActions place [] after = place.names ≡ after
+FitActions place (action ∷ actions) after =
+    (place.actions < 16) × FitsAction place action × (binds : Option (List ℕ)) × BindsNew place action binds × FitActions (next_place place binds) actions after
+
+-- a program with one more hop, after which these names are known
+abbrev pub with_hop : PlainProgram → PlainHop → List (List ℕ) → PlainProgram
+with_hop program hop names = record program { names = names; hops = program.hops ++ hop ∷ [] }
+
+-- hops that can follow one another, after which these names are known
+abbrev pub FitHops : PlainSet → PlainProgram → List PlainHop → List (List ℕ) → Type 0
+FitHops set program [] after = program.names ≡ after
+FitHops set program (hop ∷ hops) after =
+    (length program.hops < 8) × (hop.server < set.servers) × (0 < length hop.actions)
+    × (names : List (List ℕ)) × FitActions (place_in set hop.server program []) hop.actions names × FitHops set (with_hop program hop names) hops after
+
+-- a program of the set: at most 8 parameters, a hop at least, and no name but those that it binds
+pub record FitsProgram (set : PlainSet) (program : PlainProgram) : Type 0 where
+  pub parameters : List (List ℕ)
+  pub few : length parameters ≤ 8
+  pub names : AreNew [] parameters
+  pub count : program.parameters ≡ length parameters
+  pub some : 0 < length program.hops
+  pub hops : FitHops set (record { parameters = length parameters; names = parameters; hops = [] }) program.hops program.names
+
+abbrev pub with_program : PlainSet → List ℕ × PlainProgram → PlainSet
+with_program set program = record set { programs = set.programs ++ program ∷ [] }
+
+-- programs that can follow one another
+abbrev pub FitPrograms : PlainSet → List (List ℕ × PlainProgram) → Type 0
+FitPrograms set [] = Unit {0}
+FitPrograms set (program ∷ programs) =
+    (length set.programs < 64) × IsNew (map (λ named. named.0) set.programs) program.0 × FitsProgram set program.1 × FitPrograms (with_program set program) programs
+
+-- shards that can follow one another, to the greatest key
+abbrev pub FitShards : ℕ → List Shard → List Shard → Type 0
+FitShards servers before [] = next_key (last_key None before) ≡ 2 ^ 64
+FitShards servers before (shard ∷ shards) =
+    (length before < 64) × (shard.low ≡ next_key (last_key None before)) × (shard.low ≤ shard.high) × (shard.high < 2 ^ 64) × (shard.server < servers)
+    × FitShards servers (before ++ shard ∷ []) shards
+
+abbrev pub with_table : PlainSet → List ℕ → List Shard → PlainSet
+with_table set name shards = record set { tables = set.tables ++ name ∷ []; shards = set.shards ++ shards ∷ [] }
+
+-- tables that can follow one another, each with its shards
+abbrev pub FitTables : PlainSet → List (List ℕ) → List (List Shard) → Type 0
+FitTables set [] [] = Unit {0}
+FitTables set (name ∷ names) (shards ∷ tables) =
+    (length set.tables < 64) × IsNew set.tables name × FitShards set.servers [] shards × FitTables (with_table set name shards) names tables
+FitTables set names tables = ⊥
+
+abbrev pub no_tables : ℕ → PlainSet
+no_tables servers = record { servers = servers; tables = []; shards = []; programs = [] }
+
+abbrev pub no_programs : PlainSet → PlainSet
+no_programs set = record set { programs = [] }
+
+-- a set that has a text, if this isn't too long: 1 to 16 servers, tables and programs
+abbrev pub IsPlainSet : PlainSet → Type 0
+IsPlainSet set =
+    (1 ≤ set.servers) × (set.servers ≤ 16) × FitTables (no_tables set.servers) set.tables set.shards × FitPrograms (no_programs set) set.programs
+
+-- a set within all limits
+abbrev pub IsSet : ChainSet → Type 0
+IsSet set = IsPlainSet (plain_set set) × (length (text_of set) ≤ 65536)

@@ -2,3 +2,5 @@ pub mod Maps
 pub mod Places
 pub mod Slots
 pub mod Staging
+pub mod CellOrder
+pub mod Writes

@@ -5,7 +5,7 @@ use Rattle.std.specs.Ordering.{eq_by_cmp}
 use Rattle.std.specs.FinMap as map
 use Rattle.std.specs.FinMap.Entries.{find-put}
 use Rattle.lynx_cells.specs.Database.{cell_cmp, ChangeSet}
-use Rattle.lynx_cells.specs.CellOrder.{cell_cmp_total, cell_cmp_exact}
+use Rattle.lynx_cells.proofs.CellOrder.{cell_cmp_total, cell_cmp_exact}
 use Rattle.lynx_cells.specs.Triples.{entries_of, triples_of}
 
 -- maps with the same look-ups are equal

@@ -13,8 +13,8 @@ use Rattle.std.specs.FinMap as map
 use Rattle.std.specs.FinSet as set
 use Rattle.std.specs.FinMap.Entries.{below_all, is_some-find}
 use Rattle.lynx_cells.specs.Database.{cell_cmp, IsZeroFree, empty_database, value_at, with_value}
-use Rattle.lynx_cells.specs.CellOrder.{same_cell, cell_cmp_total, cell_cmp_exact, first_part, second_part, both_parts}
-use Rattle.lynx_cells.specs.Writes.{kept, updated, get-with_value, get-applied, value_updated, same_database, IsZeroFree-empty, IsZeroFree-applied}
+use Rattle.lynx_cells.proofs.CellOrder.{same_cell, cell_cmp_total, cell_cmp_exact, first_part, second_part, both_parts}
+use Rattle.lynx_cells.proofs.Writes.{kept, updated, get-with_value, get-applied, value_updated, same_database, IsZeroFree-empty, IsZeroFree-applied}
 use Rattle.lynx_cells.specs.Contents.{contents_of}
 
 -- the two ways to look a cell up agree

@@ -8,7 +8,7 @@ use Rattle.std.proofs.lemmas.List.Elements.{All-nil, All-cons, All-head, All-tai
 use Rattle.std.specs.FinMap as map
 use Rattle.std.specs.FinSet as set
 use Rattle.lynx_cells.specs.Database.{cell_cmp, ChangeSet}
-use Rattle.lynx_cells.specs.CellOrder.{cell_cmp_total, cell_cmp_exact}
+use Rattle.lynx_cells.proofs.CellOrder.{cell_cmp_total, cell_cmp_exact}
 use Rattle.lynx_cells.specs.Contents.{Contents, IsStaged, changed}
 use Rattle.lynx_cells.specs.Triples.{triples_of}
 

@@ -4,7 +4,6 @@ use Rattle.std.specs.Coded.{Coded, code_by, coded×, coded_ℕ}
 use Rattle.std.specs.FinMap as map
 use Rattle.std.specs.FinSet as set
 use Rattle.std.specs.Map.{keys_of}
-use Rattle.std.proofs.lemmas.List.Elements.{All-weaker}
 use Rattle.lynx_cells.specs.Database.{cell_cmp, Database, ChangeSet, applied, empty_database}
 
 -- the database, and the cells that have a slot
@@ -33,8 +32,3 @@ IsStaged contents changes = All (λ cell. IsTrue (set.contains contents.staged c
 -- each cell that had a slot has one
 abbrev pub KeepsStaged : Contents → Contents → Type 0
 KeepsStaged old new = (cell : ℕ × ℕ) → IsTrue (set.contains old.staged cell) → IsTrue (set.contains new.staged cell)
-
--- a set of changes stays staged where no slot goes
-pub IsStaged-kept : (old new : Contents) (changes : ChangeSet) → KeepsStaged old new → IsStaged old changes → IsStaged new changes
-IsStaged-kept old new changes keeps staged =
-    All-weaker (λ cell. IsTrue (set.contains old.staged cell)) (λ cell. IsTrue (set.contains new.staged cell)) keeps (map.keys changes) staged

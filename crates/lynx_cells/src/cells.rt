@@ -66,7 +66,8 @@ impl Cells {
     /// some of the room may have been made, and the call may be made again.
     pub fn stage(&mut self, changes: &Changes) -> Result<(), Memory>
         ensures staged { OnOk result (IsStaged self.new changes.now) }
-        ensures room { OnOk result (self.new.staged ≡ set.union self.old.staged (changed changes.now)) }
+        ensures room { OnOk result (self.new.staged ≡ set.union self.old.staged
+            (changed changes.now)) }
         ensures staged_already { IsStaged self.old changes.now → IsOk result }
 
         // Also after an error.
@@ -104,7 +105,8 @@ impl Cells {
 
     /// The cells that are not 0, by table, then key: each a table, a key and the value.
     pub fn list(&self, alloc: Global) -> Result<Vec<(TableId, u64, u64)>, Memory>
-        ensures entries { IfOk result (λ list. list.items ≡ triples_of (map.entries self.now.database)) }
+        ensures entries { IfOk result (λ list. list.items ≡ triples_of
+            (map.entries self.now.database)) }
         ensures zero_free { IsZeroFree self.now.database }
     {
         let mut list = Vec::new(alloc);

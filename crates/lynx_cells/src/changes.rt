@@ -47,7 +47,8 @@ impl Changes {
         ensures changed_already { IsSome (map.get self.old (table, key)) → IsOk result }
 
         // One more change is one more write.
-        ensures writes { OnOk result ((db : Database) → applied self.new db ≡ with_value (applied self.old db) table key value) }
+        ensures writes { OnOk result ((db : Database) → applied self.new db
+            ≡ with_value (applied self.old db) table key value) }
     {
         put_change(&mut self.items, table, key, value)
     }
@@ -87,9 +88,11 @@ fn put_change(
     value: u64,
 ) -> Result<(), Memory>
     requires { RisesByCell changes.old.items }
-    ensures ok { OnOk result (entries_of changes.new.items ≡ map.put cell_cmp (table, key) value (entries_of changes.old.items)) }
+    ensures ok { OnOk result (entries_of changes.new.items ≡ map.put cell_cmp (table, key) value
+        (entries_of changes.old.items)) }
     ensures err { OnErr result (changes.new.items ≡ changes.old.items) }
-    ensures changed_already { IsSome (map.find cell_cmp (table, key) (entries_of changes.old.items)) → IsOk result }
+    ensures changed_already { IsSome (map.find cell_cmp (table, key)
+        (entries_of changes.old.items)) → IsOk result }
 {
     match place_of(changes, table, key) {
         Ok(place) => changes[place].2 = value,

@@ -1,11 +1,12 @@
 //! The laws of writing a cell, each the contract of a function that does nothing. A cell is a pair of a
-//! table and a key. `specs/Writes.antt` has the lemmas.
+//! table and a key. `proofs/Writes.antt` has the lemmas.
 ghost use Rattle.std.specs.Prelude.{◌≡◌, ◌≢◌, ℕ};
 ghost use Rattle.lynx_cells.specs.Database.{Database, IsZeroFree, value_at, with_value};
 
 /// A cell that was written holds what was written.
 pub fn read_back()
-    ensures { (db : Database) (table key value : ℕ) → value_at (with_value db table key value) table key ≡ value }
+    ensures { (db : Database) (table key value : ℕ) → value_at
+        (with_value db table key value) table key ≡ value }
 {}
 
 /// A write leaves each other cell as it was.
@@ -22,10 +23,12 @@ pub fn writes_change_places()
 
 /// A later write of the same cell wins.
 pub fn later_write_wins()
-    ensures { (db : Database) (table key first second : ℕ) → with_value (with_value db table key first) table key second ≡ with_value db table key second }
+    ensures { (db : Database) (table key first second : ℕ) → with_value
+        (with_value db table key first) table key second ≡ with_value db table key second }
 {}
 
 /// A write leaves no cell kept at 0.
 pub fn write_keeps_zero_free()
-    ensures { (db : Database) (table key value : ℕ) → IsZeroFree db → IsZeroFree (with_value db table key value) }
+    ensures { (db : Database) (table key value : ℕ) → IsZeroFree db
+        → IsZeroFree (with_value db table key value) }
 {}

@@ -2,7 +2,7 @@
 use Rattle.std.specs.Prelude.{◌≡◌, ◌≢◌, ℕ, List, Result, Ok, Err, All}
 use Rattle.lynx_cells.specs.Database.{Database, value_at}
 use Rattle.lynx_set.specs.Set.{Set}
-use Rattle.lynx_hops.specs.Meaning.{Outcome, meaning}
+use Rattle.lynx_hops.specs.Meaning.{HopOutcome, meaning}
 use Rattle.lynx_foot.specs.declared.touch.Touch.{Touch}
 use Rattle.lynx_foot.specs.Feet.{touches_of}
 
@@ -14,7 +14,7 @@ pub record Act : Type 0 where
   pub earlier : List (List ℕ)
 
 -- what the act comes to
-abbrev pub outcome : Set → Act → Database → Outcome
+abbrev pub outcome : Set → Act → Database → HopOutcome
 outcome set act db = meaning set act.program act.hop act.args act.earlier db
 
 -- the cells that the act touches, and how
@@ -22,12 +22,12 @@ abbrev pub touched : Set → Act → List Touch
 touched set act = touches_of set act.program act.hop act.args
 
 -- the results of an outcome, or the need that refused
-abbrev pub answer_in : Outcome → Result (List ℕ) ℕ
+abbrev pub answer_in : HopOutcome → Result (List ℕ) ℕ
 answer_in (Ok ran) = Ok ran.0
 answer_in (Err need) = Err need
 
 -- the database of an outcome: a refusal leaves it as it was
-abbrev pub database_in : Database → Outcome → Database
+abbrev pub database_in : Database → HopOutcome → Database
 database_in db (Ok ran) = ran.1
 database_in db (Err need) = db
 

@@ -1,5 +1,1 @@
 pub mod Acts
-pub mod Changes
-pub mod Writes
-pub mod Commuting
-pub mod Framing

@@ -11,8 +11,9 @@ use Rattle.lynx_foot.specs.declared.touch.Touch.{Touch}
 use Rattle.lynx_set.specs.Set.{Set}
 use Rattle.lynx_foot.specs.Kinds.{commute}
 use Rattle.lynx_foot.specs.Feet.{footprint_of}
-use Rattle.lynx_foot.specs.Conflicts.{Clash, Conflicts, MayClash, MayMeet, MayConflict, server_at}
-use Rattle.lynx_foot.specs.Tests.{clash, some_clash, may_clash, may_meet, some_may_clash}
+use Rattle.lynx_foot.specs.Conflicts.{Collides, Conflicts, MayCollide, MayMeet, MayConflict}
+use Rattle.lynx_foot.specs.Tests.{collide, some_collide, may_collide, may_meet, some_may_collide}
+use Rattle.lynx_set.specs.Lookups.{server_at}
 
 -- a test of the elements decides a fact of some element
 Decides-list_any : {X : Type 0} (p : X → Bool) (P : X → Type 0) → ((x : X) → Decides (p x) (P x)) → (xs : List X) → Decides (list_any p xs) (Any P xs)
@@ -25,37 +26,37 @@ Decides-list_any p P each xs = (
 Decides-itself : (b : Bool) → Decides b (b ≡ true)
 Decides-itself b = (λ holds. holds, λ holds. holds)
 
-Decides-clash : (left right : Touch) → Decides (clash left right) (Clash left right)
-Decides-clash left right = Decides-like
+Decides-collide : (left right : Touch) → Decides (collide left right) (Collides left right)
+Decides-collide left right = Decides-like
     {P = ((left.table ≡ right.table) × (left.key ≡ right.key)) × IsTrue (not (commute left.kind right.kind))}
-    (clash left right)
-    (λ parts. record { same_table = parts.0.0; same_key = parts.0.1; kinds_clash = parts.1 })
-    (λ whole. ((whole.same_table, whole.same_key), whole.kinds_clash))
+    (collide left right)
+    (λ parts. record { same_table = parts.0.0; same_key = parts.0.1; kinds_collide = parts.1 })
+    (λ whole. ((whole.same_table, whole.same_key), whole.kinds_collide))
     (Decides-and _ _ (Decides-and _ _ (Decides-eqb left.table right.table) (Decides-eqb left.key right.key)) (Decides-itself (not (commute left.kind right.kind))))
 
-pub Decides-some_clash : (lefts rights : List Touch) → Decides (some_clash lefts rights) (Conflicts lefts rights)
-Decides-some_clash lefts rights = Decides-list_any _ _ (λ left. Decides-list_any _ _ (Decides-clash left) rights) lefts
+pub Decides-some_collide : (lefts rights : List Touch) → Decides (some_collide lefts rights) (Conflicts lefts rights)
+Decides-some_collide lefts rights = Decides-list_any _ _ (λ left. Decides-list_any _ _ (Decides-collide left) rights) lefts
 
 Decides-may_meet : (left right : Key) → Decides (may_meet left right) (MayMeet left right)
 Decides-may_meet (Literal left) (Literal right) = Decides-eqb left right
 Decides-may_meet (Literal left) (Param right) = (λ _. tt, λ _. refl)
 Decides-may_meet (Param left) right = (λ _. tt, λ _. refl)
 
-Decides-may_clash : (left right : Foot) → Decides (may_clash left right) (MayClash left right)
-Decides-may_clash left right = Decides-like
+Decides-may_collide : (left right : Foot) → Decides (may_collide left right) (MayCollide left right)
+Decides-may_collide left right = Decides-like
     {P = ((left.table ≡ right.table) × MayMeet left.key right.key) × IsTrue (not (commute left.kind right.kind))}
-    (may_clash left right)
-    (λ parts. record { same_table = parts.0.0; keys_may_meet = parts.0.1; kinds_clash = parts.1 })
-    (λ whole. ((whole.same_table, whole.keys_may_meet), whole.kinds_clash))
+    (may_collide left right)
+    (λ parts. record { same_table = parts.0.0; keys_may_meet = parts.0.1; kinds_collide = parts.1 })
+    (λ whole. ((whole.same_table, whole.keys_may_meet), whole.kinds_collide))
     (Decides-and _ _ (Decides-and _ _ (Decides-eqb left.table right.table) (Decides-may_meet left.key right.key)) (Decides-itself (not (commute left.kind right.kind))))
 
-pub Decides-some_may_clash : (lefts rights : List Foot) → Decides (some_may_clash lefts rights) (Any (λ left. Any (λ right. MayClash left right) rights) lefts)
-Decides-some_may_clash lefts rights = Decides-list_any _ _ (λ left. Decides-list_any _ _ (Decides-may_clash left) rights) lefts
+pub Decides-some_may_collide : (lefts rights : List Foot) → Decides (some_may_collide lefts rights) (Any (λ left. Any (λ right. MayCollide left right) rights) lefts)
+Decides-some_may_collide lefts rights = Decides-list_any _ _ (λ left. Decides-list_any _ _ (Decides-may_collide left) rights) lefts
 
 -- between hops of one server, the feet alone decide
 pub Decides-MayConflict : (set : Set) (left_program left_hop right_program right_hop : ℕ) →
     server_at set left_program left_hop ≡ server_at set right_program right_hop →
-    Decides (some_may_clash (footprint_of set left_program left_hop) (footprint_of set right_program right_hop)) (MayConflict set left_program left_hop right_program right_hop)
+    Decides (some_may_collide (footprint_of set left_program left_hop) (footprint_of set right_program right_hop)) (MayConflict set left_program left_hop right_program right_hop)
 Decides-MayConflict set left_program left_hop right_program right_hop same =
-    let feet = Decides-some_may_clash (footprint_of set left_program left_hop) (footprint_of set right_program right_hop) in
-    (λ passes. record { same_server = same; feet_may_clash = feet.0 passes }, λ may. feet.1 may.feet_may_clash)
+    let feet = Decides-some_may_collide (footprint_of set left_program left_hop) (footprint_of set right_program right_hop) in
+    (λ passes. record { same_server = same; feet_may_collide = feet.0 passes }, λ may. feet.1 may.feet_may_collide)

@@ -4,10 +4,11 @@ use Rattle.std.specs.List.{filter_map}
 use Rattle.lynx_set.specs.declared.action.Action.{Action}
 use Rattle.lynx_set.specs.declared.action.Action.TheVariants.{Get, Set as SetCell, Add, Sub, Let, Need}
 use Rattle.lynx_set.specs.Set.{Set}
-use Rattle.lynx_hops.specs.Meaning.{actions_at, key_of}
+use Rattle.lynx_hops.specs.Meaning.{key_of}
 use Rattle.lynx_foot.specs.declared.kind.Kind.TheVariants.{Getting, Setting, Adding}
 use Rattle.lynx_foot.specs.declared.foot.Foot.{Foot}
 use Rattle.lynx_foot.specs.declared.touch.Touch.{Touch}
+use Rattle.lynx_set.specs.Lookups.{actions_at}
 
 -- the foot of an action: `let` and `need` have none
 abbrev pub foot_of : Action → Option Foot

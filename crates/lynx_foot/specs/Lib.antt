@@ -2,4 +2,3 @@ pub mod Kinds
 pub mod Feet
 pub mod Conflicts
 pub mod Tests
-pub mod ConflictLaws

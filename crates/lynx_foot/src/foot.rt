@@ -1,5 +1,5 @@
 ghost use Rattle.std.specs.Prelude.{◌≡◌, IfOk, option_copied};
-ghost use Rattle.lynx_hops.specs.Meaning.{actions_at, hop_at};
+ghost use Rattle.lynx_set.specs.Lookups.{actions_at, hop_at};
 
 use crate::kind::Kind;
 use lynx_names::{Memory, ProgramId, TableId};
@@ -31,18 +31,11 @@ pub(crate) fn foot_of(action: Action) -> Option<Foot>
     Some(Foot { table, key, kind })
 }
 
-/// The hop of that number, None where the set has none.
-pub(crate) fn hop_of(set: &ChainSet, program: ProgramId, hop: usize) -> Option<&Hop>
-    ensures { option_copied result ≡ hop_at set.now program hop }
-{
-    set.program(program)?.hops.as_slice().get(hop)
-}
-
 /// The actions of a hop, none where the set hasn't it.
 pub(crate) fn actions_of(set: &ChainSet, program: ProgramId, hop: usize) -> &[Action]
     ensures { result.now ≡ actions_at set.now program hop }
 {
-    match hop_of(set, program, hop) {
+    match set.hop(program, hop) {
         Some(hop) => hop.actions.as_slice(),
         None => &[],
     }

@@ -1,4 +1,4 @@
-//! The laws of conflict, each the contract of a function that does nothing. `specs/ConflictLaws.antt` has the
+//! The laws of conflict, each the contract of a function that does nothing. `proofs/ConflictLaws.antt` has the
 //! lemmas.
 ghost use Rattle.std.specs.Prelude.{ℕ, List};
 ghost use Rattle.lynx_set.specs.Set.{Set};
@@ -20,7 +20,8 @@ pub fn may_conflict_needs_no_order()
 
 /// Where the keys of two hops lie at the hops' servers, hops that conflict may conflict.
 pub fn hops_that_conflict_may_conflict()
-    ensures { (set : Set) (left_program left_hop right_program right_hop : ℕ) (left_args right_args : List ℕ)
+    ensures { (set : Set) (left_program left_hop right_program right_hop : ℕ)
+        (left_args right_args : List ℕ)
         → KeysLieAtServer set left_program left_hop left_args
         → KeysLieAtServer set right_program right_hop right_args
         → Conflicts (touches_of set left_program left_hop left_args) (touches_of set right_program right_hop right_args)

@@ -1,15 +1,16 @@
 //! Which cells the hops of chain programs touch and how, and which two hops conflict or may conflict.
 #![tactic(auto)]
 
-pub use clash::conflict;
+pub use collision::conflict;
 pub use foot::{Foot, footprint};
 pub use kind::Kind;
-pub use may_clash::may_conflict;
+pub use lynx_set::Key;
+pub use may_collide::may_conflict;
 pub use touch::{Touch, touches};
 
-pub mod clash;
+pub mod collision;
 pub mod foot;
 pub mod kind;
 pub mod laws;
-pub mod may_clash;
+pub mod may_collide;
 pub mod touch;

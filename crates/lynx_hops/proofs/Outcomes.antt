@@ -5,10 +5,10 @@ use Rattle.std.specs.FinMap as map
 use Rattle.lynx_cells.specs.Database.{Database, cell_cmp, applied, written}
 use Rattle.lynx_set.specs.declared.action.Action.{Action}
 use Rattle.lynx_hops.specs.declared.run.Running.{Running}
-use Rattle.lynx_hops.specs.Meaning.{Outcome, after_results}
+use Rattle.lynx_hops.specs.Meaning.{HopOutcome, after_results}
 use Rattle.lynx_hops.specs.Runs.{here, outcome_of}
 
-pub after_no_results : (outcome : Outcome) → after_results [] outcome ≡ outcome
+pub after_no_results : (outcome : HopOutcome) → after_results [] outcome ≡ outcome
 after_no_results (Ok (results, db)) = refl
 after_no_results (Err need) = refl
 

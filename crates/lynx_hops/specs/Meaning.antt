@@ -15,6 +15,7 @@ use Rattle.lynx_set.specs.declared.action.Relation.TheVariants.{Below, AtMost, S
 use Rattle.lynx_set.specs.declared.program.Hop.{Hop}
 use Rattle.lynx_set.specs.declared.program.Program.{Program}
 use Rattle.lynx_set.specs.Set.{Set}
+use Rattle.lynx_set.specs.Lookups.{actions_at}
 
 -- the key that is meant, where the parameters have these arguments
 abbrev pub key_of : List ℕ → Key → ℕ
@@ -47,16 +48,16 @@ is_met AtLeast left right = nat_le right left
 is_met Above left right = nat_lt right left
 
 -- What came of a hop: the results and the database after it, or the number of the first need that isn't met.
-abbrev pub Outcome : Type 0
-Outcome = Result (List ℕ × Database) ℕ
+abbrev pub HopOutcome : Type 0
+HopOutcome = Result (List ℕ × Database) ℕ
 
 -- the outcome with these results before its own
-abbrev pub after_results : List ℕ → Outcome → Outcome
+abbrev pub after_results : List ℕ → HopOutcome → HopOutcome
 after_results results (Ok outcome) = Ok (results ++ outcome.0, outcome.1)
 after_results results (Err need) = Err need
 
 -- The actions in order. A bound value is the next name and the next result. Needs are counted.
-abbrev pub run : List ℕ → ℕ → List Action → List ℕ → Database → Outcome
+abbrev pub run : List ℕ → ℕ → List Action → List ℕ → Database → HopOutcome
 run args needs [] names db = Ok ([], db)
 run args needs (Get table key ∷ actions) names db =
     let value = value_at db table (key_of args key) in
@@ -75,18 +76,7 @@ run args needs (Need left relation right ∷ actions) names db =
     then run args (needs + 1) actions names db
     else Err needs
 
--- the program of that number
-abbrev pub program_at : Set → ℕ → Option Program
-program_at set program = option_map (λ named. named.1) (slice_get set.programs program)
-
--- the hop of that number, counted from 0
-abbrev pub hop_at : Set → ℕ → ℕ → Option Hop
-hop_at set program hop = option_and_then (λ found. slice_get found.hops hop) (program_at set program)
-
-abbrev pub actions_at : Set → ℕ → ℕ → List Action
-actions_at set program hop = unwrap_or (option_map (λ found. found.actions) (hop_at set program hop)) []
-
 -- The meaning of a hop of a program, with the arguments of its chain and the results of the hops before it.
-abbrev pub meaning : Set → ℕ → ℕ → List ℕ → List (List ℕ) → Database → Outcome
+abbrev pub meaning : Set → ℕ → ℕ → List ℕ → List (List ℕ) → Database → HopOutcome
 meaning set program hop args earlier db =
     run args 0 (actions_at set program hop) (args ++ flat_map (λ results. results) earlier) db

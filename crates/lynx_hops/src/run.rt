@@ -1,7 +1,7 @@
 ghost use Rattle.std.specs.Prelude.{◌≡◌, ◌+◌, ◌<◌, ◌≤◌, ◌++◌, ◌∷◌, [], List, length, OnOk, IfOk, ℕ, Err, Ok, slice_get, option_map, unwrap_or, None, option_copied};
 ghost use Rattle.std.specs.List.{flat_map};
 ghost use Rattle.lynx_cells.specs.Database.{applied, value_at, with_value};
-ghost use Rattle.lynx_hops.specs.Meaning.{actions_at, hop_at, key_of, meaning, run};
+ghost use Rattle.lynx_hops.specs.Meaning.{key_of, meaning, run};
 ghost use Rattle.lynx_set.specs.declared.action.Action.{Action};
 
 use crate::ran::Ran;
@@ -57,7 +57,8 @@ impl Running<'_> {
 
     /// The cell holds the value from now on.
     fn write(&mut self, table: TableId, key: Key, value: u64) -> Result<(), Memory>
-        ensures written { OnOk result (here self.new ≡ with_value (here self.old) table (key_of self.old.args.now key) value) }
+        ensures written { OnOk result (here self.new ≡ with_value (here self.old) table
+            (key_of self.old.args.now key) value) }
         ensures others { self.new ≡ record self.old { changes = self.new.changes } }
     {
         self.changes.put(table, key_of(self.args, key), value)
@@ -65,7 +66,11 @@ impl Running<'_> {
 
     /// The value is the next name, and the next result.
     fn bind(&mut self, value: u64) -> Result<(), Memory>
-        ensures { OnOk result (self.new ≡ record self.old { names = self.old.names ++ value ∷ []; results = self.old.results ++ value ∷ [] }) }
+        ensures { OnOk result (self.new ≡ record self.old {
+          names = self.old.names
+              ++ value ∷ [];
+          results = self.old.results ++ value ∷ [];
+        }) }
     {
         self.names.push(value)?;
         self.results.push(value)
@@ -74,8 +79,10 @@ impl Running<'_> {
     /// One action. What all of them come to stays.
     fn step(&mut self, action: Action) -> Result<(), HopFault>
         requires { self.old.needs < 255 }
-        ensures ran { OnOk result ((rest : List Action) → outcome_of self.old (action ∷ rest) ≡ outcome_of self.new rest) }
-        ensures refused { result ≡ Err (HopFault.Refused self.old.needs) → (rest : List Action) → outcome_of self.old (action ∷ rest) ≡ Err self.old.needs }
+        ensures ran { OnOk result ((rest : List Action) → outcome_of self.old (action ∷ rest)
+            ≡ outcome_of self.new rest) }
+        ensures refused { result ≡ Err (HopFault.Refused self.old.needs) → (rest : List Action)
+            → outcome_of self.old (action ∷ rest) ≡ Err self.old.needs }
         ensures need { (need : ℕ) → result ≡ Err (HopFault.Refused need) → need ≡ self.old.needs }
         ensures counted { OnOk result (self.new.needs ≤ self.old.needs + 1) }
         ensures same_cells { OnOk result (self.new.cells ≡ self.old.cells) }
@@ -156,8 +163,10 @@ fn run_actions(
     cells: &Cells,
 ) -> Result<Ran, HopFault>
     requires { length actions.now < 255 }
-    ensures ran { IfOk result (λ ran. run args.now 0 actions.now names cells.now.database ≡ Ok (ran.0, applied ran.1 cells.now.database)) }
-    ensures refused { (need : ℕ) → result ≡ Err (HopFault.Refused need) → run args.now 0 actions.now names cells.now.database ≡ Err need }
+    ensures ran { IfOk result (λ ran. run args.now 0 actions.now names cells.now.database
+        ≡ Ok (ran.0, applied ran.1 cells.now.database)) }
+    ensures refused { (need : ℕ) → result ≡ Err (HopFault.Refused need)
+        → run args.now 0 actions.now names cells.now.database ≡ Err need }
 {
     let mut running = Running {
         cells,
@@ -190,15 +199,14 @@ pub fn run_hop(
     earlier: &[Values],
     cells: &Cells,
 ) -> Result<Ran, HopFault>
-    ensures ran { IfOk result (λ ran. meaning set.now program hop args.now earlier.now cells.now.database ≡ Ok (ran.0, applied ran.1 cells.now.database)) }
-    ensures refused { (need : ℕ) → result ≡ Err (HopFault.Refused need) → meaning set.now program hop args.now earlier.now cells.now.database ≡ Err need }
+    ensures ran { IfOk result (λ ran.
+        meaning set.now program hop args.now earlier.now cells.now.database
+        ≡ Ok (ran.0, applied ran.1 cells.now.database)) }
+    ensures refused { (need : ℕ) → result ≡ Err (HopFault.Refused need)
+        → meaning set.now program hop args.now earlier.now cells.now.database ≡ Err need }
 {
     let names = names_before(alloc, args, earlier)?;
-    let found = match set.program(program) {
-        Some(program) => program.hops.as_slice().get(hop),
-        None => None,
-    };
-    match found {
+    match set.hop(program, hop) {
         Some(hop) => run_actions(alloc, hop.actions.as_slice(), args, names, cells),
         None => run_actions(alloc, &[], args, names, cells),
     }

@@ -9,10 +9,10 @@ pub struct ChainId {
 }
 
 impl fmt::Display for ChainId {
-    ghost use Rattle.std.specs.Prelude.{Some, ◌++◌, ◌∷◌, []};
-    ghost use Rattle.std.specs.Fmt.{decimal};
+    ghost use Rattle.std.specs.Prelude.{Some};
+    ghost use Rattle.lynx_names.specs.Chain.{chain_text};
 
-    ghost output = { λ chain. Some (decimal chain.origin ++ 58 ∷ decimal chain.index) };
+    ghost output = { λ chain. Some (chain_text chain) };
 
     fn fmt<W: fmt::Write>(&self, f: &mut fmt::Formatter<W>) -> fmt::Result {
         write!(f, "{}:{}", self.origin, self.index)

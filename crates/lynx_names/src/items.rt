@@ -38,6 +38,13 @@ impl<T> Items<T> {
         Items { items }
     }
 
+    /// The items as they are, without taking memory.
+    pub fn into_vec(self) -> Vec<T>
+        ensures { result.items ≡ self }
+    {
+        self.items
+    }
+
     pub fn as_slice(&self) -> &[T]
         ensures { result.now ≡ self.now }
     {

@@ -1,11 +1,12 @@
 //! Names that the whole store speaks of: servers, tables, programs, clients, chains and stamps, the limits
-//! they keep, lists of values, and want of memory.
+//! they keep, lists of values, the numbers of a chain, and want of memory.
 #![tactic(auto)]
 
 pub use chain::ChainId;
 pub use client::ClientId;
 pub use items::Items;
 pub use memory::Memory;
+pub use numbers::{NumberAt, Numbers};
 pub use program::ProgramId;
 pub use server::ServerId;
 pub use stamp::Stamp;
@@ -17,6 +18,7 @@ pub mod client;
 pub mod items;
 pub mod limits;
 pub mod memory;
+pub mod numbers;
 pub mod program;
 pub mod server;
 pub mod stamp;

@@ -20,7 +20,7 @@ use Rattle.lynx_set.specs.Names.{place_of}
 use Rattle.indexmap.specs.IndexMap.{insert_entry}
 use Rattle.indexmap.specs.IndexSet.{insert_key}
 use Rattle.lynx_words.specs.contracts.name.NamePartialEq.TheImpl.{eq-value}
-use Rattle.lynx_words.specs.WordLaws.{and_true, cond_none}
+use Rattle.lynx_words.proofs.WordLaws.{and_true, cond_none}
 
 abbrev pub same_name : List ℕ → List ℕ → Bool
 same_name a b = eq-value.it a b

@@ -4,3 +4,4 @@ pub mod Rules
 pub mod Set
 pub mod Standing
 pub mod Text
+pub mod Lookups

@@ -1,5 +1,6 @@
 -- Which sets have a text: within the limits, and with names, keys and shards as they are to be.
 use Rattle.std.specs.Prelude.{◌≡◌, ℕ, ◌+◌, ◌^◌, ◌<◌, ◌≤◌, true, List, [], ◌∷◌, ◌++◌, Option, Some, None, length, map}
+use Rattle.lynx_names.specs.declared.limits.TheConstants.{MAX_ACTIONS, MAX_HOPS, MAX_PARAMETERS, MAX_PROGRAMS, MAX_SERVERS, MAX_SHARDS, MAX_TABLES, MAX_TEXT_BYTES}
 use Rattle.lynx_shards.specs.declared.shard.Shard.{Shard}
 use Rattle.lynx_shards.specs.Ranges.{last_key, next_key}
 use Rattle.lynx_set.specs.declared.action.Action.{Action}
@@ -29,17 +30,17 @@ AreNew known (name ∷ names) = IsNew known name × AreNew (known ++ name ∷ []
 -- a key is a number below 2^64 or one of the parameters, by a place that a byte holds
 abbrev pub FitsKey : ℕ → Key → Type 0
 FitsKey parameters (Literal key) = key < 2 ^ 64
-FitsKey parameters (Param place) = (place < parameters) × (place < 256)
+FitsKey parameters (Param place) = (place < parameters) × (place < 2 ^ 8)
 
 -- a value is a number below 2^64 or one of the names known so far, by a place that a byte holds
 abbrev pub FitsOperand : ℕ → Operand → Type 0
 FitsOperand names (Number number) = number < 2 ^ 64
-FitsOperand names (Name place) = (place < names) × (place < 256)
+FitsOperand names (Name place) = (place < names) × (place < 2 ^ 8)
 
 -- the cell of an action is one of the tables', and at the hop's server where its key is a number
 pub record FitsCell (place : Place) (table : ℕ) (key : Key) : Type 0 where
   pub table_is : table < length place.tables
-  pub numbered : table < 64
+  pub numbered : table < MAX_TABLES
   pub key_is : FitsKey place.parameters key
   pub at_home : is_home place.shards place.server table key ≡ true
 
@@ -75,7 +76,7 @@ next_place place binds = record place { names = place.names ++ bound binds; acti
 abbrev pub FitActions : Place → List Action → List (List ℕ) → Type 0
 FitActions place [] after = place.names ≡ after
 FitActions place (action ∷ actions) after =
-    (place.actions < 16) × FitsAction place action × (binds : Option (List ℕ)) × BindsNew place action binds × FitActions (next_place place binds) actions after
+    (place.actions < MAX_ACTIONS) × FitsAction place action × (binds : Option (List ℕ)) × BindsNew place action binds × FitActions (next_place place binds) actions after
 
 -- a program with one more hop, after which these names are known
 abbrev pub with_hop : PlainProgram → PlainHop → List (List ℕ) → PlainProgram
@@ -85,13 +86,13 @@ with_hop program hop names = record program { names = names; hops = program.hops
 abbrev pub FitHops : PlainSet → PlainProgram → List PlainHop → List (List ℕ) → Type 0
 FitHops set program [] after = program.names ≡ after
 FitHops set program (hop ∷ hops) after =
-    (length program.hops < 8) × (hop.server < set.servers) × (0 < length hop.actions)
+    (length program.hops < MAX_HOPS) × (hop.server < set.servers) × (0 < length hop.actions)
     × (names : List (List ℕ)) × FitActions (place_in set hop.server program []) hop.actions names × FitHops set (with_hop program hop names) hops after
 
--- a program of the set: at most 8 parameters, a hop at least, and no name but those that it binds
+-- a program of the set: few parameters, a hop at least, and no name but those that it binds
 pub record FitsProgram (set : PlainSet) (program : PlainProgram) : Type 0 where
   pub parameters : List (List ℕ)
-  pub few : length parameters ≤ 8
+  pub few : length parameters ≤ MAX_PARAMETERS
   pub names : AreNew [] parameters
   pub count : program.parameters ≡ length parameters
   pub some : 0 < length program.hops
@@ -104,13 +105,13 @@ with_program set program = record set { programs = set.programs ++ program ∷ [
 abbrev pub FitPrograms : PlainSet → List (List ℕ × PlainProgram) → Type 0
 FitPrograms set [] = Unit {0}
 FitPrograms set (program ∷ programs) =
-    (length set.programs < 64) × IsNew (map (λ named. named.0) set.programs) program.0 × FitsProgram set program.1 × FitPrograms (with_program set program) programs
+    (length set.programs < MAX_PROGRAMS) × IsNew (map (λ named. named.0) set.programs) program.0 × FitsProgram set program.1 × FitPrograms (with_program set program) programs
 
 -- shards that can follow one another, to the greatest key
 abbrev pub FitShards : ℕ → List Shard → List Shard → Type 0
 FitShards servers before [] = next_key (last_key None before) ≡ 2 ^ 64
 FitShards servers before (shard ∷ shards) =
-    (length before < 64) × (shard.low ≡ next_key (last_key None before)) × (shard.low ≤ shard.high) × (shard.high < 2 ^ 64) × (shard.server < servers)
+    (length before < MAX_SHARDS) × (shard.low ≡ next_key (last_key None before)) × (shard.low ≤ shard.high) × (shard.high < 2 ^ 64) × (shard.server < servers)
     × FitShards servers (before ++ shard ∷ []) shards
 
 abbrev pub with_table : PlainSet → List ℕ → List Shard → PlainSet
@@ -120,7 +121,7 @@ with_table set name shards = record set { tables = set.tables ++ name ∷ []; sh
 abbrev pub FitTables : PlainSet → List (List ℕ) → List (List Shard) → Type 0
 FitTables set [] [] = Unit {0}
 FitTables set (name ∷ names) (shards ∷ tables) =
-    (length set.tables < 64) × IsNew set.tables name × FitShards set.servers [] shards × FitTables (with_table set name shards) names tables
+    (length set.tables < MAX_TABLES) × IsNew set.tables name × FitShards set.servers [] shards × FitTables (with_table set name shards) names tables
 FitTables set names tables = ⊥
 
 abbrev pub no_tables : ℕ → PlainSet
@@ -129,11 +130,11 @@ no_tables servers = record { servers = servers; tables = []; shards = []; progra
 abbrev pub no_programs : PlainSet → PlainSet
 no_programs set = record set { programs = [] }
 
--- a set that has a text, if this isn't too long: 1 to 16 servers, tables and programs
+-- a set that has a text, if this isn't too long: 1 or more servers, within the limit, tables and programs
 abbrev pub IsPlainSet : PlainSet → Type 0
 IsPlainSet set =
-    (1 ≤ set.servers) × (set.servers ≤ 16) × FitTables (no_tables set.servers) set.tables set.shards × FitPrograms (no_programs set) set.programs
+    (1 ≤ set.servers) × (set.servers ≤ MAX_SERVERS) × FitTables (no_tables set.servers) set.tables set.shards × FitPrograms (no_programs set) set.programs
 
 -- a set within all limits
 abbrev pub IsSet : ChainSet → Type 0
-IsSet set = IsPlainSet (plain_set set) × (length (text_of set) ≤ 65536)
+IsSet set = IsPlainSet (plain_set set) × (length (text_of set) ≤ MAX_TEXT_BYTES)

@@ -2,10 +2,12 @@
 #![tactic(auto)]
 
 pub use action::{Action, Key, Operand, Operator, Relation};
+pub use lynx_names::TryCopy;
 pub use lynx_words::Name;
 pub use program::{Hop, Program};
 pub use set::ChainSet;
 
 pub mod action;
+mod lookups;
 pub mod program;
 pub mod set;

@@ -1,7 +1,8 @@
-ghost use Rattle.std.specs.Prelude.{◌≡◌, ◌<◌, ◌≤◌, ◌++◌, ◌∷◌, [], None, OnOk, length, slice_get, option_copied, option_map, map, IfOk};
-ghost use Rattle.lynx_names.specs.declared.limits.TheConstants.{MAX_PROGRAMS, MAX_SERVERS};
+ghost use Rattle.std.specs.Prelude.{◌≡◌, ◌<◌, ◌≤◌, ◌++◌, ◌∷◌, [], None, OnOk, length, option_copied, IfOk};
+ghost use Rattle.lynx_names.specs.declared.limits.TheConstants.{MAX_PROGRAMS, MAX_SERVERS, MAX_TABLES};
 ghost use Rattle.lynx_shards.specs.Ranges.{Covers};
 ghost use Rattle.lynx_set.specs.Plain.{plain_set, plain_program};
+ghost use Rattle.lynx_set.specs.Lookups.{program_at, program_names};
 ghost use Rattle.lynx_set.specs.Names.{place_of, place_below};
 
 use crate::program::Program;
@@ -89,7 +90,7 @@ impl ChainSet {
 
     /// The program of that number, None where there are no more than that.
     pub fn program(&self, program: ProgramId) -> Option<&Program>
-        ensures { option_copied result ≡ option_map (λ named. named.1) (slice_get self.now.programs program) }
+        ensures { option_copied result ≡ program_at self.now program }
     {
         let (_, program) = self.programs.get_index(program.index())?;
         Some(program)
@@ -97,7 +98,7 @@ impl ChainSet {
 
     /// The table of that name.
     pub fn find_table(&self, name: &Name) -> Option<TableId>
-        ensures { result ≡ place_below 64 self.now.tables name.now }
+        ensures { result ≡ place_below MAX_TABLES self.now.tables name.now }
     {
         let place = self.place_of_table(name)?;
         if place < usize::from(MAX_TABLES) {
@@ -109,7 +110,7 @@ impl ChainSet {
 
     /// The program of that name.
     pub fn find_program(&self, name: &Name) -> Option<ProgramId>
-        ensures { result ≡ place_below 64 (map (λ named. named.0) self.now.programs) name.now }
+        ensures { result ≡ place_below MAX_PROGRAMS (program_names self.now) name.now }
     {
         let place = self.place_of_program(name)?;
         if place < usize::from(MAX_PROGRAMS) {
@@ -128,7 +129,7 @@ impl ChainSet {
 
     /// The place of the program of that name.
     pub fn place_of_program(&self, name: &Name) -> Option<usize>
-        ensures { result ≡ place_of (map (λ named. named.0) self.now.programs) name.now }
+        ensures { result ≡ place_of (program_names self.now) name.now }
     {
         self.programs.get_index_of(name)
     }
@@ -149,9 +150,12 @@ impl ChainSet {
 
     /// Adds a program of this name, which is new.
     pub fn add_program(&mut self, name: Name, program: Program) -> Result<(), Memory>
-        requires new { place_of (map (λ named. named.0) self.old.programs) name ≡ None }
+        requires new { place_of (program_names self.old) name ≡ None }
         requires few { length self.old.programs < MAX_PROGRAMS }
-        ensures ok { OnOk result (self.new ≡ record self.old { programs = self.old.programs ++ (name, program) ∷ [] }) }
+        ensures ok { OnOk result (self.new ≡ record self.old {
+          programs = self.old.programs
+              ++ (name, program) ∷ [];
+        }) }
         ensures plain { OnOk result (plain_set self.new ≡ record (plain_set self.old) {
           programs = (plain_set self.old).programs ++ (name, plain_program program) ∷ [];
         }) }

@@ -130,5 +130,6 @@ fn server_in(shards: &[Shard], key: u64) -> ServerId
 
 /// In shards that cover all keys, each key is in just one, and that one's server keeps it.
 pub fn each_key_has_one_shard()
-    ensures { (shards : List Shard) (key : ℕ) → Covers shards → key < 2 ^ 64 → OneHas shards key (server_in shards key) }
+    ensures { (shards : List Shard) (key : ℕ) → Covers shards → key < 2 ^ 64
+        → OneHas shards key (server_in shards key) }
 {}

@@ -67,7 +67,8 @@ impl TableShards {
     /// Adds the next range. An error leaves the table as it was.
     pub fn add(&mut self, servers: u8, range: Range) -> Result<(), ShardFault>
         requires { servers ≤ MAX_SERVERS }
-        ensures judged { Judges (range_fault servers (last_key None self.old) range.low range.high range.server) result }
+        ensures judged { Judges (range_fault servers
+            (last_key None self.old) range.low range.high range.server) result }
         ensures ok { OnOk result (self.new ≡ self.old ++ shard_of range ∷ []) }
         ensures err { OnErr result (self.new ≡ self.old) }
     {

@@ -17,10 +17,10 @@ use Rattle.lynx_words.specs.Word.{is_name}
 use Rattle.lynx_set.specs.Rules.{IsNew, FitsKey, FitsOperand, FitsAction, BindsNew, bound}
 use Rattle.lynx_set.specs.Names.{place_of}
 use Rattle.lynx_set.specs.Standing.{Place, is_home}
-use Rattle.lynx_text.specs.Reading.{name_of, new_name, table_of, key_of, operand_of, room, home, binding, plain, changing, operator_of, relation_of, get_of, change_of, let_of, need_of, action_of}
+use Rattle.lynx_text.specs.Reading.{name_of, new_name, table_of, read_key, operand_of, room, home, binding, plain, changing, operator_of, relation_of, get_of, change_of, let_of, need_of, action_of}
 use Rattle.lynx_set.specs.Text.{name_at, key_word, operand_word, operator_word, relation_word, action_words}
 use Rattle.lynx_text.proofs.Lookups.{bind_some, only_if_some, map_some, choose, name_at-next, table_take, key_take, operand_take}
-use Rattle.lynx_words.specs.Equal.{some_is, none_some}
+use Rattle.lynx_words.proofs.Equal.{some_is, none_some}
 
 -- a line that can stand there, and its words, whatever names come after
 pub record IsLine (place : Place) (line : ActionLine) (words : List (List ℕ)) : Type 0 where
@@ -86,10 +86,10 @@ get_take place (a ∷ []) line e = absurd cc
 get_take place (a ∷ b ∷ []) line e = absurd cc
 get_take place (a ∷ b ∷ c ∷ d ∷ words) line e = absurd cc
 get_take place (name ∷ table ∷ key ∷ []) line e =
-    let s_ok = bind_some (room place) (λ ok. new_name place.names name >>= λ n. table_of place.tables table >>= λ t. key_of place.names place.parameters key >>= λ k. home place t k >>= λ at. Some (binding n (Get t k))) line e in
-    let s_n = bind_some (new_name place.names name) (λ n. table_of place.tables table >>= λ t. key_of place.names place.parameters key >>= λ k. home place t k >>= λ at. Some (binding n (Get t k))) line s_ok.2 in
-    let s_t = bind_some (table_of place.tables table) (λ t. key_of place.names place.parameters key >>= λ k. home place t k >>= λ at. Some (binding s_n.0 (Get t k))) line s_n.2 in
-    let s_k = bind_some (key_of place.names place.parameters key) (λ k. home place s_t.0 k >>= λ at. Some (binding s_n.0 (Get s_t.0 k))) line s_t.2 in
+    let s_ok = bind_some (room place) (λ ok. new_name place.names name >>= λ n. table_of place.tables table >>= λ t. read_key place.names place.parameters key >>= λ k. home place t k >>= λ at. Some (binding n (Get t k))) line e in
+    let s_n = bind_some (new_name place.names name) (λ n. table_of place.tables table >>= λ t. read_key place.names place.parameters key >>= λ k. home place t k >>= λ at. Some (binding n (Get t k))) line s_ok.2 in
+    let s_t = bind_some (table_of place.tables table) (λ t. read_key place.names place.parameters key >>= λ k. home place t k >>= λ at. Some (binding s_n.0 (Get t k))) line s_n.2 in
+    let s_k = bind_some (read_key place.names place.parameters key) (λ k. home place s_t.0 k >>= λ at. Some (binding s_n.0 (Get s_t.0 k))) line s_t.2 in
     let s_at = bind_some (home place s_t.0 s_k.0) (λ at. Some (binding s_n.0 (Get s_t.0 s_k.0))) line s_k.2 in
     let new = new_take place.names name s_n.0 s_n.1 in
     let at = table_take place.tables table s_t.0 s_t.1 in
@@ -169,9 +169,9 @@ change_take place (a ∷ []) line e = absurd cc
 change_take place (a ∷ b ∷ []) line e = absurd cc
 change_take place (a ∷ b ∷ c ∷ d ∷ words) line e = absurd cc
 change_take place (table ∷ key ∷ value ∷ []) line e =
-    let s_ok = bind_some (room place) (λ ok. table_of place.tables table >>= λ t. key_of place.names place.parameters key >>= λ k. operand_of place.names value >>= λ v. home place t k >>= λ at. Some (t, k, v)) line e in
-    let s_t = bind_some (table_of place.tables table) (λ t. key_of place.names place.parameters key >>= λ k. operand_of place.names value >>= λ v. home place t k >>= λ at. Some (t, k, v)) line s_ok.2 in
-    let s_k = bind_some (key_of place.names place.parameters key) (λ k. operand_of place.names value >>= λ v. home place s_t.0 k >>= λ at. Some (s_t.0, k, v)) line s_t.2 in
+    let s_ok = bind_some (room place) (λ ok. table_of place.tables table >>= λ t. read_key place.names place.parameters key >>= λ k. operand_of place.names value >>= λ v. home place t k >>= λ at. Some (t, k, v)) line e in
+    let s_t = bind_some (table_of place.tables table) (λ t. read_key place.names place.parameters key >>= λ k. operand_of place.names value >>= λ v. home place t k >>= λ at. Some (t, k, v)) line s_ok.2 in
+    let s_k = bind_some (read_key place.names place.parameters key) (λ k. operand_of place.names value >>= λ v. home place s_t.0 k >>= λ at. Some (s_t.0, k, v)) line s_t.2 in
     let s_v = bind_some (operand_of place.names value) (λ v. home place s_t.0 s_k.0 >>= λ at. Some (s_t.0, s_k.0, v)) line s_k.2 in
     let s_at = bind_some (home place s_t.0 s_k.0) (λ at. Some (s_t.0, s_k.0, s_v.0)) line s_v.2 in
     let at = table_take place.tables table s_t.0 s_t.1 in

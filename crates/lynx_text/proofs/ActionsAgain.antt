@@ -14,10 +14,10 @@ use Rattle.lynx_set.specs.declared.action.Relation.TheVariants.{Below, AtMost, S
 use Rattle.lynx_text.specs.declared.action_line.ActionLine.{ActionLine}
 use Rattle.lynx_words.specs.Lines.{◌>>=◌, is_word, AreWords, only_if}
 use Rattle.lynx_set.specs.Standing.{Place, is_home}
-use Rattle.lynx_text.specs.Reading.{new_name, table_of, key_of, operand_of, room, home, binding, plain, changing, operator_of, relation_of, get_of, change_of, let_of, need_of, action_of}
+use Rattle.lynx_text.specs.Reading.{new_name, table_of, read_key, operand_of, room, home, binding, plain, changing, operator_of, relation_of, get_of, change_of, let_of, need_of, action_of}
 use Rattle.lynx_set.specs.Rules.{IsNew, FitsOperand, FitsCell, FitsAction, BindsNew, bound}
 use Rattle.lynx_set.specs.Text.{name_at, key_word, operand_word, operator_word, relation_word, action_words}
-use Rattle.lynx_words.specs.WordLaws.{both_true, name-word}
+use Rattle.lynx_words.proofs.WordLaws.{both_true, name-word}
 use Rattle.lynx_text.proofs.Lookups.{name_at-next}
 use Rattle.lynx_text.proofs.Known.{bind_is, only_if_yes, Known, new_again, table_again, key_again, operand_again}
 
@@ -52,10 +52,10 @@ unfolding get_of action_of
 get_again place name table key more open_ free cell new =
     let names : List (List ℕ) = place.names ++ (name ∷ more) in
     record {
-      read = bind_is (room place) (λ ok. new_name place.names (name_at names (length place.names)) >>= λ n. table_of place.tables (name_at place.tables table) >>= λ t. key_of place.names place.parameters (key_word names key) >>= λ k. home place t k >>= λ at. Some (binding n (Get t k))) tt (Some (binding name (Get table key))) (only_if_yes (ltb place.actions 16) tt (lt-ltb _ _ free))
-          (bind_is (new_name place.names (name_at names (length place.names))) (λ n. table_of place.tables (name_at place.tables table) >>= λ t. key_of place.names place.parameters (key_word names key) >>= λ k. home place t k >>= λ at. Some (binding n (Get t k))) name (Some (binding name (Get table key))) (ap (new_name place.names) (name_at-next place.names name more) ∙ new_again place.names name new)
-          (bind_is (table_of place.tables (name_at place.tables table)) (λ t. key_of place.names place.parameters (key_word names key) >>= λ k. home place t k >>= λ at. Some (binding name (Get t k))) table (Some (binding name (Get table key))) (table_again place.tables table open_.tables cell.table_is cell.numbered)
-          (bind_is (key_of place.names place.parameters (key_word names key)) (λ k. home place table k >>= λ at. Some (binding name (Get table k))) key (Some (binding name (Get table key))) ((key_again place.names (name ∷ more) place.parameters key open_.names open_.few cell.key_is).0)
+      read = bind_is (room place) (λ ok. new_name place.names (name_at names (length place.names)) >>= λ n. table_of place.tables (name_at place.tables table) >>= λ t. read_key place.names place.parameters (key_word names key) >>= λ k. home place t k >>= λ at. Some (binding n (Get t k))) tt (Some (binding name (Get table key))) (only_if_yes (ltb place.actions 16) tt (lt-ltb _ _ free))
+          (bind_is (new_name place.names (name_at names (length place.names))) (λ n. table_of place.tables (name_at place.tables table) >>= λ t. read_key place.names place.parameters (key_word names key) >>= λ k. home place t k >>= λ at. Some (binding n (Get t k))) name (Some (binding name (Get table key))) (ap (new_name place.names) (name_at-next place.names name more) ∙ new_again place.names name new)
+          (bind_is (table_of place.tables (name_at place.tables table)) (λ t. read_key place.names place.parameters (key_word names key) >>= λ k. home place t k >>= λ at. Some (binding name (Get t k))) table (Some (binding name (Get table key))) (table_again place.tables table open_.tables cell.table_is cell.numbered)
+          (bind_is (read_key place.names place.parameters (key_word names key)) (λ k. home place table k >>= λ at. Some (binding name (Get table k))) key (Some (binding name (Get table key))) ((key_again place.names (name ∷ more) place.parameters key open_.names open_.few cell.key_is).0)
           (bind_is (home place table key) (λ at. Some (binding name (Get table key))) tt (Some (binding name (Get table key))) (only_if_yes (is_home place.shards place.server table key) tt cell.at_home)
           (refl)))));
       are = (
@@ -121,9 +121,9 @@ change_again : (place : Place) (table : ℕ) (key : Key) (value : Operand) (more
 unfolding change_of
 change_again place table key value more open_ free cell fits =
     let names : List (List ℕ) = place.names ++ more in (
-      bind_is (room place) (λ ok. table_of place.tables (name_at place.tables table) >>= λ t. key_of place.names place.parameters (key_word names key) >>= λ k. operand_of place.names (operand_word names value) >>= λ v. home place t k >>= λ at. Some (t, k, v)) tt (Some (table, key, value)) (only_if_yes (ltb place.actions 16) tt (lt-ltb _ _ free))
-          (bind_is (table_of place.tables (name_at place.tables table)) (λ t. key_of place.names place.parameters (key_word names key) >>= λ k. operand_of place.names (operand_word names value) >>= λ v. home place t k >>= λ at. Some (t, k, v)) table (Some (table, key, value)) (table_again place.tables table open_.tables cell.table_is cell.numbered)
-          (bind_is (key_of place.names place.parameters (key_word names key)) (λ k. operand_of place.names (operand_word names value) >>= λ v. home place table k >>= λ at. Some (table, k, v)) key (Some (table, key, value)) ((key_again place.names more place.parameters key open_.names open_.few cell.key_is).0)
+      bind_is (room place) (λ ok. table_of place.tables (name_at place.tables table) >>= λ t. read_key place.names place.parameters (key_word names key) >>= λ k. operand_of place.names (operand_word names value) >>= λ v. home place t k >>= λ at. Some (t, k, v)) tt (Some (table, key, value)) (only_if_yes (ltb place.actions 16) tt (lt-ltb _ _ free))
+          (bind_is (table_of place.tables (name_at place.tables table)) (λ t. read_key place.names place.parameters (key_word names key) >>= λ k. operand_of place.names (operand_word names value) >>= λ v. home place t k >>= λ at. Some (t, k, v)) table (Some (table, key, value)) (table_again place.tables table open_.tables cell.table_is cell.numbered)
+          (bind_is (read_key place.names place.parameters (key_word names key)) (λ k. operand_of place.names (operand_word names value) >>= λ v. home place table k >>= λ at. Some (table, k, v)) key (Some (table, key, value)) ((key_again place.names more place.parameters key open_.names open_.few cell.key_is).0)
           (bind_is (operand_of place.names (operand_word names value)) (λ v. home place table key >>= λ at. Some (table, key, v)) value (Some (table, key, value)) ((operand_again place.names more value open_.names fits).0)
           (bind_is (home place table key) (λ at. Some (table, key, value)) tt (Some (table, key, value)) (only_if_yes (is_home place.shards place.server table key) tt cell.at_home)
           (refl))))),

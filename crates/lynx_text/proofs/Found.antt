@@ -10,16 +10,17 @@ use Rattle.std.proofs.lemmas.Slice.Eq.{bytes_eq-Decides}
 use Rattle.lynx_set.specs.declared.program.Hop.{Hop}
 use Rattle.lynx_set.specs.declared.program.Program.{Program}
 use Rattle.lynx_words.specs.Digits.{read_number}
-use Rattle.lynx_words.specs.Lines.{◌>>=◌, is_feed, words_at, one_after, ends, after_version, only_if, joined, line}
-use Rattle.lynx_text.specs.Parts.{servers_of, parts, goes_table, table_at, goes_program, program_at, set_at, lines_at, read_text}
+use Rattle.lynx_words.specs.Lines.{◌>>=◌, is_feed, only_if, joined, line}
+use Rattle.lynx_text.specs.Pieces.{next_words, one_after, ends, after_version}
+use Rattle.lynx_text.specs.Parts.{servers_of, parts, goes_table, next_table, goes_program, next_program, set_at, lines_at, read_text}
 use Rattle.lynx_set.specs.Plain.{PlainSet, plain_hop, plain_named, plain_set}
 use Rattle.lynx_set.specs.Rules.{no_tables, IsPlainSet, IsSet}
 use Rattle.lynx_set.specs.Set.{Set}
 use Rattle.lynx_set.specs.Text.{text, head_lines, tables_lines, programs_lines, hop_lines, hops_lines, bound_in, set_lines, text_of}
-use Rattle.lynx_words.specs.WordLaws.{and_true}
-use Rattle.lynx_words.specs.NumberLaws.{number_takes}
+use Rattle.lynx_words.proofs.WordLaws.{and_true}
+use Rattle.lynx_words.proofs.NumberLaws.{number_takes}
 use Rattle.lynx_text.proofs.Lookups.{bind_some, only_if_some}
-use Rattle.lynx_text.proofs.Hops.{raw, IsNext, words_at_take, one_take, lines_of_hops}
+use Rattle.lynx_text.proofs.Hops.{raw, IsNext, next_words_take, one_take, lines_of_hops}
 use Rattle.lynx_text.proofs.Programs.{lines_of_program, lines_of_programs, ProgramsLeft, programs_take}
 use Rattle.lynx_text.proofs.Tables.{TablesLeft, tables_take}
 
@@ -87,13 +88,13 @@ set_made lines mid below last servers words with_tables out next head tables pro
 set_at_take : (lines : List (List ℕ)) (set : PlainSet) → set_at lines ≡ Some set → SetRead lines set
 unfolding set_at
 set_at_take lines set e =
-    let s_w = bind_some (words_at lines) (λ w. servers_of w.0 >>= λ n. parts goes_table table_at 64 (no_tables n) w.1 >>= λ t. parts goes_program program_at 64 t.0 t.1 >>= λ p. only_if (ends p.1) p.0) set e in
-    let s_n = bind_some (servers_of s_w.0.0) (λ n. parts goes_table table_at 64 (no_tables n) s_w.0.1 >>= λ t. parts goes_program program_at 64 t.0 t.1 >>= λ p. only_if (ends p.1) p.0) set s_w.2 in
-    let s_t = bind_some (parts goes_table table_at 64 (no_tables s_n.0) s_w.0.1) (λ t. parts goes_program program_at 64 t.0 t.1 >>= λ p. only_if (ends p.1) p.0) set s_n.2 in
-    let s_p = bind_some (parts goes_program program_at 64 s_t.0.0 s_t.0.1) (λ p. only_if (ends p.1) p.0) set s_t.2 in
+    let s_w = bind_some (next_words lines) (λ w. servers_of w.0 >>= λ n. parts goes_table next_table 64 (no_tables n) w.1 >>= λ t. parts goes_program next_program 64 t.0 t.1 >>= λ p. only_if (ends p.1) p.0) set e in
+    let s_n = bind_some (servers_of s_w.0.0) (λ n. parts goes_table next_table 64 (no_tables n) s_w.0.1 >>= λ t. parts goes_program next_program 64 t.0 t.1 >>= λ p. only_if (ends p.1) p.0) set s_w.2 in
+    let s_t = bind_some (parts goes_table next_table 64 (no_tables s_n.0) s_w.0.1) (λ t. parts goes_program next_program 64 t.0 t.1 >>= λ p. only_if (ends p.1) p.0) set s_n.2 in
+    let s_p = bind_some (parts goes_program next_program 64 s_t.0.0 s_t.0.1) (λ p. only_if (ends p.1) p.0) set s_t.2 in
     let test = only_if_some (ends s_p.0.1) s_p.0.0 set s_p.2 in
     subst (SetRead lines) test.1
-    (set_made lines s_w.0.1 s_t.0.1 s_p.0.1 s_n.0 s_w.0.0 s_t.0.0 s_p.0.0 (words_at_take lines s_w.0.0 s_w.0.1 s_w.1) (servers_take s_w.0.0 s_n.0 s_n.1)
+    (set_made lines s_w.0.1 s_t.0.1 s_p.0.1 s_n.0 s_w.0.0 s_t.0.0 s_p.0.0 (next_words_take lines s_w.0.0 s_w.0.1 s_w.1) (servers_take s_w.0.0 s_n.0 s_n.1)
     (tables_take 64 (no_tables s_n.0) s_w.0.1 s_t.0.0 s_t.0.1 s_t.1) (programs_take 64 s_t.0.0 s_t.0.1 s_p.0.0 s_p.0.1 s_p.1) (ends_take s_p.0.1 test.0))
 
 version_line : codes "lynx 1" ≡ joined (codes "lynx" ∷ codes "1" ∷ [])

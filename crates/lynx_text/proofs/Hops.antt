@@ -9,19 +9,20 @@ use Rattle.lynx_set.specs.declared.action.Action.{Action}
 use Rattle.lynx_set.specs.declared.action.Action.TheVariants.{Get, Set, Add, Sub, Let, Need}
 use Rattle.lynx_text.specs.declared.action_line.ActionLine.{ActionLine}
 use Rattle.lynx_words.specs.Digits.{read_number}
-use Rattle.lynx_words.specs.Lines.{◌>>=◌, next_piece, words_in, words_at, AreWords, one_after, only_if, joined}
+use Rattle.lynx_words.specs.Lines.{◌>>=◌, words_in, AreWords, only_if, joined}
+use Rattle.lynx_text.specs.Pieces.{next_piece, next_words, one_after}
 use Rattle.lynx_set.specs.Standing.{place_in}
-use Rattle.lynx_text.specs.Parts.{parts, with_name, action_at, goes_action, hop_line, hop_at, goes_hop}
+use Rattle.lynx_text.specs.Parts.{parts, with_name, next_action, goes_action, hop_line, next_hop, goes_hop}
 use Rattle.lynx_set.specs.Plain.{PlainHop, PlainProgram, PlainSet}
 use Rattle.lynx_set.specs.Standing.{Place}
 use Rattle.lynx_text.specs.Reading.{action_of}
 use Rattle.lynx_set.specs.Rules.{bound, BindsNew, next_place, FitActions, FitHops, with_hop}
 use Rattle.lynx_set.specs.Text.{bound_names, bound_in, action_words, action_lines}
-use Rattle.lynx_words.specs.NumberLaws.{number_takes}
-use Rattle.lynx_words.specs.LineLaws.{words_take}
+use Rattle.lynx_words.proofs.NumberLaws.{number_takes}
+use Rattle.lynx_words.proofs.LineLaws.{words_take}
 use Rattle.lynx_text.proofs.Lookups.{bind_some, only_if_some, choose, both, both_is}
 use Rattle.lynx_text.proofs.Actions.{IsLine, action_take}
-use Rattle.lynx_words.specs.Equal.{none_some}
+use Rattle.lynx_words.proofs.Equal.{none_some}
 
 -- lines as they stand in the text, without their line feeds
 abbrev pub raw : List (List (List ℕ)) → List (List ℕ)
@@ -37,8 +38,8 @@ next_take [] line rest e = absurd cc
 next_take (a ∷ []) line rest e = absurd cc
 next_take (a ∷ b ∷ ls) line rest e = let p = both_is a line (b ∷ ls) rest e in ap (λ l. l ∷ b ∷ ls) p.0 ∙ ap (λ r. line ∷ r) p.1
 
-pub words_at_take : (lines : List (List ℕ)) (words : List (List ℕ)) (rest : List (List ℕ)) → words_at lines ≡ Some (words, rest) → IsNext lines words rest
-words_at_take lines words rest e =
+pub next_words_take : (lines : List (List ℕ)) (words : List (List ℕ)) (rest : List (List ℕ)) → next_words lines ≡ Some (words, rest) → IsNext lines words rest
+next_words_take lines words rest e =
     let next = bind_some (next_piece lines) (λ n. words_in n.0 >>= λ w. Some (w, n.1)) (words, rest) e in
     let read = bind_some (words_in next.0.0) (λ w. Some (w, next.0.1)) (words, rest) next.2 in
     let pair = both_is read.0 words next.0.1 rest read.2 in
@@ -111,16 +112,16 @@ pub record ActionRead (set : PlainSet) (server : ℕ) (program : PlainProgram) (
   pub next : IsNext lines words rest
   pub leaves : out ≡ (with_name program line.binds, actions ++ line.action ∷ [])
 
-action_at_take : (set : PlainSet) (server : ℕ) (program : PlainProgram) (actions : List Action) (lines : List (List ℕ)) (out : PlainProgram × List Action) (rest : List (List ℕ))
-    → action_at set server (program, actions) lines ≡ Some (out, rest) → ActionRead set server program actions lines out rest
-unfolding action_at
-action_at_take set server program actions lines out rest e =
+next_action_take : (set : PlainSet) (server : ℕ) (program : PlainProgram) (actions : List Action) (lines : List (List ℕ)) (out : PlainProgram × List Action) (rest : List (List ℕ))
+    → next_action set server (program, actions) lines ≡ Some (out, rest) → ActionRead set server program actions lines out rest
+unfolding next_action
+next_action_take set server program actions lines out rest e =
     let place = place_in set server program actions in
-    let words = bind_some (words_at lines) (λ w. action_of place w.0 >>= λ l. Some ((with_name program l.binds, actions ++ l.action ∷ []), w.1)) (out, rest) e in
+    let words = bind_some (next_words lines) (λ w. action_of place w.0 >>= λ l. Some ((with_name program l.binds, actions ++ l.action ∷ []), w.1)) (out, rest) e in
     let line = bind_some (action_of place words.0.0) (λ l. Some ((with_name program l.binds, actions ++ l.action ∷ []), words.0.1)) (out, rest) words.2 in
     let made : PlainProgram × List Action = (with_name program line.0.binds, actions ++ line.0.action ∷ []) in
     let same = both_is made out words.0.1 rest line.2 in
-    let next = words_at_take lines words.0.0 words.0.1 words.1 in
+    let next = next_words_take lines words.0.0 words.0.1 words.1 in
     record {
       line = line.0;
       words = words.0.0;
@@ -168,7 +169,7 @@ none_left set server program actions lines out rest e =
     }
 
 actions_take : (room : ℕ) (set : PlainSet) (server : ℕ) (program : PlainProgram) (actions : List Action) (lines : List (List ℕ)) (out : PlainProgram × List Action) (rest : List (List ℕ))
-    → parts goes_action (action_at set server) room (program, actions) lines ≡ Some (out, rest) → ActionsLeft set server program actions lines out rest
+    → parts goes_action (next_action set server) room (program, actions) lines ≡ Some (out, rest) → ActionsLeft set server program actions lines out rest
 unfolding parts
 actions_take zero set server program actions lines out rest e =
     elim (choose (goes_action lines) None (Some ((program, actions), lines)) (Some (out, rest)) e) [
@@ -176,10 +177,10 @@ actions_take zero set server program actions lines out rest e =
       | inr p ↦ none_left set server program actions lines out rest p.1
     ]
 actions_take (suc room) set server program actions lines out rest e =
-    elim (choose (goes_action lines) (action_at set server (program, actions) lines >>= λ n. parts goes_action (action_at set server) room n.0 n.1) (Some ((program, actions), lines)) (Some (out, rest)) e) [
+    elim (choose (goes_action lines) (next_action set server (program, actions) lines >>= λ n. parts goes_action (next_action set server) room n.0 n.1) (Some ((program, actions), lines)) (Some (out, rest)) e) [
       | inl p ↦
-          let step = bind_some (action_at set server (program, actions) lines) (λ n. parts goes_action (action_at set server) room n.0 n.1) (out, rest) p.1 in
-          more_left set server program actions lines step.0.1 step.0.0 out rest (action_at_take set server program actions lines step.0.0 step.0.1 step.1)
+          let step = bind_some (next_action set server (program, actions) lines) (λ n. parts goes_action (next_action set server) room n.0 n.1) (out, rest) p.1 in
+          more_left set server program actions lines step.0.1 step.0.0 out rest (next_action_take set server program actions lines step.0.0 step.0.1 step.1)
           (actions_take room set server step.0.0.0 step.0.0.1 step.0.1 out rest step.2)
       | inr p ↦ none_left set server program actions lines out rest p.1
     ]
@@ -222,17 +223,17 @@ pub record HopRead (set : PlainSet) (program : PlainProgram) (lines : List (List
   pub leaves : out ≡ with_hop program hop names
   pub spelled : (later : List (List ℕ)) → lines ≡ raw ((codes "hop" ∷ decimal hop.server ∷ []) ∷ action_lines set.tables (names ++ later) (length program.names) hop.actions) ++ rest
 
-pub hop_at_take : (set : PlainSet) (program : PlainProgram) (lines : List (List ℕ)) (out : PlainProgram) (rest : List (List ℕ)) → hop_at set program lines ≡ Some (out, rest) → HopRead set program lines out rest
-unfolding hop_at
-hop_at_take set program lines out rest e =
+pub next_hop_take : (set : PlainSet) (program : PlainProgram) (lines : List (List ℕ)) (out : PlainProgram) (rest : List (List ℕ)) → next_hop set program lines ≡ Some (out, rest) → HopRead set program lines out rest
+unfolding next_hop
+next_hop_take set program lines out rest e =
     let done : ℕ → (PlainProgram × List Action) × List (List ℕ) → Option (PlainProgram × List (List ℕ)) = λ s r. Some (record r.0.0 { hops = r.0.0.hops ++ (record { server = s; actions = r.0.1 }) ∷ [] }, r.1) in
-    let words = bind_some (words_at lines) (λ w. hop_line set.servers (length program.hops) w.0 >>= λ s. action_at set s (program, []) w.1 >>= λ f. parts goes_action (action_at set s) (16 - length f.0.1) f.0 f.1 >>= done s) (out, rest) e in
-    let server = bind_some (hop_line set.servers (length program.hops) words.0.0) (λ s. action_at set s (program, []) words.0.1 >>= λ f. parts goes_action (action_at set s) (16 - length f.0.1) f.0 f.1 >>= done s) (out, rest) words.2 in
-    let first = bind_some (action_at set server.0 (program, []) words.0.1) (λ f. parts goes_action (action_at set server.0) (16 - length f.0.1) f.0 f.1 >>= done server.0) (out, rest) server.2 in
-    let later = bind_some (parts goes_action (action_at set server.0) (16 - length first.0.0.1) first.0.0 first.0.1) (done server.0) (out, rest) first.2 in
-    let head = words_at_take lines words.0.0 words.0.1 words.1 in
+    let words = bind_some (next_words lines) (λ w. hop_line set.servers (length program.hops) w.0 >>= λ s. next_action set s (program, []) w.1 >>= λ f. parts goes_action (next_action set s) (16 - length f.0.1) f.0 f.1 >>= done s) (out, rest) e in
+    let server = bind_some (hop_line set.servers (length program.hops) words.0.0) (λ s. next_action set s (program, []) words.0.1 >>= λ f. parts goes_action (next_action set s) (16 - length f.0.1) f.0 f.1 >>= done s) (out, rest) words.2 in
+    let first = bind_some (next_action set server.0 (program, []) words.0.1) (λ f. parts goes_action (next_action set server.0) (16 - length f.0.1) f.0 f.1 >>= done server.0) (out, rest) server.2 in
+    let later = bind_some (parts goes_action (next_action set server.0) (16 - length first.0.0.1) first.0.0 first.0.1) (done server.0) (out, rest) first.2 in
+    let head = next_words_take lines words.0.0 words.0.1 words.1 in
     let line = hop_line_take set.servers (length program.hops) words.0.0 server.0 server.1 in
-    let one = action_at_take set server.0 program [] words.0.1 first.0.0 first.0.1 first.1 in
+    let one = next_action_take set server.0 program [] words.0.1 first.0.0 first.0.1 first.1 in
     let others = actions_take (16 - length first.0.0.1) set server.0 first.0.0.0 first.0.0.1 first.0.1 later.0.0 later.0.1 later.1 in
     let moved = subst (λ (n : PlainProgram × List Action). ActionsLeft set server.0 n.0 n.1 first.0.1 later.0.0 later.0.1) one.leaves others in
     let left = more_left set server.0 program [] words.0.1 first.0.1 first.0.0 later.0.0 later.0.1 one others in
@@ -309,7 +310,7 @@ more_hops set program lines mid next out rest first later =
           ∙ ap (λ ls. ls ++ rest) (sym (map-append joined (hop_lines (names ++ more)) (lines_of_hops set.tables (names ++ more) (length program.names + bound_in first.hop.actions) moved.added)));
     }
 
-pub hops_take : (room : ℕ) (set : PlainSet) (program : PlainProgram) (lines : List (List ℕ)) (out : PlainProgram) (rest : List (List ℕ)) → parts goes_hop (hop_at set) room program lines ≡ Some (out, rest) → HopsLeft set program lines out rest
+pub hops_take : (room : ℕ) (set : PlainSet) (program : PlainProgram) (lines : List (List ℕ)) (out : PlainProgram) (rest : List (List ℕ)) → parts goes_hop (next_hop set) room program lines ≡ Some (out, rest) → HopsLeft set program lines out rest
 unfolding parts
 hops_take zero set program lines out rest e =
     elim (choose (goes_hop lines) None (Some (program, lines)) (Some (out, rest)) e) [
@@ -317,9 +318,9 @@ hops_take zero set program lines out rest e =
       | inr p ↦ no_hops_left set program lines out rest p.1
     ]
 hops_take (suc room) set program lines out rest e =
-    elim (choose (goes_hop lines) (hop_at set program lines >>= λ n. parts goes_hop (hop_at set) room n.0 n.1) (Some (program, lines)) (Some (out, rest)) e) [
+    elim (choose (goes_hop lines) (next_hop set program lines >>= λ n. parts goes_hop (next_hop set) room n.0 n.1) (Some (program, lines)) (Some (out, rest)) e) [
       | inl p ↦
-          let step = bind_some (hop_at set program lines) (λ n. parts goes_hop (hop_at set) room n.0 n.1) (out, rest) p.1 in
-          more_hops set program lines step.0.1 step.0.0 out rest (hop_at_take set program lines step.0.0 step.0.1 step.1) (hops_take room set step.0.0 step.0.1 out rest step.2)
+          let step = bind_some (next_hop set program lines) (λ n. parts goes_hop (next_hop set) room n.0 n.1) (out, rest) p.1 in
+          more_hops set program lines step.0.1 step.0.0 out rest (next_hop_take set program lines step.0.0 step.0.1 step.1) (hops_take room set step.0.0 step.0.1 out rest step.2)
       | inr p ↦ no_hops_left set program lines out rest p.1
     ]

@@ -6,16 +6,17 @@ use Rattle.std.proofs.lemmas.List.{append-nil, length-append}
 use Rattle.lynx_set.specs.declared.action.Action.{Action}
 use Rattle.lynx_set.specs.declared.action.Action.TheVariants.{Get, Set, Add, Sub, Let, Need}
 use Rattle.lynx_text.specs.declared.action_line.ActionLine.{ActionLine}
-use Rattle.lynx_words.specs.Lines.{◌>>=◌, until, next_piece, words_in, words_at, begins, AreWords, joined}
+use Rattle.lynx_words.specs.Lines.{◌>>=◌, words_in, AreWords, joined}
+use Rattle.lynx_text.specs.Pieces.{until, next_piece, next_words, begins}
 use Rattle.lynx_set.specs.Standing.{place_in}
-use Rattle.lynx_text.specs.Parts.{parts, with_name, action_at, goes_action}
+use Rattle.lynx_text.specs.Parts.{parts, with_name, next_action, goes_action}
 use Rattle.lynx_set.specs.Plain.{PlainProgram, PlainSet}
 use Rattle.lynx_set.specs.Standing.{Place}
 use Rattle.lynx_text.specs.Reading.{action_of}
 use Rattle.lynx_set.specs.Rules.{bound, BindsNew, FitsAction, next_place, FitActions}
 use Rattle.lynx_set.specs.Text.{name_at, key_word, operand_word, operator_word, relation_word, bound_names, action_words, action_lines}
-use Rattle.lynx_words.specs.PieceLaws.{first_piece}
-use Rattle.lynx_words.specs.LineLaws.{split-joined, words_again}
+use Rattle.lynx_text.proofs.PieceLaws.{first_piece}
+use Rattle.lynx_words.proofs.LineLaws.{split-joined, words_again}
 use Rattle.lynx_text.proofs.Known.{bind_is, Known, one_known}
 use Rattle.lynx_text.proofs.ActionsAgain.{IsOpen, action_again}
 use Rattle.lynx_text.proofs.Hops.{raw, place_next, binds-count, names_over}
@@ -30,8 +31,8 @@ pub more_behind : (lines : List (List (List ℕ))) (rest : List (List ℕ)) → 
 more_behind [] rest more = more
 more_behind (line ∷ lines) rest more = record { first = joined line; others = raw lines ++ rest; is = refl }
 
-pub words_at_again : (words : List (List ℕ)) (rest : List (List ℕ)) → AreWords words → IsMore rest → words_at (joined words ∷ rest) ≡ Some (words, rest)
-words_at_again words rest are more =
+pub next_words_again : (words : List (List ℕ)) (rest : List (List ℕ)) → AreWords words → IsMore rest → next_words (joined words ∷ rest) ≡ Some (words, rest)
+next_words_again words rest are more =
     bind_is (next_piece (joined words ∷ rest)) (λ n. words_in n.0 >>= λ w. Some (w, n.1)) (joined words, rest) (Some (words, rest))
     (ap (λ r. next_piece (joined words ∷ r)) more.is ∙ ap (λ r. Some (joined words, r)) (sym more.is))
     (bind_is (words_in (joined words)) (λ w. Some (w, rest)) words (Some (words, rest)) (words_again words are) refl)
@@ -109,16 +110,16 @@ known_after place (action ∷ actions) after fit known = known_after (next_place
 -- one action
 pub one_again : (set : PlainSet) (server : ℕ) (program : PlainProgram) (before : List Action) (action : Action) (binds : Option (List ℕ)) (more rest : List (List ℕ))
     → IsOpen (place_in set server program before) → length before < 16 → FitsAction (place_in set server program before) action → BindsNew (place_in set server program before) action binds → IsMore rest
-    → (action_at set server (program, before) (joined (action_words set.tables (program.names ++ (bound binds ++ more)) (length program.names) action) ∷ rest) ≡ Some ((with_name program binds, before ++ action ∷ []), rest))
+    → (next_action set server (program, before) (joined (action_words set.tables (program.names ++ (bound binds ++ more)) (length program.names) action) ∷ rest) ≡ Some ((with_name program binds, before ++ action ∷ []), rest))
     × (goes_action (joined (action_words set.tables (program.names ++ (bound binds ++ more)) (length program.names) action) ∷ rest) ≡ true)
-unfolding action_at
+unfolding next_action
 one_again set server program before action binds more rest open_ free fits new left =
     let place = place_in set server program before in
     let words = action_words set.tables (program.names ++ (bound binds ++ more)) (length program.names) action in
     let line : ActionLine = record { action = action; binds = binds } in
     let is = action_again place action binds more open_ free fits new in (
-      bind_is (words_at (joined words ∷ rest)) (λ w. action_of place w.0 >>= λ l. Some ((with_name program l.binds, before ++ l.action ∷ []), w.1)) (words, rest) (Some ((with_name program binds, before ++ action ∷ []), rest))
-          (words_at_again words rest is.are left)
+      bind_is (next_words (joined words ∷ rest)) (λ w. action_of place w.0 >>= λ l. Some ((with_name program l.binds, before ++ l.action ∷ []), w.1)) (words, rest) (Some ((with_name program binds, before ++ action ∷ []), rest))
+          (next_words_again words rest is.are left)
           (bind_is (action_of place words) (λ l. Some ((with_name program l.binds, before ++ l.action ∷ []), rest)) line (Some ((with_name program binds, before ++ action ∷ []), rest)) is.read refl),
       goes_line set.tables (program.names ++ (bound binds ++ more)) (length program.names) action rest is.are,
     )
@@ -130,10 +131,10 @@ names_with program (Some name) = refl
 -- the actions that are left of a hop
 pub actions_again : (set : PlainSet) (server : ℕ) (program : PlainProgram) (before actions : List Action) (after later : List (List ℕ)) (room : ℕ) (rest : List (List ℕ))
     → FitActions (place_in set server program before) actions after → IsOpen (place_in set server program before) → length actions ≤ room → IsMore rest → goes_action rest ≡ false
-    → parts goes_action (action_at set server) room (program, before) (raw (action_lines set.tables (after ++ later) (length program.names) actions) ++ rest) ≡ Some ((record program { names = after }, before ++ actions), rest)
+    → parts goes_action (next_action set server) room (program, before) (raw (action_lines set.tables (after ++ later) (length program.names) actions) ++ rest) ≡ Some ((record program { names = after }, before ++ actions), rest)
 actions_again set server program before [] after later room rest fit open_ few left stops =
     let start : PlainProgram × List Action = (program, before) in
-    parts_stop goes_action (action_at set server) room start rest stops
+    parts_stop goes_action (next_action set server) room start rest stops
     ∙ ap (λ (names : List (List ℕ)). let p : PlainProgram × List Action = (record program { names = names }, before) in Some (p, rest)) fit
     ∙ ap (λ (actions : List Action). let p : PlainProgram × List Action = (record program { names = after }, actions) in Some (p, rest)) (sym (append-nil before))
 actions_again set server program before (action ∷ actions) after later zero rest fit open_ few left stops = absurd (omega arith)
@@ -149,9 +150,9 @@ actions_again set server program before (action ∷ actions) after later (suc ro
     let same_place = place_next set server program before action binds in
     let count : length (with_name program binds).names ≡ length program.names + bound_names action =
     ap length (names_with program binds) ∙ length-append program.names (bound binds) ∙ ap (λ n. length program.names + n) (binds-count place action binds fit.3) in
-    ap (λ ns. parts goes_action (action_at set server) (suc room) (program, before) (joined (action_words set.tables ns (length program.names) action) ∷ tail)) whole
-    ∙ parts_step goes_action (action_at set server) room (program, before) next (joined (action_words set.tables (program.names ++ (bound binds ++ (grown.0 ++ later))) (length program.names) action) ∷ tail) tail one.1 one.0
-    ∙ ap (λ n. parts goes_action (action_at set server) room next (raw (action_lines set.tables (after ++ later) n actions) ++ rest)) (sym count)
+    ap (λ ns. parts goes_action (next_action set server) (suc room) (program, before) (joined (action_words set.tables ns (length program.names) action) ∷ tail)) whole
+    ∙ parts_step goes_action (next_action set server) room (program, before) next (joined (action_words set.tables (program.names ++ (bound binds ++ (grown.0 ++ later))) (length program.names) action) ∷ tail) tail one.1 one.0
+    ∙ ap (λ n. parts goes_action (next_action set server) room next (raw (action_lines set.tables (after ++ later) n actions) ++ rest)) (sym count)
     ∙ actions_again set server (with_name program binds) (before ++ action ∷ []) actions after later room rest
     (subst (λ (p : Place). FitActions p actions after) (sym same_place) fit.4) (subst IsOpen (sym same_place) (open_next place action binds open_ fit.3)) (omega arith) left stops
     ∙ ap (λ (p : PlainProgram). let o : PlainProgram × List Action = (p, (before ++ action ∷ []) ++ actions) in Some (o, rest)) (names_over program binds after)

@@ -15,10 +15,10 @@ use Rattle.lynx_words.specs.Lines.{◌>>=◌, is_word, only_if}
 use Rattle.lynx_set.specs.Rules.{FitsKey, FitsOperand, IsNew}
 use Rattle.lynx_words.specs.Word.{is_name}
 use Rattle.lynx_set.specs.Names.{place_of, place_below}
-use Rattle.lynx_text.specs.Reading.{name_of, new_name, known_name, table_of, key_of, operand_of}
+use Rattle.lynx_text.specs.Reading.{name_of, new_name, known_name, table_of, read_key, operand_of}
 use Rattle.lynx_set.specs.Text.{name_at, key_word, operand_word}
-use Rattle.lynx_words.specs.WordLaws.{cond_none, cond_some, name-no_digit, name-word, number-word}
-use Rattle.lynx_words.specs.NumberLaws.{number_again}
+use Rattle.lynx_words.proofs.WordLaws.{cond_none, cond_some, name-no_digit, name-word, number-word}
+use Rattle.lynx_words.proofs.NumberLaws.{number_again}
 use Rattle.lynx_text.proofs.Lookups.{name_at-append, name_at-next}
 
 -- a step that is known
@@ -109,7 +109,7 @@ new_again names name new =
 
 -- a key that fits is read again
 pub key_again : (names more : List (List ℕ)) (parameters : ℕ) (key : Key) → Known names → parameters ≤ length names → FitsKey parameters key
-    → (key_of names parameters (key_word (names ++ more) key) ≡ Some key) × (is_word (key_word (names ++ more) key) ≡ true)
+    → (read_key names parameters (key_word (names ++ more) key) ≡ Some key) × (is_word (key_word (names ++ more) key) ≡ true)
 key_again names more parameters (Literal n) known few fits =
     let word = number-word n fits in
     (ap (λ b. cond b (option_map Literal (read_number (decimal n))) (known_name names (decimal n) >>= λ place. only_if (ltb place parameters) (Param place))) word.1 ∙ ap (option_map Literal) (number_again n fits), word.0)
@@ -117,7 +117,7 @@ key_again names more parameters (Param i) known few fits =
     let lt : i < length names = omega arith in
     let same : name_at (names ++ more) i ≡ name_at names i = name_at-append names more i lt in
     let named : is_name (name_at names i) ≡ true = known.named i lt in (
-      ap (key_of names parameters) same
+      ap (read_key names parameters) same
           ∙ ap (λ b. cond b (option_map Literal (read_number (name_at names i))) (known_name names (name_at names i) >>= λ place. only_if (ltb place parameters) (Param place))) (name-no_digit (name_at names i) named)
           ∙ bind_is (known_name names (name_at names i)) (λ place. only_if (ltb place parameters) (Param place)) i (Some (Param i)) (known_again names i known lt fits.1) (only_if_yes (ltb i parameters) (Param i) (lt-ltb _ _ fits.0)),
       ap is_word same ∙ name-word (name_at names i) named,

@@ -1,3 +1,4 @@
+mod PieceLaws
 pub mod HopsAgain
 pub mod ProgramsAgain
 pub mod TablesAgain

@@ -14,11 +14,11 @@ use Rattle.lynx_words.specs.Lines.{◌>>=◌, only_if}
 use Rattle.lynx_set.specs.Rules.{FitsKey, FitsOperand}
 use Rattle.lynx_words.specs.Word.{is_name}
 use Rattle.lynx_set.specs.Names.{place_of, place_below}
-use Rattle.lynx_text.specs.Reading.{name_of, known_name, table_of, key_of, operand_of}
+use Rattle.lynx_text.specs.Reading.{name_of, known_name, table_of, read_key, operand_of}
 use Rattle.lynx_set.specs.Text.{name_at, key_word, operand_word}
-use Rattle.lynx_words.specs.WordLaws.{cond_some}
-use Rattle.lynx_words.specs.NumberLaws.{number_takes}
-use Rattle.lynx_words.specs.Equal.{some_is}
+use Rattle.lynx_words.proofs.WordLaws.{cond_some}
+use Rattle.lynx_words.proofs.NumberLaws.{number_takes}
+use Rattle.lynx_words.proofs.Equal.{some_is}
 
 -- a step that gave a value
 pub bind_some : {A B : Type 0} (o : Option A) (f : A → Option B) (y : B) → (o >>= f) ≡ Some y → (x : A) × (o ≡ Some x) × (f x ≡ Some y)
@@ -107,7 +107,7 @@ choose true x y z e = inl (refl, e)
 choose false x y z e = inr (refl, e)
 
 -- a key that is read is spelled so, whatever names are added
-pub key_take : (names more : List (List ℕ)) (parameters : ℕ) (word : List ℕ) (key : Key) → key_of names parameters word ≡ Some key → FitsKey parameters key × (word ≡ key_word (names ++ more) key)
+pub key_take : (names more : List (List ℕ)) (parameters : ℕ) (word : List ℕ) (key : Key) → read_key names parameters word ≡ Some key → FitsKey parameters key × (word ≡ key_word (names ++ more) key)
 key_take names more parameters word key e =
     elim (choose (begins_with_digit word) (option_map Literal (read_number word)) (known_name names word >>= λ place. only_if (ltb place parameters) (Param place)) (Some key) e) [
       | inl p ↦

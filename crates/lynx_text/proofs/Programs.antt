@@ -5,18 +5,19 @@ use Rattle.std.specs.Str.{bytes_eq}
 use Rattle.std.proofs.lemmas.Bool.{ltb-true, leb-true}
 use Rattle.std.proofs.lemmas.List.{append-nil, map-append, take_at}
 use Rattle.std.proofs.lemmas.Slice.Eq.{bytes_eq-Decides}
-use Rattle.lynx_words.specs.Lines.{◌>>=◌, words_at, only_if, joined}
-use Rattle.lynx_text.specs.Parts.{parts, goes_hop, hop_at, end_line, parameters_of, program_line, program_at, goes_program}
+use Rattle.lynx_words.specs.Lines.{◌>>=◌, only_if, joined}
+use Rattle.lynx_text.specs.Pieces.{next_words}
+use Rattle.lynx_text.specs.Parts.{parts, goes_hop, next_hop, end_line, parameters_of, program_line, next_program, goes_program}
 use Rattle.lynx_set.specs.Plain.{PlainProgram, PlainSet}
 use Rattle.lynx_set.specs.Names.{place_of}
 use Rattle.lynx_text.specs.Reading.{name_of, new_name}
 use Rattle.lynx_set.specs.Rules.{IsNew, AreNew, FitsProgram, FitPrograms, with_program}
 use Rattle.lynx_words.specs.Word.{is_name}
-use Rattle.lynx_words.specs.WordLaws.{and_true}
+use Rattle.lynx_words.proofs.WordLaws.{and_true}
 use Rattle.lynx_text.proofs.Lookups.{bind_some, only_if_some, choose, both, both_is}
 use Rattle.lynx_text.proofs.Actions.{new_take}
-use Rattle.lynx_text.proofs.Hops.{raw, IsNext, words_at_take, HopRead, lines_of_hops, HopsLeft, hop_at_take, more_hops, hops_take}
-use Rattle.lynx_words.specs.Equal.{some_is, none_some}
+use Rattle.lynx_text.proofs.Hops.{raw, IsNext, next_words_take, HopRead, lines_of_hops, HopsLeft, next_hop_take, more_hops, hops_take}
+use Rattle.lynx_words.proofs.Equal.{some_is, none_some}
 
 -- parameters that are read are those that are spelled
 pub parameters_take : (known words names : List (List ℕ)) → parameters_of known words ≡ Some names → AreNew known words × (names ≡ known ++ words)
@@ -126,29 +127,29 @@ program_made set lines mid below rest name names words last program out first he
 
 program_hops_take : (set : PlainSet) (lines mid after : List (List ℕ)) (words : List (List ℕ)) (name : List ℕ) (names : List (List ℕ)) (first : PlainProgram) (out : PlainSet) (rest : List (List ℕ))
     → IsNext lines words mid → HeadRead (map (λ named. named.0) set.programs) words name names → HopRead set (start names) mid first after
-    → (parts goes_hop (hop_at set) (8 - length first.hops) first after >>= λ r. words_at r.1 >>= λ last. end_line last.0 >>= λ ok. both (record set { programs = set.programs ++ (name, r.0) ∷ [] }) last.1) ≡ Some (out, rest)
+    → (parts goes_hop (next_hop set) (8 - length first.hops) first after >>= λ r. next_words r.1 >>= λ last. end_line last.0 >>= λ ok. both (record set { programs = set.programs ++ (name, r.0) ∷ [] }) last.1) ≡ Some (out, rest)
     → ProgramRead set lines out rest
 program_hops_take set lines mid after words name names first out rest next head hop e =
-    let s_read = bind_some (parts goes_hop (hop_at set) (8 - length first.hops) first after) (λ r. words_at r.1 >>= λ last. end_line last.0 >>= λ ok. both (record set { programs = set.programs ++ (name, r.0) ∷ [] }) last.1) (out, rest) e in
-    let s_last = bind_some (words_at s_read.0.1) (λ last. end_line last.0 >>= λ ok. both (record set { programs = set.programs ++ (name, s_read.0.0) ∷ [] }) last.1) (out, rest) s_read.2 in
+    let s_read = bind_some (parts goes_hop (next_hop set) (8 - length first.hops) first after) (λ r. next_words r.1 >>= λ last. end_line last.0 >>= λ ok. both (record set { programs = set.programs ++ (name, r.0) ∷ [] }) last.1) (out, rest) e in
+    let s_last = bind_some (next_words s_read.0.1) (λ last. end_line last.0 >>= λ ok. both (record set { programs = set.programs ++ (name, s_read.0.0) ∷ [] }) last.1) (out, rest) s_read.2 in
     let s_end = bind_some (end_line s_last.0.0) (λ ok. both (record set { programs = set.programs ++ (name, s_read.0.0) ∷ [] }) s_last.0.1) (out, rest) s_last.2 in
     let same = both_is (record set { programs = set.programs ++ (name, s_read.0.0) ∷ [] }) out s_last.0.1 rest s_end.2 in
     let hops = some_hops set (start names) mid after first s_read.0.0 s_read.0.1 hop (hops_take (8 - length first.hops) set first after s_read.0.0 s_read.0.1 s_read.1) in
     program_made set lines mid s_read.0.1 rest name names words s_last.0.0 s_read.0.0 out next head hops.0 hops.1
-    (subst (λ (r : List (List ℕ)). IsNext s_read.0.1 s_last.0.0 r) same.1 (words_at_take s_read.0.1 s_last.0.0 s_last.0.1 s_last.1))
+    (subst (λ (r : List (List ℕ)). IsNext s_read.0.1 s_last.0.0 r) same.1 (next_words_take s_read.0.1 s_last.0.0 s_last.0.1 s_last.1))
     (end_line_take s_last.0.0 s_end.0 s_end.1) same.0
 
-program_at_take : (set : PlainSet) (lines : List (List ℕ)) (out : PlainSet) (rest : List (List ℕ)) → program_at set lines ≡ Some (out, rest) → ProgramRead set lines out rest
-unfolding program_at
-program_at_take set lines out rest e =
+next_program_take : (set : PlainSet) (lines : List (List ℕ)) (out : PlainSet) (rest : List (List ℕ)) → next_program set lines ≡ Some (out, rest) → ProgramRead set lines out rest
+unfolding next_program
+next_program_take set lines out rest e =
     let known : List (List ℕ) = map (λ named. named.0) set.programs in
-    let end_of : List ℕ → PlainProgram → List (List ℕ) → Option (PlainSet × List (List ℕ)) = λ name program ls. words_at ls >>= λ last. end_line last.0 >>= λ ok. Some (record set { programs = set.programs ++ (name, program) ∷ [] }, last.1) in
-    let s_words = bind_some (words_at lines) (λ w. program_line known w.0 >>= λ h. hop_at set (start h.1) w.1 >>= λ f. parts goes_hop (hop_at set) (8 - length f.0.hops) f.0 f.1 >>= λ r. end_of h.0 r.0 r.1) (out, rest) e in
-    let s_head = bind_some (program_line known s_words.0.0) (λ h. hop_at set (start h.1) s_words.0.1 >>= λ f. parts goes_hop (hop_at set) (8 - length f.0.hops) f.0 f.1 >>= λ r. end_of h.0 r.0 r.1) (out, rest) s_words.2 in
-    let s_first = bind_some (hop_at set (start s_head.0.1) s_words.0.1) (λ f. parts goes_hop (hop_at set) (8 - length f.0.hops) f.0 f.1 >>= λ r. end_of s_head.0.0 r.0 r.1) (out, rest) s_head.2 in
+    let end_of : List ℕ → PlainProgram → List (List ℕ) → Option (PlainSet × List (List ℕ)) = λ name program ls. next_words ls >>= λ last. end_line last.0 >>= λ ok. Some (record set { programs = set.programs ++ (name, program) ∷ [] }, last.1) in
+    let s_words = bind_some (next_words lines) (λ w. program_line known w.0 >>= λ h. next_hop set (start h.1) w.1 >>= λ f. parts goes_hop (next_hop set) (8 - length f.0.hops) f.0 f.1 >>= λ r. end_of h.0 r.0 r.1) (out, rest) e in
+    let s_head = bind_some (program_line known s_words.0.0) (λ h. next_hop set (start h.1) s_words.0.1 >>= λ f. parts goes_hop (next_hop set) (8 - length f.0.hops) f.0 f.1 >>= λ r. end_of h.0 r.0 r.1) (out, rest) s_words.2 in
+    let s_first = bind_some (next_hop set (start s_head.0.1) s_words.0.1) (λ f. parts goes_hop (next_hop set) (8 - length f.0.hops) f.0 f.1 >>= λ r. end_of s_head.0.0 r.0 r.1) (out, rest) s_head.2 in
     program_hops_take set lines s_words.0.1 s_first.0.1 s_words.0.0 s_head.0.0 s_head.0.1 s_first.0.0 out rest
-    (words_at_take lines s_words.0.0 s_words.0.1 s_words.1) (program_line_take known s_words.0.0 s_head.0.0 s_head.0.1 s_head.1)
-    (hop_at_take set (start s_head.0.1) s_words.0.1 s_first.0.0 s_first.0.1 s_first.1) s_first.2
+    (next_words_take lines s_words.0.0 s_words.0.1 s_words.1) (program_line_take known s_words.0.0 s_head.0.0 s_head.0.1 s_head.1)
+    (next_hop_take set (start s_head.0.1) s_words.0.1 s_first.0.0 s_first.0.1 s_first.1) s_first.2
 
 -- the lines of programs
 abbrev pub lines_of_programs : List (List ℕ) → List (List ℕ × PlainProgram) → List (List (List ℕ))
@@ -185,7 +186,7 @@ more_programs set lines mid next out rest first later =
           ∙ ap (λ ls. ls ++ rest) (sym (map-append joined (lines_of_program set.tables first.program) (lines_of_programs set.tables moved.added)));
     }
 
-pub programs_take : (room : ℕ) (set : PlainSet) (lines : List (List ℕ)) (out : PlainSet) (rest : List (List ℕ)) → parts goes_program program_at room set lines ≡ Some (out, rest) → ProgramsLeft set lines out rest
+pub programs_take : (room : ℕ) (set : PlainSet) (lines : List (List ℕ)) (out : PlainSet) (rest : List (List ℕ)) → parts goes_program next_program room set lines ≡ Some (out, rest) → ProgramsLeft set lines out rest
 unfolding parts
 programs_take zero set lines out rest e =
     elim (choose (goes_program lines) None (Some (set, lines)) (Some (out, rest)) e) [
@@ -193,9 +194,9 @@ programs_take zero set lines out rest e =
       | inr p ↦ no_programs_left set lines out rest p.1
     ]
 programs_take (suc room) set lines out rest e =
-    elim (choose (goes_program lines) (program_at set lines >>= λ n. parts goes_program program_at room n.0 n.1) (Some (set, lines)) (Some (out, rest)) e) [
+    elim (choose (goes_program lines) (next_program set lines >>= λ n. parts goes_program next_program room n.0 n.1) (Some (set, lines)) (Some (out, rest)) e) [
       | inl p ↦
-          let step = bind_some (program_at set lines) (λ n. parts goes_program program_at room n.0 n.1) (out, rest) p.1 in
-          more_programs set lines step.0.1 step.0.0 out rest (program_at_take set lines step.0.0 step.0.1 step.1) (programs_take room step.0.0 step.0.1 out rest step.2)
+          let step = bind_some (next_program set lines) (λ n. parts goes_program next_program room n.0 n.1) (out, rest) p.1 in
+          more_programs set lines step.0.1 step.0.0 out rest (next_program_take set lines step.0.0 step.0.1 step.1) (programs_take room step.0.0 step.0.1 out rest step.2)
       | inr p ↦ no_programs_left set lines out rest p.1
     ]

@@ -8,9 +8,10 @@ use Rattle.std.proofs.lemmas.List.{append-nil, length-append, length_push, map-a
 use Rattle.std.proofs.lemmas.Slice.Eq.{bytes_eq-Decides}
 use Rattle.lynx_set.specs.declared.action.Action.{Action}
 use Rattle.lynx_words.specs.Digits.{read_number}
-use Rattle.lynx_words.specs.Lines.{◌>>=◌, is_word, words_at, begins, AreWords, one_after, only_if, joined}
+use Rattle.lynx_words.specs.Lines.{◌>>=◌, is_word, AreWords, only_if, joined}
+use Rattle.lynx_text.specs.Pieces.{next_words, begins, one_after}
 use Rattle.lynx_set.specs.Standing.{place_in}
-use Rattle.lynx_text.specs.Parts.{parts, with_name, action_at, goes_action, hop_line, hop_at, goes_hop, parameters_of, program_line, end_line, program_at, goes_program}
+use Rattle.lynx_text.specs.Parts.{parts, with_name, next_action, goes_action, hop_line, next_hop, goes_hop, parameters_of, program_line, end_line, next_program, goes_program}
 use Rattle.lynx_set.specs.Plain.{PlainHop, PlainProgram, PlainSet}
 use Rattle.lynx_set.specs.Names.{place_of}
 use Rattle.lynx_set.specs.Standing.{Place}
@@ -18,13 +19,13 @@ use Rattle.lynx_text.specs.Reading.{name_of, new_name}
 use Rattle.lynx_set.specs.Rules.{IsNew, AreNew, bound, next_place, FitActions, FitHops, with_hop, FitsProgram, FitPrograms, with_program}
 use Rattle.lynx_set.specs.Text.{bound_names, bound_in, action_words, action_lines}
 use Rattle.lynx_words.specs.Word.{is_name}
-use Rattle.lynx_words.specs.WordLaws.{both_true, name-word, number-word}
-use Rattle.lynx_words.specs.NumberLaws.{number_again}
+use Rattle.lynx_words.proofs.WordLaws.{both_true, name-word, number-word}
+use Rattle.lynx_words.proofs.NumberLaws.{number_again}
 use Rattle.lynx_text.proofs.Lookups.{both}
 use Rattle.lynx_text.proofs.Known.{bind_is, only_if_yes, Known, none_known, one_known, new_again}
 use Rattle.lynx_text.proofs.ActionsAgain.{IsOpen}
 use Rattle.lynx_text.proofs.Hops.{raw, place_next, binds-count, count_actions, names_over, lines_of_hops}
-use Rattle.lynx_text.proofs.HopsAgain.{IsMore, more_behind, words_at_again, begins_again, parts_stop, parts_step, open_next, grown_names, few_actions, known_after, one_again, names_with, actions_again}
+use Rattle.lynx_text.proofs.HopsAgain.{IsMore, more_behind, next_words_again, begins_again, parts_stop, parts_step, open_next, grown_names, few_actions, known_after, one_again, names_with, actions_again}
 use Rattle.lynx_text.proofs.Programs.{lines_of_program, lines_of_programs, names_count}
 
 -- a line of two words
@@ -53,8 +54,8 @@ hop_line_again servers hops server few lt fits =
 -- the actions of a hop, the first of which has to be there
 first_again : (set : PlainSet) (server : ℕ) (program : PlainProgram) (action : Action) (actions : List Action) (names later rest : List (List ℕ))
     → FitActions (place_in set server program []) (action ∷ actions) names → IsOpen (place_in set server program []) → IsMore rest → goes_action rest ≡ false
-    → (action_at set server (program, []) (raw (action_lines set.tables (names ++ later) (length program.names) (action ∷ actions)) ++ rest)
-    >>= λ f. parts goes_action (action_at set server) (16 - length f.0.1) f.0 f.1) ≡ Some ((record program { names = names }, action ∷ actions), rest)
+    → (next_action set server (program, []) (raw (action_lines set.tables (names ++ later) (length program.names) (action ∷ actions)) ++ rest)
+    >>= λ f. parts goes_action (next_action set server) (16 - length f.0.1) f.0 f.1) ≡ Some ((record program { names = names }, action ∷ actions), rest)
 first_again set server program action actions names later rest fit open_ left stops =
     let binds = fit.2 in
     let place = place_in set server program [] in
@@ -63,16 +64,16 @@ first_again set server program action actions names later rest fit open_ left st
     ap (λ a. a ++ later) grown.1 ∙ append_assoc (program.names ++ bound binds) grown.0 later ∙ append_assoc program.names (bound binds) (grown.0 ++ later) in
     let tail : List (List ℕ) = raw (action_lines set.tables (names ++ later) (length program.names + bound_names action) actions) ++ rest in
     let one = one_again set server program [] action binds (grown.0 ++ later) tail open_ fit.0 fit.1 fit.3 (more_behind (action_lines set.tables (names ++ later) (length program.names + bound_names action) actions) rest left) in
-    let then_ : (PlainProgram × List Action) × List (List ℕ) → Option ((PlainProgram × List Action) × List (List ℕ)) = λ f. parts goes_action (action_at set server) (16 - length f.0.1) f.0 f.1 in
+    let then_ : (PlainProgram × List Action) × List (List ℕ) → Option ((PlainProgram × List Action) × List (List ℕ)) = λ f. parts goes_action (next_action set server) (16 - length f.0.1) f.0 f.1 in
     let next : PlainProgram × List Action = (with_name program binds, action ∷ []) in
     let out : PlainProgram × List Action = (record program { names = names }, action ∷ actions) in
     let count : length (with_name program binds).names ≡ length program.names + bound_names action =
     ap length (names_with program binds) ∙ length-append program.names (bound binds) ∙ ap (λ n. length program.names + n) (binds-count place action binds fit.3) in
     let same_place = place_after set server program action binds in
     let few : length actions ≤ 15 = omega (arith, few_actions place (action ∷ actions) names fit (omega arith)) in
-    ap (λ ns. action_at set server (program, []) (joined (action_words set.tables ns (length program.names) action) ∷ tail) >>= then_) whole
-    ∙ bind_is (action_at set server (program, []) (joined (action_words set.tables (program.names ++ (bound binds ++ (grown.0 ++ later))) (length program.names) action) ∷ tail)) then_ (next, tail) (Some (out, rest)) one.0
-    (ap (λ n. parts goes_action (action_at set server) 15 next (raw (action_lines set.tables (names ++ later) n actions) ++ rest)) (sym count)
+    ap (λ ns. next_action set server (program, []) (joined (action_words set.tables ns (length program.names) action) ∷ tail) >>= then_) whole
+    ∙ bind_is (next_action set server (program, []) (joined (action_words set.tables (program.names ++ (bound binds ++ (grown.0 ++ later))) (length program.names) action) ∷ tail)) then_ (next, tail) (Some (out, rest)) one.0
+    (ap (λ n. parts goes_action (next_action set server) 15 next (raw (action_lines set.tables (names ++ later) n actions) ++ rest)) (sym count)
     ∙ actions_again set server (with_name program binds) (action ∷ []) actions names later 15 rest
     (subst (λ (p : Place). FitActions p actions names) (sym same_place) fit.4) (subst IsOpen (sym same_place) (open_next place action binds open_ fit.3)) few left stops
     ∙ ap (λ (p : PlainProgram). let o : PlainProgram × List Action = (p, action ∷ actions) in Some (o, rest)) (names_over program binds names))
@@ -83,20 +84,20 @@ first_again set server program action actions names later rest fit open_ left st
 pub hop_again : (set : PlainSet) (program : PlainProgram) (server : ℕ) (actions : List Action) (names later rest : List (List ℕ))
     → set.servers ≤ 16 → length program.hops < 8 → server < set.servers → 0 < length actions → FitActions (place_in set server program []) actions names
     → IsOpen (place_in set server program []) → IsMore rest → goes_action rest ≡ false
-    → hop_at set program (joined (codes "hop" ∷ decimal server ∷ []) ∷ raw (action_lines set.tables (names ++ later) (length program.names) actions) ++ rest) ≡ Some (with_hop program (record { server = server; actions = actions }) names, rest)
-unfolding hop_at
+    → next_hop set program (joined (codes "hop" ∷ decimal server ∷ []) ∷ raw (action_lines set.tables (names ++ later) (length program.names) actions) ++ rest) ≡ Some (with_hop program (record { server = server; actions = actions }) names, rest)
+unfolding next_hop
 hop_again set program server [] names later rest limit few known some fit open_ left stops = absurd (omega arith)
 hop_again set program server (action ∷ actions) names later rest limit few known some fit open_ left stops =
     let tail : List (List ℕ) = raw (action_lines set.tables (names ++ later) (length program.names) (action ∷ actions)) ++ rest in
     let words : List (List ℕ) = codes "hop" ∷ decimal server ∷ [] in
     let done : ℕ → (PlainProgram × List Action) × List (List ℕ) → Option (PlainProgram × List (List ℕ)) = λ s r. Some (record r.0.0 { hops = r.0.0.hops ++ (record { server = s; actions = r.0.1 }) ∷ [] }, r.1) in
     let out : PlainProgram = with_hop program (record { server = server; actions = action ∷ actions }) names in
-    bind_is (words_at (joined words ∷ tail)) (λ w. hop_line set.servers (length program.hops) w.0 >>= λ s. action_at set s (program, []) w.1 >>= λ f. parts goes_action (action_at set s) (16 - length f.0.1) f.0 f.1 >>= done s) (words, tail) (Some (out, rest))
-    (words_at_again words tail (hop_words server (omega arith)) (record { first = joined (action_words set.tables (names ++ later) (length program.names) action); others = raw (action_lines set.tables (names ++ later) (length program.names + bound_names action) actions) ++ rest; is = refl }))
-    (bind_is (hop_line set.servers (length program.hops) words) (λ s. action_at set s (program, []) tail >>= λ f. parts goes_action (action_at set s) (16 - length f.0.1) f.0 f.1 >>= done s) server (Some (out, rest))
+    bind_is (next_words (joined words ∷ tail)) (λ w. hop_line set.servers (length program.hops) w.0 >>= λ s. next_action set s (program, []) w.1 >>= λ f. parts goes_action (next_action set s) (16 - length f.0.1) f.0 f.1 >>= done s) (words, tail) (Some (out, rest))
+    (next_words_again words tail (hop_words server (omega arith)) (record { first = joined (action_words set.tables (names ++ later) (length program.names) action); others = raw (action_lines set.tables (names ++ later) (length program.names + bound_names action) actions) ++ rest; is = refl }))
+    (bind_is (hop_line set.servers (length program.hops) words) (λ s. next_action set s (program, []) tail >>= λ f. parts goes_action (next_action set s) (16 - length f.0.1) f.0 f.1 >>= done s) server (Some (out, rest))
     (hop_line_again set.servers (length program.hops) server few known (omega arith))
-    (bind_bind (action_at set server (program, []) tail) (λ f. parts goes_action (action_at set server) (16 - length f.0.1) f.0 f.1) (done server)
-    ∙ bind_is (action_at set server (program, []) tail >>= λ f. parts goes_action (action_at set server) (16 - length f.0.1) f.0 f.1) (done server) ((record program { names = names }, action ∷ actions), rest) (Some (out, rest))
+    (bind_bind (next_action set server (program, []) tail) (λ f. parts goes_action (next_action set server) (16 - length f.0.1) f.0 f.1) (done server)
+    ∙ bind_is (next_action set server (program, []) tail >>= λ f. parts goes_action (next_action set server) (16 - length f.0.1) f.0 f.1) (done server) ((record program { names = names }, action ∷ actions), rest) (Some (out, rest))
     (first_again set server program action actions names later rest fit open_ left stops) refl))
 
 -- the names that hops leave begin with those that were known
@@ -134,7 +135,7 @@ hop_goes server below fits = begins_again (codes "hop") (decimal server ∷ []) 
 one_hop : (set : PlainSet) (program : PlainProgram) (hop : PlainHop) (hops : List PlainHop) (after later rest : List (List ℕ))
     → set.servers ≤ 16 → Known set.tables → Known program.names → program.parameters ≤ length program.names → FitHops set program (hop ∷ hops) after → IsMore rest → goes_action rest ≡ false
     → (names : List (List ℕ)) × (fit : FitHops set (with_hop program hop names) hops after) × Known names × (program.parameters ≤ length names)
-    × (hop_at set program (raw (lines_of_hops set.tables (after ++ later) (length program.names) (hop ∷ hops)) ++ rest) ≡ Some (with_hop program hop names, raw (lines_of_hops set.tables (after ++ later) (length names) hops) ++ rest))
+    × (next_hop set program (raw (lines_of_hops set.tables (after ++ later) (length program.names) (hop ∷ hops)) ++ rest) ≡ Some (with_hop program hop names, raw (lines_of_hops set.tables (after ++ later) (length names) hops) ++ rest))
 one_hop set program hop hops after later rest limit tables known enough fit left stops =
     let names : List (List ℕ) = fit.3 in
     let place = place_in set hop.server program [] in
@@ -150,7 +151,7 @@ one_hop set program hop hops after later rest limit tables known enough fit left
       fit.5,
       known_after place hop.actions names fit.4 known,
       omega (arith, ap length grown.1, length-append program.names grown.0),
-      ap (hop_at set program) (ap (λ ls. ls ++ rest) (map-append joined (own_lines (after ++ later)) (others (length program.names + bound_in hop.actions)))
+      ap (next_hop set program) (ap (λ ls. ls ++ rest) (map-append joined (own_lines (after ++ later)) (others (length program.names + bound_in hop.actions)))
           ∙ append_assoc (raw (own_lines (after ++ later))) (raw (others (length program.names + bound_in hop.actions))) rest
           ∙ ap (λ n. raw (own_lines (after ++ later)) ++ (raw (others n) ++ rest)) (sym count)
           ∙ ap (λ ns. raw (own_lines ns) ++ tail) whole)
@@ -162,9 +163,9 @@ one_hop set program hop hops after later rest limit tables known enough fit left
 pub hops_again : (set : PlainSet) (program : PlainProgram) (hops : List PlainHop) (after later : List (List ℕ)) (room : ℕ) (rest : List (List ℕ))
     → set.servers ≤ 16 → Known set.tables → Known program.names → program.parameters ≤ length program.names → FitHops set program hops after → length hops ≤ room
     → IsMore rest → goes_action rest ≡ false → goes_hop rest ≡ false
-    → parts goes_hop (hop_at set) room program (raw (lines_of_hops set.tables (after ++ later) (length program.names) hops) ++ rest) ≡ Some (record program { names = after; hops = program.hops ++ hops }, rest)
+    → parts goes_hop (next_hop set) room program (raw (lines_of_hops set.tables (after ++ later) (length program.names) hops) ++ rest) ≡ Some (record program { names = after; hops = program.hops ++ hops }, rest)
 hops_again set program [] after later room rest limit tables known enough fit few left stops ends =
-    parts_stop goes_hop (hop_at set) room program rest ends
+    parts_stop goes_hop (next_hop set) room program rest ends
     ∙ ap (λ (names : List (List ℕ)). let p : PlainProgram = record program { names = names } in Some (p, rest)) fit
     ∙ ap (λ (hops : List PlainHop). let p : PlainProgram = record program { names = after; hops = hops } in Some (p, rest)) (sym (append-nil program.hops))
 hops_again set program (hop ∷ hops) after later zero rest limit tables known enough fit few left stops ends = absurd (omega arith)
@@ -172,7 +173,7 @@ hops_again set program (hop ∷ hops) after later (suc room) rest limit tables k
     let one = one_hop set program hop hops after later rest limit tables known enough fit left stops in
     let next : PlainProgram = with_hop program hop one.0 in
     let below : List (List ℕ) = raw (action_lines set.tables (after ++ later) (length program.names) hop.actions ++ lines_of_hops set.tables (after ++ later) (length program.names + bound_in hop.actions) hops) ++ rest in
-    parts_step goes_hop (hop_at set) room program next (raw (lines_of_hops set.tables (after ++ later) (length program.names) (hop ∷ hops)) ++ rest) (raw (lines_of_hops set.tables (after ++ later) (length one.0) hops) ++ rest)
+    parts_step goes_hop (next_hop set) room program next (raw (lines_of_hops set.tables (after ++ later) (length program.names) (hop ∷ hops)) ++ rest) (raw (lines_of_hops set.tables (after ++ later) (length one.0) hops) ++ rest)
     (hop_goes hop.server below (omega (arith, fit.1))) one.4
     ∙ hops_again set next hops after later room rest limit tables one.2 one.3 one.1 (omega arith) left stops ends
     ∙ ap (λ (hops : List PlainHop). let p : PlainProgram = record program { names = after; hops = hops } in Some (p, rest)) (append_assoc program.hops (hop ∷ []) hops)
@@ -239,7 +240,7 @@ start names = record { parameters = length names; names = names; hops = [] }
 -- all hops of a program, the first of which has to be there
 all_hops : (set : PlainSet) (names : List (List ℕ)) (hops : List PlainHop) (after rest : List (List ℕ))
     → set.servers ≤ 16 → Known set.tables → Known names → FitHops set (start names) hops after → 0 < length hops → IsMore rest → goes_action rest ≡ false → goes_hop rest ≡ false
-    → (hop_at set (start names) (raw (lines_of_hops set.tables after (length names) hops) ++ rest) >>= λ f. parts goes_hop (hop_at set) (8 - length f.0.hops) f.0 f.1)
+    → (next_hop set (start names) (raw (lines_of_hops set.tables after (length names) hops) ++ rest) >>= λ f. parts goes_hop (next_hop set) (8 - length f.0.hops) f.0 f.1)
     ≡ Some ((record { parameters = length names; names = after; hops = hops }), rest)
 all_hops set names [] after rest limit tables known fit some left stops ends = absurd (omega arith)
 all_hops set names (hop ∷ hops) after rest limit tables known fit some left stops ends =
@@ -247,18 +248,18 @@ all_hops set names (hop ∷ hops) after rest limit tables known fit some left st
     let next : PlainProgram = with_hop (start names) hop one.0 in
     let tail : List (List ℕ) = raw (lines_of_hops set.tables (after ++ []) (length one.0) hops) ++ rest in
     let out : PlainProgram = record { parameters = length names; names = after; hops = hop ∷ hops } in
-    let then_ : PlainProgram × List (List ℕ) → Option (PlainProgram × List (List ℕ)) = λ f. parts goes_hop (hop_at set) (8 - length f.0.hops) f.0 f.1 in
+    let then_ : PlainProgram × List (List ℕ) → Option (PlainProgram × List (List ℕ)) = λ f. parts goes_hop (next_hop set) (8 - length f.0.hops) f.0 f.1 in
     let few : length hops ≤ 7 = omega (arith, few_hops set (start names) (hop ∷ hops) after fit (omega arith)) in
-    ap (λ ns. hop_at set (start names) (raw (lines_of_hops set.tables ns (length names) (hop ∷ hops)) ++ rest) >>= then_) (sym (append-nil after))
-    ∙ bind_is (hop_at set (start names) (raw (lines_of_hops set.tables (after ++ []) (length names) (hop ∷ hops)) ++ rest)) then_ (next, tail) (Some (out, rest)) one.4
+    ap (λ ns. next_hop set (start names) (raw (lines_of_hops set.tables ns (length names) (hop ∷ hops)) ++ rest) >>= then_) (sym (append-nil after))
+    ∙ bind_is (next_hop set (start names) (raw (lines_of_hops set.tables (after ++ []) (length names) (hop ∷ hops)) ++ rest)) then_ (next, tail) (Some (out, rest)) one.4
     (hops_again set next hops after [] 7 rest limit tables one.2 one.3 one.1 few left stops ends)
 
 -- one program
 program_read : (set : PlainSet) (name : List ℕ) (names : List (List ℕ)) (hops : List PlainHop) (after rest : List (List ℕ))
     → set.servers ≤ 16 → Known set.tables → length set.programs < 64 → IsNew (map (λ named. named.0) set.programs) name → length names ≤ 8 → AreNew [] names → FitHops set (start names) hops after → 0 < length hops → IsMore rest
-    → program_at set (joined (codes "program" ∷ name ∷ names) ∷ raw (lines_of_hops set.tables after (length names) hops) ++ joined end_words ∷ rest)
+    → next_program set (joined (codes "program" ∷ name ∷ names) ∷ raw (lines_of_hops set.tables after (length names) hops) ++ joined end_words ∷ rest)
     ≡ Some (with_program set (name, record { parameters = length names; names = after; hops = hops }), rest)
-unfolding program_at
+unfolding next_program
 program_read set name names hops after rest limit tables room new few parameters fit some left =
     let known : List (List ℕ) = map (λ named. named.0) set.programs in
     let words : List (List ℕ) = codes "program" ∷ name ∷ names in
@@ -267,17 +268,17 @@ program_read set name names hops after rest limit tables room new few parameters
     let tail : List (List ℕ) = raw (lines_of_hops set.tables after (length names) hops) ++ below in
     let made : PlainProgram = record { parameters = length names; names = after; hops = hops } in
     let out : PlainSet = with_program set (name, made) in
-    let end_of : List ℕ → PlainProgram × List (List ℕ) → Option (PlainSet × List (List ℕ)) = λ name r. words_at r.1 >>= λ last. end_line last.0 >>= λ ok. Some (record set { programs = set.programs ++ (name, r.0) ∷ [] }, last.1) in
+    let end_of : List ℕ → PlainProgram × List (List ℕ) → Option (PlainSet × List (List ℕ)) = λ name r. next_words r.1 >>= λ last. end_line last.0 >>= λ ok. Some (record set { programs = set.programs ++ (name, r.0) ∷ [] }, last.1) in
     let stops = end_stops rest in
-    bind_is (words_at (joined words ∷ tail)) (λ w. program_line known w.0 >>= λ h. hop_at set (start h.1) w.1 >>= λ f. parts goes_hop (hop_at set) (8 - length f.0.hops) f.0 f.1 >>= end_of h.0) (words, tail) (Some (out, rest))
-    (words_at_again words tail (program_words_are name names known new parameters) (more_behind (lines_of_hops set.tables after (length names) hops) below below_is))
-    (bind_is (program_line known words) (λ h. hop_at set (start h.1) tail >>= λ f. parts goes_hop (hop_at set) (8 - length f.0.hops) f.0 f.1 >>= end_of h.0) (name, names) (Some (out, rest))
+    bind_is (next_words (joined words ∷ tail)) (λ w. program_line known w.0 >>= λ h. next_hop set (start h.1) w.1 >>= λ f. parts goes_hop (next_hop set) (8 - length f.0.hops) f.0 f.1 >>= end_of h.0) (words, tail) (Some (out, rest))
+    (next_words_again words tail (program_words_are name names known new parameters) (more_behind (lines_of_hops set.tables after (length names) hops) below below_is))
+    (bind_is (program_line known words) (λ h. next_hop set (start h.1) tail >>= λ f. parts goes_hop (next_hop set) (8 - length f.0.hops) f.0 f.1 >>= end_of h.0) (name, names) (Some (out, rest))
     (program_line_again known name names (omega (arith, names_count set.programs)) few new parameters)
-    (bind_bind (hop_at set (start names) tail) (λ f. parts goes_hop (hop_at set) (8 - length f.0.hops) f.0 f.1) (end_of name)
-    ∙ bind_is (hop_at set (start names) tail >>= λ f. parts goes_hop (hop_at set) (8 - length f.0.hops) f.0 f.1) (end_of name) (made, below) (Some (out, rest))
+    (bind_bind (next_hop set (start names) tail) (λ f. parts goes_hop (next_hop set) (8 - length f.0.hops) f.0 f.1) (end_of name)
+    ∙ bind_is (next_hop set (start names) tail >>= λ f. parts goes_hop (next_hop set) (8 - length f.0.hops) f.0 f.1) (end_of name) (made, below) (Some (out, rest))
     (all_hops set names hops after below limit tables (known_new [] names none_known parameters) fit some below_is stops.0 stops.1)
-    (bind_is (words_at below) (λ last. end_line last.0 >>= λ ok. Some (record set { programs = set.programs ++ (name, made) ∷ [] }, last.1)) (end_words, rest) (Some (out, rest))
-    (words_at_again end_words rest end_are left) refl)))
+    (bind_is (next_words below) (λ last. end_line last.0 >>= λ ok. Some (record set { programs = set.programs ++ (name, made) ∷ [] }, last.1)) (end_words, rest) (Some (out, rest))
+    (next_words_again end_words rest end_are left) refl)))
 
 pub spelled_parameters : (set : PlainSet) (program : PlainProgram) (fit : FitsProgram set program) → take program.parameters program.names ≡ fit.parameters
 spelled_parameters set program fit =
@@ -287,11 +288,11 @@ spelled_parameters set program fit =
 
 pub program_again : (set : PlainSet) (program : List ℕ × PlainProgram) (rest : List (List ℕ))
     → set.servers ≤ 16 → Known set.tables → length set.programs < 64 → IsNew (map (λ named. named.0) set.programs) program.0 → FitsProgram set program.1 → IsMore rest
-    → program_at set (raw (lines_of_program set.tables program) ++ rest) ≡ Some (with_program set program, rest)
+    → next_program set (raw (lines_of_program set.tables program) ++ rest) ≡ Some (with_program set program, rest)
 program_again set (name, program) rest limit tables room new fit left =
     let names : List (List ℕ) = fit.parameters in
     let lines : ℕ → List (List (List ℕ)) = λ n. lines_of_hops set.tables program.names n program.hops in
-    ap (program_at set) (ap (λ ps. joined (codes "program" ∷ name ∷ ps) ∷ raw (lines program.parameters ++ end_words ∷ []) ++ rest) (spelled_parameters set program fit)
+    ap (next_program set) (ap (λ ps. joined (codes "program" ∷ name ∷ ps) ∷ raw (lines program.parameters ++ end_words ∷ []) ++ rest) (spelled_parameters set program fit)
     ∙ ap (λ n. joined (codes "program" ∷ name ∷ names) ∷ raw (lines n ++ end_words ∷ []) ++ rest) fit.count
     ∙ ap (λ ls. joined (codes "program" ∷ name ∷ names) ∷ ls ++ rest) (map-append joined (lines (length names)) (end_words ∷ []))
     ∙ ap (λ ls. joined (codes "program" ∷ name ∷ names) ∷ ls) (append_assoc (raw (lines (length names))) (joined end_words ∷ []) rest))
@@ -316,19 +317,19 @@ over_is = record { first = []; others = []; is = refl }
 -- the programs that are left of a set
 pub programs_again : (set : PlainSet) (programs : List (List ℕ × PlainProgram)) (room : ℕ)
     → set.servers ≤ 16 → Known set.tables → FitPrograms set programs → length programs ≤ room
-    → parts goes_program program_at room set (raw (lines_of_programs set.tables programs) ++ over) ≡ Some (record set { programs = set.programs ++ programs }, over)
+    → parts goes_program next_program room set (raw (lines_of_programs set.tables programs) ++ over) ≡ Some (record set { programs = set.programs ++ programs }, over)
 programs_again set [] room limit tables fit few =
-    parts_stop goes_program program_at room set over refl
+    parts_stop goes_program next_program room set over refl
     ∙ ap (λ (programs : List (List ℕ × PlainProgram)). let s : PlainSet = record set { programs = programs } in Some (s, over)) (sym (append-nil set.programs))
 programs_again set (program ∷ programs) zero limit tables fit few = absurd (omega arith)
 programs_again set (program ∷ programs) (suc room) limit tables fit few =
     let tail : List (List ℕ) = raw (lines_of_programs set.tables programs) ++ over in
     let lines : List (List ℕ) = raw (lines_of_program set.tables program) ++ tail in
     let next : PlainSet = with_program set program in
-    ap (parts goes_program program_at (suc room) set)
+    ap (parts goes_program next_program (suc room) set)
     (ap (λ ls. ls ++ over) (map-append joined (lines_of_program set.tables program) (lines_of_programs set.tables programs))
     ∙ append_assoc (raw (lines_of_program set.tables program)) (raw (lines_of_programs set.tables programs)) over)
-    ∙ parts_step goes_program program_at room set next lines tail (program_begins set program set.tables tail (codes "program") fit.1 fit.2 ∙ same)
+    ∙ parts_step goes_program next_program room set next lines tail (program_begins set program set.tables tail (codes "program") fit.1 fit.2 ∙ same)
     (program_again set program tail limit tables fit.0 fit.1 fit.2 (more_behind (lines_of_programs set.tables programs) over over_is))
     ∙ programs_again next programs room limit tables fit.3 (omega arith)
     ∙ ap (λ (programs : List (List ℕ × PlainProgram)). let s : PlainSet = record set { programs = programs } in Some (s, over)) (append_assoc set.programs (program ∷ []) programs)

@@ -10,20 +10,21 @@ use Rattle.std.proofs.lemmas.List.Splits.{slice_split_at}
 use Rattle.lynx_shards.specs.declared.shard.Shard.{Shard}
 use Rattle.lynx_set.specs.declared.action.Action.{Action}
 use Rattle.lynx_words.specs.Digits.{read_number}
-use Rattle.lynx_words.specs.Lines.{◌>>=◌, is_feed, is_printable, words_at, begins, AreWords, one_after, ends, after_version, only_if, joined}
+use Rattle.lynx_words.specs.Lines.{◌>>=◌, is_feed, is_printable, AreWords, only_if, joined}
+use Rattle.lynx_text.specs.Pieces.{next_words, begins, one_after, ends, after_version}
 use Rattle.lynx_set.specs.Standing.{place_in}
-use Rattle.lynx_text.specs.Parts.{servers_of, parts, goes_table, table_at, goes_program, program_at, set_at, lines_at, read_text}
+use Rattle.lynx_text.specs.Parts.{servers_of, parts, goes_table, next_table, goes_program, next_program, set_at, lines_at, read_text}
 use Rattle.lynx_set.specs.Plain.{PlainHop, PlainProgram, PlainSet, plain_set}
 use Rattle.lynx_set.specs.Standing.{Place}
 use Rattle.lynx_set.specs.Rules.{IsNew, bound, next_place, FitActions, FitHops, with_hop, FitsProgram, FitPrograms, with_program, FitShards, FitTables, with_table, no_tables, no_programs, IsPlainSet}
 use Rattle.lynx_set.specs.Set.{Set}
 use Rattle.lynx_set.specs.Text.{text, bound_names, bound_in, action_words, action_lines, shard_words, tables_lines, text_of}
-use Rattle.lynx_words.specs.WordLaws.{and_true, both_true, number-word, printable-joined}
-use Rattle.lynx_words.specs.NumberLaws.{number_again}
+use Rattle.lynx_words.proofs.WordLaws.{and_true, both_true, number-word, printable-joined}
+use Rattle.lynx_words.proofs.NumberLaws.{number_again}
 use Rattle.lynx_text.proofs.Known.{bind_is, only_if_yes, Known, none_known}
 use Rattle.lynx_text.proofs.ActionsAgain.{IsOpen, action_again}
 use Rattle.lynx_text.proofs.Hops.{raw, binds-count, count_actions, lines_of_hops}
-use Rattle.lynx_text.proofs.HopsAgain.{IsMore, more_behind, words_at_again, open_next, grown_names, known_after}
+use Rattle.lynx_text.proofs.HopsAgain.{IsMore, more_behind, next_words_again, open_next, grown_names, known_after}
 use Rattle.lynx_text.proofs.Programs.{lines_of_program, lines_of_programs}
 use Rattle.lynx_text.proofs.ProgramsAgain.{one_after_again, two_words, hop_words, grown_by_hops, known_new, program_words_are, end_are, spelled_parameters, program_begins, over_is, programs_again, few_programs}
 use Rattle.lynx_text.proofs.TablesAgain.{shard_words_are, table_words_are, tables_again, few_tables, tables_known}
@@ -165,14 +166,14 @@ set_again set is =
     let none : PlainSet = no_tables set.servers in
     let filled : PlainSet = no_programs set in
     ap (λ ls. set_at (joined words ∷ ls)) (ap (λ ls. ls ++ over) (map-append joined rows others) ∙ append_assoc (raw rows) (raw others) over)
-    ∙ bind_is (words_at (joined words ∷ tail)) (λ w. servers_of w.0 >>= λ n. parts goes_table table_at 64 (no_tables n) w.1 >>= λ t. parts goes_program program_at 64 t.0 t.1 >>= λ p. only_if (ends p.1) p.0) (words, tail) (Some set)
-    (words_at_again words tail (servers_words set.servers is.1) (more_behind rows below below_is))
-    (bind_is (servers_of words) (λ n. parts goes_table table_at 64 (no_tables n) tail >>= λ t. parts goes_program program_at 64 t.0 t.1 >>= λ p. only_if (ends p.1) p.0) set.servers (Some set)
+    ∙ bind_is (next_words (joined words ∷ tail)) (λ w. servers_of w.0 >>= λ n. parts goes_table next_table 64 (no_tables n) w.1 >>= λ t. parts goes_program next_program 64 t.0 t.1 >>= λ p. only_if (ends p.1) p.0) (words, tail) (Some set)
+    (next_words_again words tail (servers_words set.servers is.1) (more_behind rows below below_is))
+    (bind_is (servers_of words) (λ n. parts goes_table next_table 64 (no_tables n) tail >>= λ t. parts goes_program next_program 64 t.0 t.1 >>= λ p. only_if (ends p.1) p.0) set.servers (Some set)
     (servers_again set.servers is.0 is.1)
-    (bind_is (parts goes_table table_at 64 none tail) (λ t. parts goes_program program_at 64 t.0 t.1 >>= λ p. only_if (ends p.1) p.0) (filled, below) (Some set)
+    (bind_is (parts goes_table next_table 64 none tail) (λ t. parts goes_program next_program 64 t.0 t.1 >>= λ p. only_if (ends p.1) p.0) (filled, below) (Some set)
     (tables_again none set.tables set.shards 64 below is.1 is.2 (omega (arith, few_tables none set.tables set.shards is.2 (omega arith))) below_is
     (programs_stop filled set.programs (codes "shard") is.3 refl refl) (programs_stop filled set.programs (codes "table") is.3 refl refl))
-    (bind_is (parts goes_program program_at 64 filled below) (λ p. only_if (ends p.1) p.0) (set, over) (Some set)
+    (bind_is (parts goes_program next_program 64 filled below) (λ p. only_if (ends p.1) p.0) (set, over) (Some set)
     (programs_again filled set.programs 64 is.1 (known_tables set is) is.3 (omega (arith, few_programs filled set.programs is.3 (omega arith)))) refl)))
 
 -- what a set spells is read as that set

@@ -10,18 +10,19 @@ use Rattle.lynx_shards.specs.declared.range.Range.{Range}
 use Rattle.lynx_shards.specs.declared.shard.Shard.{Shard}
 use Rattle.lynx_shards.specs.Ranges.{range_fault, last_key, next_key, shard_of}
 use Rattle.lynx_words.specs.Digits.{read_number}
-use Rattle.lynx_words.specs.Lines.{◌>>=◌, words_at, one_after, only_if, joined}
-use Rattle.lynx_text.specs.Parts.{parts, shard_line, shard_at, goes_shard, table_line, table_at, goes_table}
+use Rattle.lynx_words.specs.Lines.{◌>>=◌, only_if, joined}
+use Rattle.lynx_text.specs.Pieces.{next_words, one_after}
+use Rattle.lynx_text.specs.Parts.{parts, shard_line, next_shard, goes_shard, table_line, next_table, goes_table}
 use Rattle.lynx_set.specs.Plain.{PlainSet}
 use Rattle.lynx_set.specs.Names.{place_of}
 use Rattle.lynx_text.specs.Reading.{name_of}
 use Rattle.lynx_set.specs.Rules.{IsNew, FitShards, FitTables, with_table}
 use Rattle.lynx_set.specs.Text.{shard_words, table_lines, tables_lines}
 use Rattle.lynx_words.specs.Word.{is_name}
-use Rattle.lynx_words.specs.NumberLaws.{number_takes}
+use Rattle.lynx_words.proofs.NumberLaws.{number_takes}
 use Rattle.lynx_text.proofs.Lookups.{bind_some, only_if_some, choose, both, both_is}
-use Rattle.lynx_text.proofs.Hops.{raw, words_at_take, one_take}
-use Rattle.lynx_words.specs.Equal.{some_is, none_some}
+use Rattle.lynx_text.proofs.Hops.{raw, next_words_take, one_take}
+use Rattle.lynx_words.proofs.Equal.{some_is, none_some}
 
 -- the words of a shard's line
 pub record RangeRead (count : ℕ) (range : Range) (words : List (List ℕ)) : Type 0 where
@@ -76,16 +77,16 @@ pub record ShardRead (servers : ℕ) (shards : List Shard) (lines : List (List �
   pub leaves : out ≡ shards ++ shard ∷ []
   pub spelled : lines ≡ joined (shard_words shard) ∷ rest
 
-shard_at_take : (servers : ℕ) (shards : List Shard) (lines : List (List ℕ)) (out : List Shard) (rest : List (List ℕ)) → shard_at servers shards lines ≡ Some (out, rest) → ShardRead servers shards lines out rest
-unfolding shard_at
-shard_at_take servers shards lines out rest e =
-    let s_w = bind_some (words_at lines) (λ w. shard_line (length shards) w.0 >>= λ r. only_if {X = Unit {0}} (is_none (range_fault servers (last_key None shards) r.low r.high r.server)) tt >>= λ ok. both (shards ++ shard_of r ∷ []) w.1) (out, rest) e in
+next_shard_take : (servers : ℕ) (shards : List Shard) (lines : List (List ℕ)) (out : List Shard) (rest : List (List ℕ)) → next_shard servers shards lines ≡ Some (out, rest) → ShardRead servers shards lines out rest
+unfolding next_shard
+next_shard_take servers shards lines out rest e =
+    let s_w = bind_some (next_words lines) (λ w. shard_line (length shards) w.0 >>= λ r. only_if {X = Unit {0}} (is_none (range_fault servers (last_key None shards) r.low r.high r.server)) tt >>= λ ok. both (shards ++ shard_of r ∷ []) w.1) (out, rest) e in
     let s_r = bind_some (shard_line (length shards) s_w.0.0) (λ r. only_if {X = Unit {0}} (is_none (range_fault servers (last_key None shards) r.low r.high r.server)) tt >>= λ ok. both (shards ++ shard_of r ∷ []) s_w.0.1) (out, rest) s_w.2 in
     let range = s_r.0 in
     let s_ok = bind_some (only_if {X = Unit {0}} (is_none (range_fault servers (last_key None shards) range.low range.high range.server)) tt) (λ ok. both (shards ++ shard_of range ∷ []) s_w.0.1) (out, rest) s_r.2 in
     let same = both_is (shards ++ shard_of range ∷ []) out s_w.0.1 rest s_ok.2 in
     let line = shard_line_take (length shards) s_w.0.0 range s_r.1 in
-    let next = words_at_take lines s_w.0.0 s_w.0.1 s_w.1 in
+    let next = next_words_take lines s_w.0.0 s_w.0.1 s_w.1 in
     let right = faultless servers (last_key None shards) range.low range.high range.server (none_is (range_fault servers (last_key None shards) range.low range.high range.server) (only_if_some (is_none (range_fault servers (last_key None shards) range.low range.high range.server)) tt s_ok.0 s_ok.1).0) in
     record {
       shard = shard_of range;
@@ -129,7 +130,7 @@ more_shards servers shards lines mid next out rest first later =
       spelled = first.spelled ∙ ap (λ m. joined (shard_words first.shard) ∷ m) moved.spelled;
     }
 
-shards_take : (room servers : ℕ) (shards : List Shard) (lines : List (List ℕ)) (out : List Shard) (rest : List (List ℕ)) → parts goes_shard (shard_at servers) room shards lines ≡ Some (out, rest) → ShardsLeft servers shards lines out rest
+shards_take : (room servers : ℕ) (shards : List Shard) (lines : List (List ℕ)) (out : List Shard) (rest : List (List ℕ)) → parts goes_shard (next_shard servers) room shards lines ≡ Some (out, rest) → ShardsLeft servers shards lines out rest
 unfolding parts
 shards_take zero servers shards lines out rest e =
     elim (choose (goes_shard lines) None (Some (shards, lines)) (Some (out, rest)) e) [
@@ -137,10 +138,10 @@ shards_take zero servers shards lines out rest e =
       | inr p ↦ no_shards_left servers shards lines out rest p.1
     ]
 shards_take (suc room) servers shards lines out rest e =
-    elim (choose (goes_shard lines) (shard_at servers shards lines >>= λ n. parts goes_shard (shard_at servers) room n.0 n.1) (Some (shards, lines)) (Some (out, rest)) e) [
+    elim (choose (goes_shard lines) (next_shard servers shards lines >>= λ n. parts goes_shard (next_shard servers) room n.0 n.1) (Some (shards, lines)) (Some (out, rest)) e) [
       | inl p ↦
-          let step = bind_some (shard_at servers shards lines) (λ n. parts goes_shard (shard_at servers) room n.0 n.1) (out, rest) p.1 in
-          more_shards servers shards lines step.0.1 step.0.0 out rest (shard_at_take servers shards lines step.0.0 step.0.1 step.1) (shards_take room servers step.0.0 step.0.1 out rest step.2)
+          let step = bind_some (next_shard servers shards lines) (λ n. parts goes_shard (next_shard servers) room n.0 n.1) (out, rest) p.1 in
+          more_shards servers shards lines step.0.1 step.0.0 out rest (next_shard_take servers shards lines step.0.0 step.0.1 step.1) (shards_take room servers step.0.0 step.0.1 out rest step.2)
       | inr p ↦ no_shards_left servers shards lines out rest p.1
     ]
 
@@ -178,16 +179,16 @@ table_line_take tables words name e =
     none_is None h = refl
     none_is (Some x) h = absurd cc
 
-table_at_take : (set : PlainSet) (lines : List (List ℕ)) (out : PlainSet) (rest : List (List ℕ)) → table_at set lines ≡ Some (out, rest) → TableRead set lines out rest
-unfolding table_at
-table_at_take set lines out rest e =
-    let s_w = bind_some (words_at lines) (λ w. table_line set.tables w.0 >>= λ n. parts goes_shard (shard_at set.servers) 64 [] w.1 >>= λ r. only_if {X = Unit {0}} (eqb (next_key (last_key None r.0)) (2 ^ 64)) tt >>= λ ok. both (with_table set n r.0) r.1) (out, rest) e in
-    let s_n = bind_some (table_line set.tables s_w.0.0) (λ n. parts goes_shard (shard_at set.servers) 64 [] s_w.0.1 >>= λ r. only_if {X = Unit {0}} (eqb (next_key (last_key None r.0)) (2 ^ 64)) tt >>= λ ok. both (with_table set n r.0) r.1) (out, rest) s_w.2 in
-    let s_r = bind_some (parts goes_shard (shard_at set.servers) 64 [] s_w.0.1) (λ r. only_if {X = Unit {0}} (eqb (next_key (last_key None r.0)) (2 ^ 64)) tt >>= λ ok. both (with_table set s_n.0 r.0) r.1) (out, rest) s_n.2 in
+next_table_take : (set : PlainSet) (lines : List (List ℕ)) (out : PlainSet) (rest : List (List ℕ)) → next_table set lines ≡ Some (out, rest) → TableRead set lines out rest
+unfolding next_table
+next_table_take set lines out rest e =
+    let s_w = bind_some (next_words lines) (λ w. table_line set.tables w.0 >>= λ n. parts goes_shard (next_shard set.servers) 64 [] w.1 >>= λ r. only_if {X = Unit {0}} (eqb (next_key (last_key None r.0)) (2 ^ 64)) tt >>= λ ok. both (with_table set n r.0) r.1) (out, rest) e in
+    let s_n = bind_some (table_line set.tables s_w.0.0) (λ n. parts goes_shard (next_shard set.servers) 64 [] s_w.0.1 >>= λ r. only_if {X = Unit {0}} (eqb (next_key (last_key None r.0)) (2 ^ 64)) tt >>= λ ok. both (with_table set n r.0) r.1) (out, rest) s_w.2 in
+    let s_r = bind_some (parts goes_shard (next_shard set.servers) 64 [] s_w.0.1) (λ r. only_if {X = Unit {0}} (eqb (next_key (last_key None r.0)) (2 ^ 64)) tt >>= λ ok. both (with_table set s_n.0 r.0) r.1) (out, rest) s_n.2 in
     let s_ok = bind_some (only_if {X = Unit {0}} (eqb (next_key (last_key None s_r.0.0)) (2 ^ 64)) tt) (λ ok. both (with_table set s_n.0 s_r.0.0) s_r.0.1) (out, rest) s_r.2 in
     let same = both_is (with_table set s_n.0 s_r.0.0) out s_r.0.1 rest s_ok.2 in
     let line = table_line_take set.tables s_w.0.0 s_n.0 s_n.1 in
-    let next = words_at_take lines s_w.0.0 s_w.0.1 s_w.1 in
+    let next = next_words_take lines s_w.0.0 s_w.0.1 s_w.1 in
     let left = shards_take 64 set.servers [] s_w.0.1 s_r.0.0 s_r.0.1 s_r.1 in
     let whole : next_key (last_key None s_r.0.0) ≡ 2 ^ 64 = eqb-true _ _ (only_if_some (eqb (next_key (last_key None s_r.0.0)) (2 ^ 64)) tt s_ok.0 s_ok.1).0 in
     record {
@@ -236,7 +237,7 @@ more_tables set lines mid next out rest first later =
           ∙ ap (λ ls. ls ++ rest) (sym (map-append joined (table_lines first.name first.shards) (tables_lines moved.names moved.tables)));
     }
 
-pub tables_take : (room : ℕ) (set : PlainSet) (lines : List (List ℕ)) (out : PlainSet) (rest : List (List ℕ)) → parts goes_table table_at room set lines ≡ Some (out, rest) → TablesLeft set lines out rest
+pub tables_take : (room : ℕ) (set : PlainSet) (lines : List (List ℕ)) (out : PlainSet) (rest : List (List ℕ)) → parts goes_table next_table room set lines ≡ Some (out, rest) → TablesLeft set lines out rest
 unfolding parts
 tables_take zero set lines out rest e =
     elim (choose (goes_table lines) None (Some (set, lines)) (Some (out, rest)) e) [
@@ -244,9 +245,9 @@ tables_take zero set lines out rest e =
       | inr p ↦ no_tables_left set lines out rest p.1
     ]
 tables_take (suc room) set lines out rest e =
-    elim (choose (goes_table lines) (table_at set lines >>= λ n. parts goes_table table_at room n.0 n.1) (Some (set, lines)) (Some (out, rest)) e) [
+    elim (choose (goes_table lines) (next_table set lines >>= λ n. parts goes_table next_table room n.0 n.1) (Some (set, lines)) (Some (out, rest)) e) [
       | inl p ↦
-          let step = bind_some (table_at set lines) (λ n. parts goes_table table_at room n.0 n.1) (out, rest) p.1 in
-          more_tables set lines step.0.1 step.0.0 out rest (table_at_take set lines step.0.0 step.0.1 step.1) (tables_take room step.0.0 step.0.1 out rest step.2)
+          let step = bind_some (next_table set lines) (λ n. parts goes_table next_table room n.0 n.1) (out, rest) p.1 in
+          more_tables set lines step.0.1 step.0.0 out rest (next_table_take set lines step.0.0 step.0.1 step.1) (tables_take room step.0.0 step.0.1 out rest step.2)
       | inr p ↦ no_tables_left set lines out rest p.1
     ]

@@ -10,20 +10,21 @@ use Rattle.lynx_shards.specs.declared.range.Range.{Range}
 use Rattle.lynx_shards.specs.declared.shard.Shard.{Shard}
 use Rattle.lynx_shards.specs.Ranges.{range_fault, last_key, next_key, shard_of}
 use Rattle.lynx_words.specs.Digits.{read_number}
-use Rattle.lynx_words.specs.Lines.{◌>>=◌, is_word, words_at, AreWords, one_after, only_if, joined}
-use Rattle.lynx_text.specs.Parts.{parts, shard_line, shard_at, goes_shard, table_line, table_at, goes_table}
+use Rattle.lynx_words.specs.Lines.{◌>>=◌, is_word, AreWords, only_if, joined}
+use Rattle.lynx_text.specs.Pieces.{next_words, one_after}
+use Rattle.lynx_text.specs.Parts.{parts, shard_line, next_shard, goes_shard, table_line, next_table, goes_table}
 use Rattle.lynx_set.specs.Plain.{PlainSet}
 use Rattle.lynx_set.specs.Names.{place_of}
 use Rattle.lynx_text.specs.Reading.{name_of}
 use Rattle.lynx_set.specs.Rules.{IsNew, FitShards, FitTables, with_table}
 use Rattle.lynx_set.specs.Text.{shard_words, table_lines, tables_lines}
 use Rattle.lynx_words.specs.Word.{is_name}
-use Rattle.lynx_words.specs.WordLaws.{both_true, name-word, number-word}
-use Rattle.lynx_words.specs.NumberLaws.{number_again}
+use Rattle.lynx_words.proofs.WordLaws.{both_true, name-word, number-word}
+use Rattle.lynx_words.proofs.NumberLaws.{number_again}
 use Rattle.lynx_text.proofs.Lookups.{both}
 use Rattle.lynx_text.proofs.Known.{bind_is, only_if_yes, Known, one_known}
 use Rattle.lynx_text.proofs.Hops.{raw}
-use Rattle.lynx_text.proofs.HopsAgain.{IsMore, more_behind, words_at_again, begins_again, parts_stop, parts_step}
+use Rattle.lynx_text.proofs.HopsAgain.{IsMore, more_behind, next_words_again, begins_again, parts_stop, parts_step}
 use Rattle.lynx_text.proofs.ProgramsAgain.{one_after_again, two_words}
 
 -- a shard that follows these
@@ -56,15 +57,15 @@ no_fault : (servers : ℕ) (before : Option ℕ) (low high server : ℕ) → low
 no_fault servers before low high server begins within known = grind (arith, nat_tests)
 
 shard_again : (servers : ℕ) (before : List Shard) (shard : Shard) (rest : List (List ℕ)) → servers ≤ 16 → Follows servers before shard → IsMore rest
-    → shard_at servers before (joined (shard_words shard) ∷ rest) ≡ Some (before ++ shard ∷ [], rest)
-unfolding shard_at
+    → next_shard servers before (joined (shard_words shard) ∷ rest) ≡ Some (before ++ shard ∷ [], rest)
+unfolding next_shard
 shard_again servers before shard rest limit follows left =
     let range : Range = record { low = shard.low; high = shard.high; server = shard.server } in
     let low : shard.low < 2 ^ 64 = omega (arith, follows.within, follows.high) in
     let server : shard.server < 2 ^ 64 = omega (arith, follows.known) in
     let out : List Shard = before ++ shard ∷ [] in
-    bind_is (words_at (joined (shard_words shard) ∷ rest)) (λ w. shard_line (length before) w.0 >>= λ r. only_if {X = Unit {0}} (is_none (range_fault servers (last_key None before) r.low r.high r.server)) tt >>= λ ok. both (before ++ shard_of r ∷ []) w.1) (shard_words shard, rest) (both out rest)
-    (words_at_again (shard_words shard) rest (shard_words_are shard low follows.high server) left)
+    bind_is (next_words (joined (shard_words shard) ∷ rest)) (λ w. shard_line (length before) w.0 >>= λ r. only_if {X = Unit {0}} (is_none (range_fault servers (last_key None before) r.low r.high r.server)) tt >>= λ ok. both (before ++ shard_of r ∷ []) w.1) (shard_words shard, rest) (both out rest)
+    (next_words_again (shard_words shard) rest (shard_words_are shard low follows.high server) left)
     (bind_is (shard_line (length before) (shard_words shard)) (λ r. only_if {X = Unit {0}} (is_none (range_fault servers (last_key None before) r.low r.high r.server)) tt >>= λ ok. both (before ++ shard_of r ∷ []) rest) range (both out rest)
     (shard_line_again (length before) range follows.room low follows.high server)
     (bind_is (only_if {X = Unit {0}} (is_none (range_fault servers (last_key None before) shard.low shard.high shard.server)) tt) (λ ok. both out rest) tt (both out rest)
@@ -80,15 +81,15 @@ shard_goes shard rest are = begins_again (codes "shard") (decimal shard.low ∷ 
     same = refl
 
 pub shards_again : (servers : ℕ) (before shards : List Shard) (room : ℕ) (rest : List (List ℕ)) → servers ≤ 16 → FitShards servers before shards → length shards ≤ room → IsMore rest → goes_shard rest ≡ false
-    → parts goes_shard (shard_at servers) room before (raw (map shard_words shards) ++ rest) ≡ Some (before ++ shards, rest)
+    → parts goes_shard (next_shard servers) room before (raw (map shard_words shards) ++ rest) ≡ Some (before ++ shards, rest)
 shards_again servers before [] room rest limit fit few left stops =
-    parts_stop goes_shard (shard_at servers) room before rest stops ∙ ap (λ (b : List Shard). both b rest) (sym (append-nil before))
+    parts_stop goes_shard (next_shard servers) room before rest stops ∙ ap (λ (b : List Shard). both b rest) (sym (append-nil before))
 shards_again servers before (shard ∷ shards) zero rest limit fit few left stops = absurd (omega arith)
 shards_again servers before (shard ∷ shards) (suc room) rest limit fit few left stops =
     let tail : List (List ℕ) = raw (map shard_words shards) ++ rest in
     let follows = follows_in servers before shard shards fit in
     let are = shard_words_are shard (omega (arith, follows.within, follows.high)) follows.high (omega (arith, follows.known)) in
-    parts_step goes_shard (shard_at servers) room before (before ++ shard ∷ []) (joined (shard_words shard) ∷ tail) tail (shard_goes shard tail are)
+    parts_step goes_shard (next_shard servers) room before (before ++ shard ∷ []) (joined (shard_words shard) ∷ tail) tail (shard_goes shard tail are)
     (shard_again servers before shard tail limit follows (more_behind (map shard_words shards) rest left))
     ∙ shards_again servers (before ++ shard ∷ []) shards room rest limit fit.5 (omega arith) left stops
     ∙ ap (λ (b : List Shard). both b rest) (append_assoc before (shard ∷ []) shards)
@@ -116,18 +117,18 @@ table_line_again tables name room new =
 
 table_again : (set : PlainSet) (name : List ℕ) (shards : List Shard) (rest : List (List ℕ))
     → set.servers ≤ 16 → length set.tables < 64 → IsNew set.tables name → FitShards set.servers [] shards → IsMore rest → goes_shard rest ≡ false
-    → table_at set (joined (codes "table" ∷ name ∷ []) ∷ raw (map shard_words shards) ++ rest) ≡ Some (with_table set name shards, rest)
-unfolding table_at
+    → next_table set (joined (codes "table" ∷ name ∷ []) ∷ raw (map shard_words shards) ++ rest) ≡ Some (with_table set name shards, rest)
+unfolding next_table
 table_again set name shards rest limit room new fit left stops =
     let words : List (List ℕ) = codes "table" ∷ name ∷ [] in
     let tail : List (List ℕ) = raw (map shard_words shards) ++ rest in
     let out : PlainSet = with_table set name shards in
     let added : List ℕ → List Shard → PlainSet = λ n s. with_table set n s in
-    bind_is (words_at (joined words ∷ tail)) (λ w. table_line set.tables w.0 >>= λ n. parts goes_shard (shard_at set.servers) 64 [] w.1 >>= λ r. only_if {X = Unit {0}} (next_key (last_key None r.0) == 2 ^ 64) tt >>= λ ok. both (added n r.0) r.1) (words, tail) (both out rest)
-    (words_at_again words tail (table_words_are name new.named) (more_behind (map shard_words shards) rest left))
-    (bind_is (table_line set.tables words) (λ n. parts goes_shard (shard_at set.servers) 64 [] tail >>= λ r. only_if {X = Unit {0}} (next_key (last_key None r.0) == 2 ^ 64) tt >>= λ ok. both (added n r.0) r.1) name (both out rest)
+    bind_is (next_words (joined words ∷ tail)) (λ w. table_line set.tables w.0 >>= λ n. parts goes_shard (next_shard set.servers) 64 [] w.1 >>= λ r. only_if {X = Unit {0}} (next_key (last_key None r.0) == 2 ^ 64) tt >>= λ ok. both (added n r.0) r.1) (words, tail) (both out rest)
+    (next_words_again words tail (table_words_are name new.named) (more_behind (map shard_words shards) rest left))
+    (bind_is (table_line set.tables words) (λ n. parts goes_shard (next_shard set.servers) 64 [] tail >>= λ r. only_if {X = Unit {0}} (next_key (last_key None r.0) == 2 ^ 64) tt >>= λ ok. both (added n r.0) r.1) name (both out rest)
     (table_line_again set.tables name room new)
-    (bind_is (parts goes_shard (shard_at set.servers) 64 [] tail) (λ r. only_if {X = Unit {0}} (next_key (last_key None r.0) == 2 ^ 64) tt >>= λ ok. both (added name r.0) r.1) (shards, rest) (both out rest)
+    (bind_is (parts goes_shard (next_shard set.servers) 64 [] tail) (λ r. only_if {X = Unit {0}} (next_key (last_key None r.0) == 2 ^ 64) tt >>= λ ok. both (added name r.0) r.1) (shards, rest) (both out rest)
     (shards_again set.servers [] shards 64 rest limit fit (omega (arith, few_shards set.servers [] shards fit (omega arith))) left stops)
     (bind_is (only_if {X = Unit {0}} (next_key (last_key None shards) == 2 ^ 64) tt) (λ ok. both out rest) tt (both out rest)
     (only_if_yes (next_key (last_key None shards) == 2 ^ 64) tt (eq-eqb _ _ (ends_at set.servers [] shards fit))) refl)))
@@ -151,9 +152,9 @@ tables_stop set (name ∷ names) (shards ∷ tables) rest fit stops = (table_sta
 
 pub tables_again : (set : PlainSet) (names : List (List ℕ)) (tables : List (List Shard)) (room : ℕ) (rest : List (List ℕ))
     → set.servers ≤ 16 → FitTables set names tables → length names ≤ room → IsMore rest → goes_shard rest ≡ false → goes_table rest ≡ false
-    → parts goes_table table_at room set (raw (tables_lines names tables) ++ rest) ≡ Some (record set { tables = set.tables ++ names; shards = set.shards ++ tables }, rest)
+    → parts goes_table next_table room set (raw (tables_lines names tables) ++ rest) ≡ Some (record set { tables = set.tables ++ names; shards = set.shards ++ tables }, rest)
 tables_again set [] [] room rest limit fit few left stops ends =
-    parts_stop goes_table table_at room set rest ends
+    parts_stop goes_table next_table room set rest ends
     ∙ ap (λ (names : List (List ℕ)). let s : PlainSet = record set { tables = names } in both s rest) (sym (append-nil set.tables))
     ∙ ap (λ (tables : List (List Shard)). let s : PlainSet = record set { tables = set.tables ++ []; shards = tables } in both s rest) (sym (append-nil set.shards))
 tables_again set [] (shards ∷ tables) room rest limit fit few left stops ends = absurd fit
@@ -163,9 +164,9 @@ tables_again set (name ∷ names) (shards ∷ tables) (suc room) rest limit fit 
     let next : PlainSet = with_table set name shards in
     let tail : List (List ℕ) = raw (tables_lines names tables) ++ rest in
     let lines : List (List ℕ) = joined (codes "table" ∷ name ∷ []) ∷ raw (map shard_words shards) ++ tail in
-    ap (parts goes_table table_at (suc room) set)
+    ap (parts goes_table next_table (suc room) set)
     (ap (λ ls. ls ++ rest) (map-append joined (table_lines name shards) (tables_lines names tables)) ∙ append_assoc (raw (table_lines name shards)) (raw (tables_lines names tables)) rest)
-    ∙ parts_step goes_table table_at room set next lines tail (table_starts name (raw (map shard_words shards) ++ tail) fit.1.named).0
+    ∙ parts_step goes_table next_table room set next lines tail (table_starts name (raw (map shard_words shards) ++ tail) fit.1.named).0
     (table_again set name shards tail limit fit.0 fit.1 fit.2 (more_behind (tables_lines names tables) rest left) (tables_stop next names tables rest fit.3 stops))
     ∙ tables_again next names tables room rest limit fit.3 (omega arith) left stops ends
     ∙ ap (λ (names : List (List ℕ)). let s : PlainSet = record set { tables = names; shards = (set.shards ++ shards ∷ []) ++ tables } in both s rest) (append_assoc set.tables (name ∷ []) names)

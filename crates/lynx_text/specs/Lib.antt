@@ -1,3 +1,4 @@
+pub mod Pieces
 pub mod Parts
 pub mod Places
 pub mod Reading

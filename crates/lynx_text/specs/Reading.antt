@@ -1,6 +1,7 @@
 -- Reading the lines of a set; none where a line has a fault.
-use Rattle.std.specs.Prelude.{ℕ, List, [], ◌∷◌, Option, Some, None, option_map, is_none, nat_lt, if◌then◌else◌, codes}
+use Rattle.std.specs.Prelude.{ℕ, ◌^◌, List, [], ◌∷◌, Option, Some, None, option_map, is_none, nat_lt, if◌then◌else◌, codes}
 use Rattle.std.specs.Str.{bytes_eq}
+use Rattle.lynx_names.specs.declared.limits.TheConstants.{MAX_ACTIONS, MAX_TABLES}
 use Rattle.lynx_set.specs.declared.action.Action.{Action}
 use Rattle.lynx_set.specs.declared.action.Action.TheVariants.{Get, Set, Add, Sub, Let, Need}
 use Rattle.lynx_set.specs.declared.action.Key.{Key}
@@ -28,15 +29,15 @@ new_name names word = name_of word >>= λ name. only_if (is_none (place_of names
 
 -- the place of a known name
 abbrev pub known_name : List (List ℕ) → List ℕ → Option ℕ
-known_name names word = name_of word >>= λ name. place_below 256 names name
+known_name names word = name_of word >>= λ name. place_below (2 ^ 8) names name
 
 -- the number of a table
 abbrev pub table_of : List (List ℕ) → List ℕ → Option ℕ
-table_of tables word = name_of word >>= λ name. place_below 64 tables name
+table_of tables word = name_of word >>= λ name. place_below MAX_TABLES tables name
 
 -- a number, or one of so many parameters
-abbrev pub key_of : List (List ℕ) → ℕ → List ℕ → Option Key
-key_of names parameters word =
+abbrev pub read_key : List (List ℕ) → ℕ → List ℕ → Option Key
+read_key names parameters word =
     if begins_with_digit word then option_map Literal (read_number word)
     else (known_name names word >>= λ place. only_if (nat_lt place parameters) (Param place))
 
@@ -58,7 +59,7 @@ relation_of word =
 
 -- the hop has room for one more action
 abbrev pub room : Place → Option (Unit {0})
-room place = only_if (nat_lt place.actions 16) tt
+room place = only_if (nat_lt place.actions MAX_ACTIONS) tt
 
 -- a literal key is at the hop's server
 abbrev pub home : Place → ℕ → Key → Option (Unit {0})
@@ -78,7 +79,7 @@ get_of place (name ∷ table ∷ key ∷ []) = do
   ok ← room place
   n ← new_name place.names name
   t ← table_of place.tables table
-  k ← key_of place.names place.parameters key
+  k ← read_key place.names place.parameters key
   at ← home place t k
   Some (binding n (Get t k))
 get_of place words = None
@@ -88,7 +89,7 @@ unfoldable pub change_of : Place → List (List ℕ) → Option (ℕ × Key × O
 change_of place (table ∷ key ∷ value ∷ []) = do
   ok ← room place
   t ← table_of place.tables table
-  k ← key_of place.names place.parameters key
+  k ← read_key place.names place.parameters key
   v ← operand_of place.names value
   at ← home place t k
   Some (t, k, v)

@@ -7,10 +7,10 @@ ghost use Rattle.lynx_words.specs.Lines.{texts};
 ghost use Rattle.lynx_text.specs.Places.{place};
 ghost use Rattle.lynx_text.specs.Reading.{operator_of, relation_of, binding, plain, changing, get_of, change_of, let_of, need_of, action_of};
 
+use crate::lines::{four_words, three_words};
 use crate::scope::Scope;
 use lynx_names::TableId;
 use lynx_set::{Action, Key, Operand, Operator, Relation};
-use lynx_words::lines::{four_words, three_words};
 use lynx_words::{FaultKind, Name};
 
 /// An action, and the name that its line binds.
@@ -63,7 +63,8 @@ fn read_get(words: &[&[u8]], scope: &Scope) -> Result<ActionLine, FaultKind>
 
 /// `set TABLE KEY VALUE`
 fn read_set(words: &[&[u8]], scope: &Scope) -> Result<ActionLine, FaultKind>
-    ensures value { Gives (λ line. line) result (option_map (changing Action.Set) (change_of (place scope.now) (texts words.now))) }
+    ensures value { Gives (λ line. line) result (option_map (changing Action.Set) (change_of
+        (place scope.now) (texts words.now))) }
     ensures room { OnOk result (scope.now.actions < MAX_ACTIONS) }
 {
     let (table, key, value) = read_change(words, scope)?;
@@ -72,7 +73,8 @@ fn read_set(words: &[&[u8]], scope: &Scope) -> Result<ActionLine, FaultKind>
 
 /// `add TABLE KEY VALUE`
 fn read_add(words: &[&[u8]], scope: &Scope) -> Result<ActionLine, FaultKind>
-    ensures value { Gives (λ line. line) result (option_map (changing Action.Add) (change_of (place scope.now) (texts words.now))) }
+    ensures value { Gives (λ line. line) result (option_map (changing Action.Add) (change_of
+        (place scope.now) (texts words.now))) }
     ensures room { OnOk result (scope.now.actions < MAX_ACTIONS) }
 {
     let (table, key, value) = read_change(words, scope)?;
@@ -81,7 +83,8 @@ fn read_add(words: &[&[u8]], scope: &Scope) -> Result<ActionLine, FaultKind>
 
 /// `sub TABLE KEY VALUE`
 fn read_sub(words: &[&[u8]], scope: &Scope) -> Result<ActionLine, FaultKind>
-    ensures value { Gives (λ line. line) result (option_map (changing Action.Sub) (change_of (place scope.now) (texts words.now))) }
+    ensures value { Gives (λ line. line) result (option_map (changing Action.Sub) (change_of
+        (place scope.now) (texts words.now))) }
     ensures room { OnOk result (scope.now.actions < MAX_ACTIONS) }
 {
     let (table, key, value) = read_change(words, scope)?;
@@ -91,7 +94,8 @@ fn read_sub(words: &[&[u8]], scope: &Scope) -> Result<ActionLine, FaultKind>
 /// `TABLE KEY VALUE`, what changes a cell.
 #[tactic(auto, using(crate::proofs::Shapes::change_of_other), unfolding(crate::specs::Reading::change_of))]
 fn read_change(words: &[&[u8]], scope: &Scope) -> Result<(TableId, Key, Operand), FaultKind>
-    ensures value { Gives (λ change. change) result (change_of (place scope.now) (texts words.now)) }
+    ensures value { Gives (λ change. change) result (change_of (place scope.now)
+        (texts words.now)) }
     ensures room { OnOk result (scope.now.actions < MAX_ACTIONS) }
 {
     let (table, key, value) = three_words(words)?;

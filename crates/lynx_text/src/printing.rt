@@ -45,7 +45,8 @@ fn put_tables(
     names: &[Name],
     tables: &[Items<Shard>],
 ) -> Result<(), Memory>
-    ensures { OnOk result (out.new.items ≡ out.old.items ++ text (tables_lines names.now tables.now)) }
+    ensures { OnOk result (out.new.items ≡ out.old.items ++ text
+        (tables_lines names.now tables.now)) }
 {
     for (place, name) in names.iter().enumerate() {
         if let Some(shards) = tables.get(place) {
@@ -56,7 +57,8 @@ fn put_tables(
 }
 
 fn put_table(alloc: Global, out: &mut Vec<u8>, name: &Name, shards: &[Shard]) -> Result<(), Memory>
-    ensures { OnOk result (out.new.items ≡ out.old.items ++ text (table_lines name.now shards.now)) }
+    ensures { OnOk result (out.new.items ≡ out.old.items ++ text
+        (table_lines name.now shards.now)) }
 {
     out.extend_from_slice(b"table".as_slice())?;
     put_word(out, name.as_bytes())?;
@@ -86,7 +88,8 @@ fn put_programs(
     tables: &[Name],
     programs: &IndexMap<Name, Program>,
 ) -> Result<(), Memory>
-    ensures { OnOk result (out.new.items ≡ out.old.items ++ text (programs_lines tables.now programs.now.entries)) }
+    ensures { OnOk result (out.new.items ≡ out.old.items ++ text
+        (programs_lines tables.now programs.now.entries)) }
 {
     for (name, program) in programs {
         put_program(alloc, out, tables, name, program)?;
@@ -102,7 +105,8 @@ fn put_program(
     name: &Name,
     program: &Program,
 ) -> Result<(), Memory>
-    ensures { OnOk result (out.new.items ≡ out.old.items ++ text (program_lines tables.now (name.now, program.now))) }
+    ensures { OnOk result (out.new.items ≡ out.old.items ++ text (program_lines tables.now
+        (name.now, program.now))) }
 {
     put_program_head(out, name, program)?;
     put_hops(alloc, out, tables, program)?;
@@ -111,7 +115,8 @@ fn put_program(
 }
 
 fn put_program_head(out: &mut Vec<u8>, name: &Name, program: &Program) -> Result<(), Memory>
-    ensures { OnOk result (out.new.items ≡ out.old.items ++ line (program_words name.now program.now)) }
+    ensures { OnOk result (out.new.items ≡ out.old.items ++ line
+        (program_words name.now program.now)) }
 {
     out.extend_from_slice(b"program".as_slice())?;
     put_word(out, name.as_bytes())?;
@@ -158,7 +163,8 @@ fn put_hop(
 ) -> Result<usize, Memory>
     requires { place + MAX_ACTIONS < 2 ^ 64 }
     ensures next { IfOk result (λ next. next ≡ place + bound_in hop.now.actions) }
-    ensures written { OnOk result (out.new.items ≡ out.old.items ++ text (hop_lines tables.now names.now place hop.now)) }
+    ensures written { OnOk result (out.new.items ≡ out.old.items
+        ++ text (hop_lines tables.now names.now place hop.now)) }
 {
     out.extend_from_slice(b"hop ".as_slice())?;
     put_number(alloc, out, u64::from(hop.server.number()))?;
@@ -190,52 +196,118 @@ fn put_action(
     place: usize,
     action: &Action,
 ) -> Result<(), Memory>
-    ensures { OnOk result (out.new.items ≡ out.old.items ++ line (action_words tables.now names.now place action.now)) }
+    ensures { OnOk result (out.new.items ≡ out.old.items ++ line
+        (action_words tables.now names.now place action.now)) }
 {
-    match action {
-        Action::Get { table, key } => {
-            out.extend_from_slice(b"get".as_slice())?;
-            put_name(out, names, place)?;
-            put_cell(alloc, out, tables, names, *table, *key)?;
-        }
+    put_action_words(alloc, out, tables, names, place, action)?;
+    end_line(out)
+}
+
+/// Writes the words of an action.
+fn put_action_words(
+    alloc: Global,
+    out: &mut Vec<u8>,
+    tables: &[Name],
+    names: &[Name],
+    place: usize,
+    action: &Action,
+) -> Result<(), Memory>
+    ensures { OnOk result (out.new.items ≡ out.old.items ++ joined
+        (action_words tables.now names.now place action.now)) }
+{
+    match *action {
+        Action::Get { table, key } => put_get(alloc, out, tables, names, place, (table, key)),
         Action::Set { table, key, value } => {
-            out.extend_from_slice(b"set".as_slice())?;
-            put_cell(alloc, out, tables, names, *table, *key)?;
-            put_operand(alloc, out, names, *value)?;
+            put_change(alloc, out, tables, names, b"set", (table, key), value)
         }
         Action::Add { table, key, value } => {
-            out.extend_from_slice(b"add".as_slice())?;
-            put_cell(alloc, out, tables, names, *table, *key)?;
-            put_operand(alloc, out, names, *value)?;
+            put_change(alloc, out, tables, names, b"add", (table, key), value)
         }
         Action::Sub { table, key, value } => {
-            out.extend_from_slice(b"sub".as_slice())?;
-            put_cell(alloc, out, tables, names, *table, *key)?;
-            put_operand(alloc, out, names, *value)?;
+            put_change(alloc, out, tables, names, b"sub", (table, key), value)
         }
         Action::Let {
             left,
             operator,
             right,
-        } => {
-            out.extend_from_slice(b"let".as_slice())?;
-            put_name(out, names, place)?;
-            put_operand(alloc, out, names, *left)?;
-            put_word(out, operator_word(*operator))?;
-            put_operand(alloc, out, names, *right)?;
-        }
+        } => put_let(alloc, out, names, place, left, operator, right),
         Action::Need {
             left,
             relation,
             right,
-        } => {
-            out.extend_from_slice(b"need".as_slice())?;
-            put_operand(alloc, out, names, *left)?;
-            put_word(out, relation_word(*relation))?;
-            put_operand(alloc, out, names, *right)?;
-        }
+        } => put_need(alloc, out, names, left, relation, right),
     }
-    end_line(out)
+}
+
+fn put_get(
+    alloc: Global,
+    out: &mut Vec<u8>,
+    tables: &[Name],
+    names: &[Name],
+    place: usize,
+    cell: (TableId, Key),
+) -> Result<(), Memory>
+    ensures { OnOk result (out.new.items ≡ out.old.items ++ joined
+        (action_words tables.now names.now place (Action.Get cell.0 cell.1))) }
+{
+    let (table, key) = cell;
+    out.extend_from_slice(b"get".as_slice())?;
+    put_name(out, names, place)?;
+    put_cell(alloc, out, tables, names, table, key)
+}
+
+/// Writes the words of an action that changes a cell.
+fn put_change(
+    alloc: Global,
+    out: &mut Vec<u8>,
+    tables: &[Name],
+    names: &[Name],
+    verb: &[u8],
+    cell: (TableId, Key),
+    value: Operand,
+) -> Result<(), Memory>
+    ensures { OnOk result (out.new.items ≡ out.old.items ++ joined (verb.now ∷ name_at tables.now cell.0 ∷ key_word names.now cell.1 ∷ operand_word names.now value ∷ [])) }
+{
+    let (table, key) = cell;
+    out.extend_from_slice(verb)?;
+    put_cell(alloc, out, tables, names, table, key)?;
+    put_operand(alloc, out, names, value)
+}
+
+fn put_let(
+    alloc: Global,
+    out: &mut Vec<u8>,
+    names: &[Name],
+    place: usize,
+    left: Operand,
+    operator: Operator,
+    right: Operand,
+) -> Result<(), Memory>
+    ensures { OnOk result (out.new.items ≡ out.old.items ++ joined
+        (action_words [] names.now place (Action.Let left operator right))) }
+{
+    out.extend_from_slice(b"let".as_slice())?;
+    put_name(out, names, place)?;
+    put_operand(alloc, out, names, left)?;
+    put_word(out, operator_word(operator))?;
+    put_operand(alloc, out, names, right)
+}
+
+fn put_need(
+    alloc: Global,
+    out: &mut Vec<u8>,
+    names: &[Name],
+    left: Operand,
+    relation: Relation,
+    right: Operand,
+) -> Result<(), Memory>
+    ensures { OnOk result (out.new.items ≡ out.old.items ++ joined (action_words [] names.now 0
+        (Action.Need left relation right))) }
+{
+    out.extend_from_slice(b"need".as_slice())?;
+    put_operand(alloc, out, names, left)?;
+    put_word(out, relation_word(relation))?;
+    put_operand(alloc, out, names, right)
 }
 
 fn put_cell(
@@ -246,7 +318,8 @@ fn put_cell(
     table: TableId,
     key: Key,
 ) -> Result<(), Memory>
-    ensures { OnOk result (out.new.items ≡ out.old.items ++ spaced (name_at tables.now table ∷ key_word names.now key ∷ [])) }
+    ensures { OnOk result (out.new.items ≡ out.old.items ++ spaced
+        (name_at tables.now table ∷ key_word names.now key ∷ [])) }
 {
     put_name(out, tables, table.index())?;
     match key {

@@ -2,16 +2,18 @@
 
 ghost use Rattle.std.specs.Prelude.{◌≡◌, ◌≢◌, ◌↔◌, ◌⊎◌, false, codes, IfErr, IsErrAnd, IsErrOf, ◌<◌, ◌≤◌, ◌+◌, ◌-◌, [], None, Some, length, map, OnOk, IfOk};
 ghost use Rattle.lynx_words.specs.Gives.{Gives, IsOfLine};
-ghost use Rattle.lynx_words.specs.Lines.{texts, is_version, until};
+ghost use Rattle.lynx_words.specs.Lines.{texts};
+ghost use Rattle.lynx_text.specs.Pieces.{is_version, until};
 ghost use Rattle.lynx_set.specs.Plain.{plain_set, plain_program};
 ghost use Rattle.lynx_set.specs.Rules.{IsSet};
 ghost use Rattle.lynx_set.specs.Set.{Set};
 ghost use Rattle.lynx_set.specs.Text.{text_of};
 ghost use Rattle.lynx_set.specs.Names.{place_of};
-ghost use Rattle.lynx_text.specs.Parts.{parts, goes_shard, goes_table, goes_action, goes_hop, goes_program, shard_at, table_at, action_at, hop_at, program_at, set_at, lines_at, read_text, with_name, servers_of, table_line, shard_line, program_line, parameters_of, hop_line, end_line};
+ghost use Rattle.lynx_text.specs.Parts.{parts, goes_shard, goes_table, goes_action, goes_hop, goes_program, next_shard, next_table, next_action, next_hop, next_program, set_at, lines_at, read_text, with_name, servers_of, table_line, shard_line, program_line, parameters_of, hop_line, end_line};
 ghost use Rattle.lynx_names.specs.declared.limits.TheConstants.{MAX_ACTIONS, MAX_HOPS, MAX_PARAMETERS, MAX_PROGRAMS, MAX_SERVERS, MAX_SHARDS, MAX_TABLES, MAX_TEXT_BYTES};
 
 use crate::action_line::read_action;
+use crate::lines::{Lines, four_words, one_after, two_and_more};
 use crate::scope::{Scope, name_of, new_name, number_of};
 use lynx_names::limits::{
     MAX_HOPS, MAX_PARAMETERS, MAX_PROGRAMS, MAX_SERVERS, MAX_SHARDS, MAX_TABLES, MAX_TEXT_BYTES,
@@ -19,8 +21,7 @@ use lynx_names::limits::{
 use lynx_names::{Items, ServerId};
 use lynx_set::{Action, ChainSet, Hop, Program};
 use lynx_shards::{Range, ShardFault, TableShards};
-use lynx_words::lines::{four_words, one_after, two_and_more};
-use lynx_words::{FaultKind, Lines, Name, TextFault};
+use lynx_words::{FaultKind, Name, TextFault};
 use std::alloc::Global;
 
 /// The set that the text spells. An error tells the fault on the earliest line, or want of memory.
@@ -28,9 +29,11 @@ pub fn parse(alloc: Global, text: &[u8]) -> Result<ChainSet, TextFault>
     // What is read is spelled so.
     ensures found { IfOk result (λ set. IsSet set × (text.now ≡ text_of set)) }
     // What is spelled so is read.
-    ensures only { IfErr result (λ fault. (fault.kind ≡ FaultKind.Memory) ⊎ ((set : Set) → IsSet set → text.now ≢ text_of set)) }
+    ensures only { IfErr result (λ fault. (fault.kind ≡ FaultKind.Memory) ⊎ ((set : Set)
+        → IsSet set → text.now ≢ text_of set)) }
 
-    ensures too_long { IsErrAnd result (λ fault. fault.kind ≡ FaultKind.TooLong) ↔ (MAX_TEXT_BYTES < length text.now) }
+    ensures too_long { IsErrAnd result (λ fault. fault.kind ≡ FaultKind.TooLong)
+        ↔ (MAX_TEXT_BYTES < length text.now) }
     ensures bad_version { IsErrAnd result (λ fault. fault.kind ≡ FaultKind.BadVersion)
         ↔ (length text.now ≤ MAX_TEXT_BYTES) × (until text.now 10 ≢ codes "lynx 1") }
 {
@@ -39,13 +42,16 @@ pub fn parse(alloc: Global, text: &[u8]) -> Result<ChainSet, TextFault>
 
 /// A text spells one set at most.
 pub fn no_text_spells_two_sets()
-    ensures { (set : Set) (other : Set) → IsSet set → IsSet other → text_of set ≡ text_of other → set ≡ other }
+    ensures { (set : Set) (other : Set) → IsSet set → IsSet other → text_of set ≡ text_of other
+        → set ≡ other }
 {}
 
 fn read_text(alloc: Global, text: &[u8]) -> Result<ChainSet, TextFault>
     ensures read { IfOk result (λ set. read_text text.now ≡ Some (plain_set set)) }
-    ensures none { IfErr result (λ fault. (fault.kind ≡ FaultKind.Memory) ⊎ (read_text text.now ≡ None)) }
-    ensures too_long { IsErrAnd result (λ fault. fault.kind ≡ FaultKind.TooLong) ↔ (MAX_TEXT_BYTES < length text.now) }
+    ensures none { IfErr result (λ fault. (fault.kind ≡ FaultKind.Memory)
+        ⊎ (read_text text.now ≡ None)) }
+    ensures too_long { IsErrAnd result (λ fault. fault.kind ≡ FaultKind.TooLong)
+        ↔ (MAX_TEXT_BYTES < length text.now) }
     ensures bad_version { IsErrAnd result (λ fault. fault.kind ≡ FaultKind.BadVersion)
         ↔ (length text.now ≤ MAX_TEXT_BYTES) × (until text.now 10 ≢ codes "lynx 1") }
 {
@@ -96,7 +102,8 @@ fn read_set(alloc: Global, lines: &mut Lines) -> Result<ChainSet, FaultKind>
 /// The tables of a set that has none yet.
 fn read_tables(alloc: Global, lines: &mut Lines, set: &mut ChainSet) -> Result<(), FaultKind>
     requires { set.old.tables ≡ [] }
-    ensures value { Gives (λ _. (plain_set set.new, lines.new)) result (parts goes_table table_at MAX_TABLES (plain_set set.old) lines.old) }
+    ensures value { Gives (λ _. (plain_set set.new, lines.new)) result
+        (parts goes_table next_table MAX_TABLES (plain_set set.old) lines.old) }
     ensures programs { OnOk result (set.new.programs ≡ set.old.programs) }
 {
     'tables: while lines.begins_with(b"table".as_slice()) {
@@ -108,7 +115,8 @@ fn read_tables(alloc: Global, lines: &mut Lines, set: &mut ChainSet) -> Result<(
 /// The programs of a set that has none yet.
 fn read_programs(alloc: Global, lines: &mut Lines, set: &mut ChainSet) -> Result<(), FaultKind>
     requires { set.old.programs ≡ [] }
-    ensures { Gives (λ _. (plain_set set.new, lines.new)) result (parts goes_program program_at MAX_PROGRAMS (plain_set set.old) lines.old) }
+    ensures { Gives (λ _. (plain_set set.new, lines.new)) result
+        (parts goes_program next_program MAX_PROGRAMS (plain_set set.old) lines.old) }
 {
     'programs: while lines.begins_with(b"program".as_slice()) {
         read_program(alloc, lines, set)?;
@@ -132,9 +140,10 @@ fn read_servers(words: &[&[u8]]) -> Result<u8, FaultKind>
 }
 
 /// A table's line and those of its shards.
-#[tactic(auto, unfolding(crate::specs::Parts::table_at))]
+#[tactic(auto, unfolding(crate::specs::Parts::next_table))]
 fn read_table(alloc: Global, lines: &mut Lines, set: &mut ChainSet) -> Result<(), FaultKind>
-    ensures value { Gives (λ _. (plain_set set.new, lines.new)) result (table_at (plain_set set.old) lines.old) }
+    ensures value { Gives (λ _. (plain_set set.new, lines.new)) result (next_table
+        (plain_set set.old) lines.old) }
     ensures shrinks { OnOk result (length lines.new < length lines.old) }
     ensures count { OnOk result (length set.new.tables ≡ length set.old.tables + 1) }
     ensures few { OnOk result (length set.new.tables ≤ MAX_TABLES) }
@@ -153,7 +162,8 @@ fn read_table(alloc: Global, lines: &mut Lines, set: &mut ChainSet) -> Result<()
 /// The lines of a table's shards.
 fn read_shards(alloc: Global, lines: &mut Lines, servers: u8) -> Result<TableShards, FaultKind>
     requires { servers ≤ MAX_SERVERS }
-    ensures value { Gives (λ shards. (shards, lines.new)) result (parts goes_shard (shard_at servers) MAX_SHARDS [] lines.old) }
+    ensures value { Gives (λ shards. (shards, lines.new)) result (parts goes_shard
+        (next_shard servers) MAX_SHARDS [] lines.old) }
     ensures shrinks { OnOk result (length lines.new ≤ length lines.old) }
 {
     let mut shards = TableShards::new(alloc);
@@ -164,7 +174,7 @@ fn read_shards(alloc: Global, lines: &mut Lines, servers: u8) -> Result<TableSha
 }
 
 /// The line of one more shard.
-#[tactic(auto, unfolding(crate::specs::Parts::shard_at))]
+#[tactic(auto, unfolding(crate::specs::Parts::next_shard))]
 fn read_shard(
     alloc: Global,
     lines: &mut Lines,
@@ -172,7 +182,8 @@ fn read_shard(
     shards: &mut TableShards,
 ) -> Result<(), FaultKind>
     requires { servers ≤ MAX_SERVERS }
-    ensures value { Gives (λ _. (shards.new, lines.new)) result (shard_at servers shards.old lines.old) }
+    ensures value { Gives (λ _. (shards.new, lines.new)) result
+        (next_shard servers shards.old lines.old) }
     ensures shrinks { OnOk result (length lines.new < length lines.old) }
     ensures count { OnOk result (length shards.new ≡ length shards.old + 1) }
     ensures few { OnOk result (length shards.new ≤ MAX_SHARDS) }
@@ -204,7 +215,8 @@ fn read_table_line(words: &[&[u8]], set: &ChainSet) -> Result<Name, FaultKind>
 /// `shard LOW HIGH SERVER`
 #[tactic(auto, using(crate::proofs::Shapes::shard_line_other), unfolding(crate::specs::Parts::shard_line))]
 fn read_shard_line(words: &[&[u8]], shards: &TableShards) -> Result<Range, FaultKind>
-    ensures value { Gives (λ range. range) result (shard_line (length shards.now) (texts words.now)) }
+    ensures value { Gives (λ range. range) result (shard_line (length shards.now)
+        (texts words.now)) }
     ensures room { OnOk result (length shards.now < MAX_SHARDS) }
 {
     let (word, low, high, server) = four_words(words)?;
@@ -221,9 +233,10 @@ fn read_shard_line(words: &[&[u8]], shards: &TableShards) -> Result<Range, Fault
 }
 
 /// A program's line, its hops and its end.
-#[tactic(auto, using(crate::proofs::Sets::names_plain), unfolding(crate::specs::Parts::program_at))]
+#[tactic(auto, using(crate::proofs::Sets::names_plain), unfolding(crate::specs::Parts::next_program))]
 fn read_program(alloc: Global, lines: &mut Lines, set: &mut ChainSet) -> Result<(), FaultKind>
-    ensures value { Gives (λ _. (plain_set set.new, lines.new)) result (program_at (plain_set set.old) lines.old) }
+    ensures value { Gives (λ _. (plain_set set.new, lines.new)) result (next_program
+        (plain_set set.old) lines.old) }
     ensures shrinks { OnOk result (length lines.new < length lines.old) }
     ensures count { OnOk result (length set.new.programs ≡ length set.old.programs + 1) }
     ensures few { OnOk result (length set.new.programs ≤ MAX_PROGRAMS) }
@@ -250,9 +263,11 @@ fn read_program_line(
     words: &[&[u8]],
     set: &ChainSet,
 ) -> Result<(Name, Items<Name>), FaultKind>
-    ensures value { Gives (λ head. head) result (program_line (map (λ named. named.0) set.now.programs) (texts words.now)) }
+    ensures value { Gives (λ head. head) result (program_line (map (λ named.
+        named.0) set.now.programs) (texts words.now)) }
     ensures few { IfOk result (λ head. length head.1 ≤ MAX_PARAMETERS) }
-    ensures new { IfOk result (λ head. place_of (map (λ named. named.0) set.now.programs) head.0 ≡ None) }
+    ensures new { IfOk result (λ head. place_of (map (λ named.
+        named.0) set.now.programs) head.0 ≡ None) }
     ensures room { OnOk result (length set.now.programs < MAX_PROGRAMS) }
 {
     let (word, name, parameters) = two_and_more(words)?;
@@ -291,7 +306,7 @@ fn read_hops(
     program: &mut Program,
 ) -> Result<(), FaultKind>
     ensures value { Gives (λ _. (plain_program program.new, lines.new)) result
-        (parts goes_hop (hop_at (plain_set set.now)) (MAX_HOPS - length (plain_program program.old).hops) (plain_program program.old) lines.old) }
+        (parts goes_hop (next_hop (plain_set set.now)) (MAX_HOPS - length (plain_program program.old).hops) (plain_program program.old) lines.old) }
     ensures shrinks { OnOk result (length lines.new ≤ length lines.old) }
 {
     'hops: while lines.begins_with(b"hop".as_slice()) {
@@ -301,14 +316,15 @@ fn read_hops(
 }
 
 /// A hop's line and those of its actions.
-#[tactic(auto, using(crate::proofs::Sets::hops_plain), unfolding(crate::specs::Parts::hop_at))]
+#[tactic(auto, using(crate::proofs::Sets::hops_plain), unfolding(crate::specs::Parts::next_hop))]
 fn read_hop(
     alloc: Global,
     lines: &mut Lines,
     set: &ChainSet,
     program: &mut Program,
 ) -> Result<(), FaultKind>
-    ensures value { Gives (λ _. (plain_program program.new, lines.new)) result (hop_at (plain_set set.now) (plain_program program.old) lines.old) }
+    ensures value { Gives (λ _. (plain_program program.new, lines.new)) result (next_hop
+        (plain_set set.now) (plain_program program.old) lines.old) }
     ensures shrinks { OnOk result (length lines.new < length lines.old) }
     ensures count { OnOk result (length program.new.hops ≡ length program.old.hops + 1) }
     ensures few { OnOk result (length program.new.hops ≤ MAX_HOPS) }
@@ -333,7 +349,7 @@ fn read_actions(
 ) -> Result<(), FaultKind>
     requires { length actions.old ≤ MAX_ACTIONS }
     ensures value { Gives (λ _. ((plain_program program.new, actions.new), lines.new)) result
-        (parts goes_action (action_at (plain_set set.now) server) (MAX_ACTIONS - length actions.old) (plain_program program.old, actions.old) lines.old) }
+        (parts goes_action (next_action (plain_set set.now) server) (MAX_ACTIONS - length actions.old) (plain_program program.old, actions.old) lines.old) }
     ensures shrinks { OnOk result (length lines.new ≤ length lines.old) }
     ensures few { OnOk result (length actions.new ≤ MAX_ACTIONS) }
     ensures hops { program.new.hops ≡ program.old.hops }
@@ -370,7 +386,7 @@ fn read_hop_line(words: &[&[u8]], servers: u8, hops: usize) -> Result<ServerId, 
 }
 
 /// Reads the line of a hop's next action, and adds the action and the name that it binds.
-#[tactic(auto, using(crate::proofs::Sets::hops_plain), unfolding(crate::specs::Parts::action_at))]
+#[tactic(auto, using(crate::proofs::Sets::hops_plain), unfolding(crate::specs::Parts::next_action))]
 fn add_action(
     alloc: Global,
     lines: &mut Lines,
@@ -380,7 +396,7 @@ fn add_action(
     actions: &mut Items<Action>,
 ) -> Result<(), FaultKind>
     ensures value { Gives (λ _. ((plain_program program.new, actions.new), lines.new)) result
-        (action_at (plain_set set.now) server (plain_program program.old, actions.old) lines.old) }
+        (next_action (plain_set set.now) server (plain_program program.old, actions.old) lines.old) }
     ensures shrinks { OnOk result (length lines.new < length lines.old) }
     ensures count { OnOk result (length actions.new ≡ length actions.old + 1) }
     ensures few { OnOk result (length actions.new ≤ MAX_ACTIONS) }
@@ -403,7 +419,8 @@ fn add_action(
 
 /// Adds the name that a line binds, if it binds one.
 fn add_name(program: &mut Program, name: Option<Name>) -> Result<(), FaultKind>
-    ensures value { Gives (λ _. plain_program program.new) result (Some (with_name (plain_program program.old) name)) }
+    ensures value { Gives (λ _. plain_program program.new) result (Some (with_name
+        (plain_program program.old) name)) }
     ensures hops { program.new.hops ≡ program.old.hops }
 {
     if let Some(name) = name {

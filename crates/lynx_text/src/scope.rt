@@ -6,7 +6,7 @@ ghost use Rattle.lynx_words.specs.Digits.{read_number, begins_with_digit};
 ghost use Rattle.lynx_words.specs.Gives.{Gives};
 ghost use Rattle.lynx_set.specs.Names.{place_of, place_below};
 ghost use Rattle.lynx_set.specs.Standing.{is_home};
-ghost use Rattle.lynx_text.specs.Reading.{name_of, new_name, known_name, table_of, key_of, operand_of};
+ghost use Rattle.lynx_text.specs.Reading.{name_of, new_name, known_name, table_of, read_key, operand_of};
 ghost use Rattle.lynx_words.specs.Lines.{only_if};
 
 use lynx_names::limits::MAX_ACTIONS;
@@ -62,7 +62,8 @@ impl Scope<'_> {
 
     /// A number, or a parameter.
     pub fn key(&self, word: &[u8]) -> Result<Key, FaultKind>
-        ensures { Gives (λ key. key) result (key_of self.now.names.now self.now.parameters word.now) }
+        ensures { Gives (λ key. key) result
+            (read_key self.now.names.now self.now.parameters word.now) }
     {
         if begins_with_digit(word) {
             return Ok(Key::Literal(number_of(word)?));
@@ -87,7 +88,8 @@ impl Scope<'_> {
 
     /// A literal key is at the hop's server.
     pub fn is_home(&self, table: TableId, key: Key) -> Result<(), FaultKind>
-        ensures { Gives (λ x. x) result (only_if (is_home self.now.set.now.shards self.now.server table key) tt) }
+        ensures { Gives (λ x. x) result (only_if
+            (is_home self.now.set.now.shards self.now.server table key) tt) }
     {
         match key {
             Key::Literal(key) => {

@@ -1,3 +1,9 @@
 pub mod Numbers
 pub mod Padding
 pub mod Pieces
+pub mod Equal
+pub mod WordLaws
+pub mod PieceLaws
+pub mod LineLaws
+pub mod NumberLaws
+pub mod NextLine

@@ -1,10 +1,5 @@
 pub mod Digits
-pub mod Equal
 pub mod Gives
-pub mod LineLaws
 pub mod Lines
 pub mod Name
-pub mod NumberLaws
-pub mod PieceLaws
 pub mod Word
-pub mod WordLaws

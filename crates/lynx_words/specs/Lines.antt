@@ -1,8 +1,7 @@
 -- Lines of a text, and their words.
-use Rattle.std.specs.Prelude.{◌≡◌, ◌<◌, codes, ℕ, ◌+◌, Bool, true, false, not, ◌&&◌, List, [], ◌∷◌, ◌++◌, Option, Some, None, length, map, take, drop, position, option_map, nat_le, ◌==◌, if◌then◌else◌}
+use Rattle.std.specs.Prelude.{◌≡◌, ◌<◌, ℕ, ◌+◌, Bool, true, not, ◌&&◌, List, [], ◌∷◌, ◌++◌, Option, Some, None, length, map, take, drop, position, option_map, nat_le, ◌==◌, if◌then◌else◌}
 use Rattle.std.specs.List.{slice_split, list_all}
 use Rattle.std.specs.Borrow.{Bor}
-use Rattle.std.specs.Str.{bytes_eq}
 
 infixl 10 ◌>>=◌
 abbrev pub ◌>>=◌ : {A B : Type 0} → Option A → (A → Option B) → Option B
@@ -19,15 +18,6 @@ is_space byte = byte == 32
 abbrev pub next_line : List ℕ → Option (List ℕ × List ℕ)
 next_line text = option_map (λ place. (take place text, drop (place + 1) text)) (position is_feed text)
 
--- the bytes before that place, or all of them
-abbrev pub front_to : Option ℕ → List ℕ → List ℕ
-front_to None text = text
-front_to (Some place) text = take place text
-
--- the bytes before the first of this kind, or all of them
-abbrev pub until : List ℕ → ℕ → List ℕ
-until text end = front_to (position (λ byte. byte == end) text) text
-
 -- a space before each word
 abbrev pub spaced : List (List ℕ) → List ℕ
 spaced [] = []
@@ -38,9 +28,13 @@ abbrev pub joined : List (List ℕ) → List ℕ
 joined [] = []
 joined (first ∷ words) = first ++ spaced words
 
--- a line: its words, and a line feed
+-- a line of a text: these bytes, and a line feed
+abbrev pub with_feed : List ℕ → List ℕ
+with_feed bytes = bytes ++ 10 ∷ []
+
+-- a line of these words
 abbrev pub line : List (List ℕ) → List ℕ
-line words = joined words ++ 10 ∷ []
+line words = with_feed (joined words)
 
 -- a byte that can stand in a line
 abbrev pub is_printable : ℕ → Bool
@@ -71,43 +65,6 @@ words_in line =
 abbrev pub texts : List (Bor (List ℕ)) → List (List ℕ)
 texts words = map (λ word. word.now) words
 
--- the next of the lines of a text, and the lines after it; none where no line feed ends it
-abbrev pub next_piece : List (List ℕ) → Option (List ℕ × List (List ℕ))
-next_piece [] = None
-next_piece (line ∷ []) = None
-next_piece (line ∷ next ∷ lines) = Some (line, next ∷ lines)
-
--- the words of the next line, and the lines after it
-abbrev pub words_at : List (List ℕ) → Option (List (List ℕ) × List (List ℕ))
-words_at lines = do
-  next ← next_piece lines
-  words ← words_in next.0
-  Some (words, next.1)
-
 -- a value, where a test holds
 abbrev pub only_if : {X : Type 0} → Bool → X → Option X
 only_if test x = if test then Some x else None
-
--- the word after this first one, where there are two
-abbrev pub one_after : List ℕ → List (List ℕ) → Option (List ℕ)
-one_after first (word ∷ other ∷ []) = only_if (bytes_eq word first) other
-one_after first words = None
-
--- whether the first word of the next line is this one
-abbrev pub begins : List (List ℕ) → List ℕ → Bool
-begins [] word = false
-begins (line ∷ lines) word = bytes_eq (until line 32) word
-
--- whether the first line is the version's
-abbrev pub is_version : List (List ℕ) → Bool
-is_version [] = false
-is_version (line ∷ lines) = bytes_eq line (codes "lynx 1")
-
--- the lines after the version's
-abbrev pub after_version : List (List ℕ) → Option (List (List ℕ))
-after_version lines = next_piece lines >>= λ next. only_if (is_version lines) next.1
-
--- no line is left
-abbrev pub ends : List (List ℕ) → Bool
-ends ([] ∷ []) = true
-ends lines = false

@@ -1,6 +1,7 @@
 -- Which words are names.
 use Rattle.std.specs.Prelude.{ℕ, Bool, false, ◌&&◌, ◌||◌, List, [], ◌∷◌, length, nat_le, nat_lt, ◌==◌}
 use Rattle.std.specs.List.{list_all}
+use Rattle.lynx_names.specs.declared.limits.TheConstants.{MAX_NAME_BYTES}
 
 -- a to z
 abbrev pub is_letter : ℕ → Bool
@@ -13,4 +14,4 @@ is_name_byte byte = is_letter byte || (nat_le 48 byte && nat_le byte 57) || byte
 -- a letter, and at most 23 letters, digits and underscores
 abbrev pub is_name : List ℕ → Bool
 is_name [] = false
-is_name (first ∷ rest) = is_letter first && nat_lt (length rest) 24 && list_all is_name_byte rest
+is_name (first ∷ rest) = is_letter first && nat_lt (length rest) MAX_NAME_BYTES && list_all is_name_byte rest

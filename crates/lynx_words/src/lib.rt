@@ -2,7 +2,6 @@
 #![tactic(auto)]
 
 pub use fault::{FaultKind, TextFault};
-pub use lines::Lines;
 pub use name::Name;
 
 pub mod fault;

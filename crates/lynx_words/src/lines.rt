@@ -1,35 +1,26 @@
 //! Lines of a text, and their words.
 
-ghost use Rattle.std.specs.Prelude.{ℕ, List, ◌≡◌, ◌≢◌, ◌<◌, ◌≤◌, ◌==◌, ◌↔◌, ◌⊎◌, false, None, Some, IfOk, IfErr, IsErrOf, length, position, option_map, IfSome, IfNone, OnOk, OnErr, OnSome, [], ◌∷◌};
+ghost use Rattle.std.specs.Prelude.{ℕ, List, ◌≡◌, ◌<◌, ◌==◌, Some, IfOk, length, position, option_map, IfSome, IfNone, [], ◌∷◌};
 ghost use Rattle.std.specs.List.{slice_split, list_all};
 ghost use Rattle.lynx_words.specs.Gives.{Gives};
-ghost use Rattle.lynx_words.specs.Lines.{joined, one_after, ends, after_version, only_if, next_line, next_piece, until, is_feed, is_space, is_printable, AreWords, texts, words_in, words_at, begins, is_version};
+ghost use Rattle.lynx_words.specs.Lines.{joined, next_line, is_feed, is_space, is_printable, AreWords, texts, words_in};
 
 use crate::fault::FaultKind;
 use std::alloc::Global;
-use std::marker::Model;
 
 /// The first line without its LF, and the text after it, or None where there is no LF.
 pub fn next_line(text: &[u8]) -> Option<(&[u8], &[u8])>
     ensures value { option_map (λ parts. (parts.0.now, parts.1.now)) result ≡ next_line text.now }
     ensures last { IfNone result (slice_split is_feed text.now ≡ text.now ∷ []) }
-    ensures more { IfSome result (λ parts. slice_split is_feed text.now ≡ parts.0.now ∷ slice_split is_feed parts.1.now) }
+    ensures more { IfSome result (λ parts. slice_split is_feed text.now
+        ≡ parts.0.now ∷ slice_split is_feed parts.1.now) }
 {
     let end = place_of_byte(text, b'\n')?;
     Some((&text[..end], &text[end + 1..]))
 }
 
-/// The bytes before the first of this kind, or all of them.
-pub fn until(text: &[u8], end: u8) -> &[u8]
-    ensures { result.now ≡ until text.now end }
-{
-    match place_of_byte(text, end) {
-        Some(length) => &text[..length],
-        None => text,
-    }
-}
-
-fn place_of_byte(text: &[u8], wanted: u8) -> Option<usize>
+/// The place of the first byte of this kind.
+pub fn place_of_byte(text: &[u8], wanted: u8) -> Option<usize>
     ensures place { result ≡ position (λ byte. byte == wanted) text.now }
     ensures within { IfSome result (λ place. place < length text.now) }
 {
@@ -39,9 +30,11 @@ fn place_of_byte(text: &[u8], wanted: u8) -> Option<usize>
 /// The words of a line. It is a bad line where a byte isn't printable ASCII or a word is empty.
 pub fn words_of(alloc: Global, line: &[u8]) -> Result<Vec<&[u8]>, FaultKind>
     // What is read is spelled so.
-    ensures found { IfOk result (λ words. AreWords (texts words.items) × (line.now ≡ joined (texts words.items))) }
+    ensures found { IfOk result (λ words. AreWords (texts words.items)
+        × (line.now ≡ joined (texts words.items))) }
     // What is spelled so is read, unless memory runs out.
-    ensures only { (words : List (List ℕ)) → AreWords words → line.now ≡ joined words → Gives (λ w. texts w.items) result (Some words) }
+    ensures only { (words : List (List ℕ)) → AreWords words → line.now ≡ joined words
+        → Gives (λ w. texts w.items) result (Some words) }
     ensures exact { Gives (λ words. texts words.items) result (words_in line.now) }
 {
     split_words(alloc, line)
@@ -75,159 +68,12 @@ fn is_printable_line(line: &[u8]) -> bool
 /// The first word of a line, and what follows the space behind it.
 fn first_word(line: &[u8]) -> (&[u8], Option<&[u8]>)
     ensures last { IfNone result.1 (slice_split is_space line.now ≡ result.0.now ∷ []) }
-    ensures more { IfSome result.1 (λ rest. slice_split is_space line.now ≡ result.0.now ∷ slice_split is_space rest.now) }
+    ensures more { IfSome result.1 (λ rest. slice_split is_space line.now
+        ≡ result.0.now ∷ slice_split is_space rest.now) }
     ensures shorter { IfSome result.1 (λ rest. length rest.now < length line.now) }
 {
     match place_of_byte(line, b' ') {
         Some(end) => (&line[..end], Some(&line[end + 1..])),
         None => (line, None),
-    }
-}
-
-/// The word after this first one, where there are two.
-pub fn one_after<'a>(first: &[u8], words: &[&'a [u8]]) -> Result<&'a [u8], FaultKind>
-    ensures { Gives (λ word. word.now) result (one_after first.now (texts words.now)) }
-{
-    if words.len() == 2 && words[0] == first {
-        Ok(words[1])
-    } else {
-        Err(FaultKind::BadLine)
-    }
-}
-
-/// The first two words and the others, where there are two.
-pub fn two_and_more<'a, 'b>(
-    words: &'b [&'a [u8]],
-) -> Result<(&'a [u8], &'a [u8], &'b [&'a [u8]]), FaultKind>
-    ensures ok { IfOk result (λ split. texts words.now ≡ split.0.now ∷ split.1.now ∷ texts split.2.now) }
-    ensures err { IfErr result (λ kind. (kind ≡ FaultKind.BadLine) × (length words.now < 2)) }
-{
-    if words.len() >= 2 {
-        Ok((words[0], words[1], &words[2..]))
-    } else {
-        Err(FaultKind::BadLine)
-    }
-}
-
-/// The words, where there are three.
-pub fn three_words<'a>(words: &[&'a [u8]]) -> Result<(&'a [u8], &'a [u8], &'a [u8]), FaultKind>
-    ensures ok { IfOk result (λ three. texts words.now ≡ three.0.now ∷ three.1.now ∷ three.2.now ∷ []) }
-    ensures err { IfErr result (λ kind. (kind ≡ FaultKind.BadLine) × (length words.now ≢ 3)) }
-{
-    if words.len() == 3 {
-        Ok((words[0], words[1], words[2]))
-    } else {
-        Err(FaultKind::BadLine)
-    }
-}
-
-/// The words, where there are four.
-pub fn four_words<'a>(
-    words: &[&'a [u8]],
-) -> Result<(&'a [u8], &'a [u8], &'a [u8], &'a [u8]), FaultKind>
-    ensures ok { IfOk result (λ four. texts words.now ≡ four.0.now ∷ four.1.now ∷ four.2.now ∷ four.3.now ∷ []) }
-    ensures err { IfErr result (λ kind. (kind ≡ FaultKind.BadLine) × (length words.now ≢ 4)) }
-{
-    if words.len() == 4 {
-        Ok((words[0], words[1], words[2], words[3]))
-    } else {
-        Err(FaultKind::BadLine)
-    }
-}
-
-/// A text that is read line by line. It is seen as the lines that are left: the last of them has no LF.
-#[derive(Debug, Drop)]
-pub struct Lines<'a> {
-    rest: &'a [u8],
-    /// The number of the line that was read last, counted from 1.
-    line: usize,
-}
-
-impl<'a> Model for Lines<'a> {
-    ghost use Rattle.std.specs.Prelude.{List, ℕ};
-    ghost use Rattle.std.specs.List.{slice_split};
-    ghost use Rattle.lynx_words.specs.Lines.{is_feed};
-
-    ghost Value = { List (List ℕ) };
-
-    ghost view = { λ lines. slice_split is_feed lines.rest.now };
-}
-
-impl<'a> Lines<'a> {
-    /// All lines of the text.
-    pub fn new(text: &'a [u8]) -> Lines<'a>
-        ensures { result ≡ slice_split is_feed text.now }
-    {
-        Lines {
-            rest: text,
-            line: 0,
-        }
-    }
-
-    /// The number of the line that was read last, counted from 1.
-    pub fn line(&self) -> usize {
-        self.line
-    }
-
-    /// Takes the next line, where LF ends it.
-    fn next(&mut self) -> Option<&'a [u8]>
-        ensures value { option_map (λ line. (line.now, self.new)) result ≡ next_piece self.old }
-        ensures shrinks { OnSome result (length self.new < length self.old) }
-    {
-        self.line = self.line.saturating_add(1);
-        let (line, rest) = next_line(self.rest)?;
-        self.rest = rest;
-        Some(line)
-    }
-
-    /// Takes the words of the next line.
-    pub fn next_words(&mut self, alloc: Global) -> Result<Vec<&'a [u8]>, FaultKind>
-        ensures value { Gives (λ words. (texts words.items, self.new)) result (words_at self.old) }
-        ensures shrinks { OnOk result (length self.new < length self.old) }
-    {
-        let line = self.next().ok_or(FaultKind::BadLine)?;
-        words_of(alloc, line)
-    }
-
-    /// Whether the first word of the next line is this one.
-    pub fn begins_with(&self, word: &[u8]) -> bool
-        ensures { result ≡ begins self.now word.now }
-    {
-        until(until(self.rest, b'\n'), b' ') == word
-    }
-
-    /// Takes the version's line. It is a bad version where the first line is another one, and else a bad line
-    /// where no LF ends it.
-    pub fn version(&mut self) -> Result<(), FaultKind>
-        ensures bad { IsErrOf result FaultKind.BadVersion ↔ (is_version self.old ≡ false) }
-        ensures ok { OnOk result (after_version self.old ≡ Some self.new) }
-        ensures none { OnErr result (after_version self.old ≡ None) }
-        ensures err { IfErr result (λ kind. (kind ≡ FaultKind.BadVersion) ⊎ (kind ≡ FaultKind.BadLine)) }
-    {
-        if !self.is_version() {
-            self.line = 1;
-            return Err(FaultKind::BadVersion);
-        }
-        match self.next() {
-            Some(_) => Ok(()),
-            None => Err(FaultKind::BadLine),
-        }
-    }
-
-    fn is_version(&self) -> bool
-        ensures { result ≡ is_version self.now }
-    {
-        until(self.rest, b'\n') == b"lynx 1".as_slice()
-    }
-
-    /// Wants that no line is left.
-    pub fn end(&mut self) -> Result<(), FaultKind>
-        ensures { Gives (λ x. x) result (only_if (ends self.old) tt) }
-    {
-        if self.rest.is_empty() {
-            return Ok(());
-        }
-        self.line = self.line.saturating_add(1);
-        Err(FaultKind::BadLine)
     }
 }

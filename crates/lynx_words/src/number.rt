@@ -6,7 +6,8 @@ ghost use Rattle.lynx_words.specs.Digits.{read_number, starts_well};
 /// The number that the word spells in decimal, below 2^64 and without sign or leading zeros, or None.
 pub fn number(word: &[u8]) -> Option<u64>
     ensures found { IfSome result (λ number. word.now ≡ decimal number) }
-    ensures only { (number : ℕ) → number < 2 ^ 64 → word.now ≡ decimal number → result ≡ Some number }
+    ensures only { (number : ℕ) → number < 2 ^ 64 → word.now ≡ decimal number
+        → result ≡ Some number }
     ensures exact { result ≡ read_number word.now }
 {
     read_number(word)

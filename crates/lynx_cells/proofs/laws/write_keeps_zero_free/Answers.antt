@@ -1,4 +1,4 @@
-use Rattle.lynx_cells.specs.Writes.{IsZeroFree-with_value}
+use Rattle.lynx_cells.proofs.Writes.{IsZeroFree-with_value}
 use Rattle.lynx_cells.proofs.laws.write_keeps_zero_free.Goals as goal
 
 pub returns : goal.returns

@@ -1,4 +1,4 @@
-use Rattle.lynx_commute.specs.Framing.{AgreeOn-after, answer-agree_on}
+use Rattle.lynx_commute.proofs.Framing.{AgreeOn-after, answer-agree_on}
 use Rattle.lynx_commute.proofs.laws.touched_cells_decide.Goals as goal
 
 pub returns-clause-answer : goal.returns-clause-answer

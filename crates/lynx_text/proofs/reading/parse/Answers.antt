@@ -10,7 +10,7 @@ use Rattle.lynx_set.specs.Text.{text_of}
 use Rattle.lynx_text.proofs.Found.{found}
 use Rattle.lynx_text.proofs.SetAgain.{again}
 use Rattle.lynx_text.proofs.reading.parse.Goals as goal
-use Rattle.lynx_words.specs.Equal.{none_some}
+use Rattle.lynx_words.proofs.Equal.{none_some}
 
 found_in : (bytes : List ℕ) (r : Result Set TextFault) → IfOk r (λ set. read_text bytes ≡ Some (plain_set set)) → IfOk r (λ set. IsSet set × (bytes ≡ text_of set))
 found_in bytes (Ok set) read = found bytes set read

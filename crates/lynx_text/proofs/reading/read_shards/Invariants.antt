@@ -1,5 +1,5 @@
 use Rattle.std.proofs.Common.{◌≡◌, ◌-◌, ◌≤◌, [], length}
-use Rattle.lynx_text.specs.Parts.{parts, goes_shard, shard_at}
+use Rattle.lynx_text.specs.Parts.{parts, goes_shard, next_shard}
 use Rattle.lynx_text.proofs.reading.read_shards.Given as goal
 
 -- what is left decides
@@ -7,7 +7,7 @@ abbrev pub invariant-shards : goal.invariant-shards
 invariant-shards l = record {
   few : length l.shards ≤ 64;
   shrinks : length l.lines ≤ length l.fn.lines;
-  rest : parts goes_shard (shard_at l.servers) (64 - length l.shards) l.shards l.lines ≡ parts goes_shard (shard_at l.servers) 64 [] l.fn.lines;
+  rest : parts goes_shard (next_shard l.servers) (64 - length l.shards) l.shards l.lines ≡ parts goes_shard (next_shard l.servers) 64 [] l.fn.lines;
 }
 
 abbrev pub decreases-shards : goal.decreases-shards

@@ -1,6 +1,6 @@
 use Rattle.std.proofs.Common.{◌≡◌, ◌-◌, ◌≤◌, length}
 use Rattle.lynx_set.specs.Plain.{plain_set}
-use Rattle.lynx_text.specs.Parts.{parts, goes_table, table_at}
+use Rattle.lynx_text.specs.Parts.{parts, goes_table, next_table}
 use Rattle.lynx_text.proofs.reading.read_tables.Given as goal
 
 -- what is left decides
@@ -8,7 +8,7 @@ abbrev pub invariant-tables : goal.invariant-tables
 invariant-tables l = record {
   few : length l.set.tables ≤ 64;
   programs : l.set.programs ≡ l.fn.set.programs;
-  rest : parts goes_table table_at (64 - length l.set.tables) (plain_set l.set) l.lines ≡ parts goes_table table_at 64 (plain_set l.fn.set) l.fn.lines;
+  rest : parts goes_table next_table (64 - length l.set.tables) (plain_set l.set) l.lines ≡ parts goes_table next_table 64 (plain_set l.fn.set) l.fn.lines;
 }
 
 abbrev pub decreases-tables : goal.decreases-tables

@@ -1,6 +1,6 @@
 use Rattle.std.proofs.Common.{ap, sym, ◌∙◌, Err, arith}
-use Rattle.lynx_words.specs.Lines.{is_version}
-use Rattle.lynx_words.specs.PieceLaws.{version_is}
+use Rattle.lynx_text.specs.Pieces.{is_version}
+use Rattle.lynx_text.proofs.PieceLaws.{version_is}
 use Rattle.lynx_text.proofs.reading.read_text.Goals as goal
 
 pub returns-in-Ok-clause-bad_version : goal.returns-in-Ok-clause-bad_version

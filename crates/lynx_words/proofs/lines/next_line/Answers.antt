@@ -1,7 +1,7 @@
 use Rattle.std.proofs.Common.{◌+◌, ◌∷◌, take, ap, sym, ◌∙◌}
 use Rattle.std.specs.List.{slice_split}
 use Rattle.lynx_words.specs.Lines.{is_feed}
-use Rattle.lynx_words.specs.WordLaws.{split_found, split_none}
+use Rattle.lynx_words.proofs.WordLaws.{split_found, split_none}
 use Rattle.lynx_words.proofs.Pieces.{slice_to_end}
 use Rattle.lynx_words.proofs.lines.next_line.Goals as goal
 

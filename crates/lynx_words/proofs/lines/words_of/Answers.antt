@@ -5,7 +5,7 @@ use Rattle.std.specs.Global.{Vec}
 use Rattle.lynx_words.specs.declared.fault.FaultKind.{FaultKind}
 use Rattle.lynx_words.specs.Gives.{Gives}
 use Rattle.lynx_words.specs.Lines.{AreWords, texts, words_in, joined}
-use Rattle.lynx_words.specs.LineLaws.{words_take, words_again}
+use Rattle.lynx_words.proofs.LineLaws.{words_take, words_again}
 use Rattle.lynx_words.proofs.lines.words_of.Goals as goal
 
 found : (line : List ℕ) (r : Result (Vec (Bor (List ℕ))) FaultKind) → Gives (λ words. texts words.items) r (words_in line) → IfOk r (λ words. AreWords (texts words.items) × (line ≡ joined (texts words.items)))

@@ -1,7 +1,7 @@
 use Rattle.std.proofs.Common.{◌≡◌, ◌∙◌, ℕ, List, Option, Some, None, ap, sym}
 use Rattle.std.specs.Prelude.{IfSome, decimal}
 use Rattle.lynx_words.specs.Digits.{read_number}
-use Rattle.lynx_words.specs.NumberLaws.{number_takes, number_again}
+use Rattle.lynx_words.proofs.NumberLaws.{number_takes, number_again}
 use Rattle.lynx_words.proofs.number.number.Goals as goal
 
 found : (word : List ℕ) (r : Option ℕ) → r ≡ read_number word → IfSome r (λ n. word ≡ decimal n)

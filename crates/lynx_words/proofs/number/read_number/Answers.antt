@@ -3,7 +3,7 @@ use Rattle.std.specs.Str.{all_ascii_digits}
 use Rattle.std.proofs.lemmas.List.{at_drop_all}
 use Rattle.lynx_words.specs.Digits.{value_on}
 use Rattle.lynx_words.proofs.Numbers.{none_if_front_great}
-use Rattle.lynx_words.specs.NumberLaws.{some_if_fits}
+use Rattle.lynx_words.proofs.NumberLaws.{some_if_fits}
 use Rattle.lynx_words.proofs.number.read_number.Goals as goal
 
 pub returns-in_err-checked_mul : goal.returns-in_err-checked_mul

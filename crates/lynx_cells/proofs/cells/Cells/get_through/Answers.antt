@@ -1,7 +1,7 @@
 use Rattle.std.proofs.Common.{ℕ, Option, sym, ap, ◌∙◌}
 use Rattle.std.specs.Option.{unwrap_or}
 use Rattle.lynx_cells.specs.Database.{value_at}
-use Rattle.lynx_cells.specs.Writes.{value_at-applied}
+use Rattle.lynx_cells.proofs.Writes.{value_at-applied}
 use Rattle.lynx_cells.proofs.cells.Cells.get_through.Goals as goal
 
 pub returns-in-Some : goal.returns-in-Some

@@ -1,6 +1,6 @@
 use Rattle.std.proofs.Common.{ℕ, Some, sym, ap, ◌∙◌, subst}
 use Rattle.std.specs.FinMap as map
-use Rattle.lynx_cells.specs.CellOrder.{cell_cmp_total}
+use Rattle.lynx_cells.proofs.CellOrder.{cell_cmp_total}
 use Rattle.lynx_cells.specs.Place.{IsPlaceOf, IsGapFor}
 use Rattle.lynx_cells.specs.Triples.{entries_of}
 use Rattle.lynx_cells.proofs.Places.{find_at_place, find_in_gap}

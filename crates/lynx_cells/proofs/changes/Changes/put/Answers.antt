@@ -3,9 +3,9 @@ use Rattle.std.specs.FinMap as map
 use Rattle.std.specs.FinMap.Entries.{is_sorted-put}
 use Rattle.std.proofs.lemmas.Result.{on_ok_weaker}
 use Rattle.lynx_cells.specs.Database.{cell_cmp, applied}
-use Rattle.lynx_cells.specs.CellOrder.{cell_cmp_total}
+use Rattle.lynx_cells.proofs.CellOrder.{cell_cmp_total}
 use Rattle.lynx_cells.specs.Triples.{entries_of, RisesByCell}
-use Rattle.lynx_cells.specs.Writes.{applied-insert}
+use Rattle.lynx_cells.proofs.Writes.{applied-insert}
 use Rattle.lynx_cells.proofs.Maps.{from_entries-put}
 use Rattle.lynx_cells.proofs.changes.Changes.put.Goals as goal
 

@@ -1,0 +1,4 @@
+pub mod Changes
+pub mod Writes
+pub mod Commuting
+pub mod Framing

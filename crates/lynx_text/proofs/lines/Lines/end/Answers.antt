@@ -1,0 +1,8 @@
+use Rattle.std.proofs.Common.{◌∙◌, sym, ap}
+use Rattle.lynx_words.specs.Lines.{only_if}
+use Rattle.lynx_text.specs.Pieces.{ends}
+use Rattle.lynx_text.proofs.PieceLaws.{ends_is}
+use Rattle.lynx_text.proofs.lines.Lines.end.Goals as goal
+
+pub returns : goal.returns
+returns c = ap (λ b. only_if {X = Unit {0}} b tt) (ap ends (sym c.self.view_is) ∙ ends_is c.self.inside.rest.now ∙ sym c.is_empty.ensures ∙ c.if-is_empty.false)

@@ -1,8 +1,0 @@
-use Rattle.std.proofs.Common.{◌∙◌, sym, ap}
-use Rattle.lynx_words.specs.Lines.{next_piece}
-use Rattle.lynx_words.proofs.Pieces.{next_piece-more}
-use Rattle.lynx_words.proofs.lines.Lines.next.Goals as goal
-
-pub returns-clause-value : goal.returns-clause-value
-returns-clause-value c =
-    sym (ap next_piece (sym c.self.view_is ∙ c.in_ok-line.ensures.more) ∙ next_piece-more c.in_ok-line.line.now c.in_ok-line.rest.now)

@@ -1,6 +1,6 @@
-use crate::message::{Message, Numbers};
+use crate::message::Message;
 use crate::request::Request;
-use lynx_names::{ChainId, Memory, Stamp, TryCopy, Values};
+use lynx_names::{ChainId, Memory, Numbers, Stamp, TryCopy, Values};
 use std::alloc::Global;
 
 /// A chain began: its hop 0 ran at its origin.

@@ -1,21 +1,5 @@
-use lynx_names::{ChainId, Items, Memory, ProgramId, ServerId, Stamp, TryCopy, Values};
+use lynx_names::{ChainId, Items, Memory, Numbers, ProgramId, Stamp, TryCopy, Values};
 use std::alloc::Global;
-
-/// The number of a chain for one server that it visits.
-#[derive(Clone, Copy, Debug, PartialEq, Eq)]
-pub struct NumberAt {
-    pub server: ServerId,
-    pub number: u64,
-}
-
-impl TryCopy for NumberAt {
-    fn copy(&self, _alloc: Global) -> Result<NumberAt, Memory> {
-        Ok(*self)
-    }
-}
-
-/// A chain's numbers, one for each server that it visits, servers rising.
-pub type Numbers = Items<NumberAt>;
 
 /// The results of a chain's hops so far, hop by hop.
 pub type ResultLists = Items<Values>;

@@ -2,14 +2,15 @@
 use Rattle.std.specs.Prelude.{ℕ, Bool, if◌then◌else◌, List, [], ◌∷◌, ◌++◌, codes, Option, Some, None}
 use Rattle.std.specs.List.{flat_map}
 use Rattle.std.specs.Fmt.{decimal}
+use Rattle.lynx_names.specs.Chain.{chain_text}
 use Rattle.lynx_names.specs.declared.chain.ChainId.{ChainId}
 use Rattle.lynx_entry.specs.declared.answer.Answer.{Answer}
 use Rattle.lynx_entry.specs.declared.answer.Answer.TheVariants.{Begun, Clash, UnknownProgram, WrongOrigin, ArgCount, WrongShard, Full, Busy, Refused, Stopped, Memory}
 use Rattle.lynx_entry.specs.declared.answer.Delivered.{Delivered}
 use Rattle.lynx_entry.specs.declared.answer.Delivered.TheVariants.{Done, Repeat, Held, Dropped, Malformed, Full as FullThere, Stopped as StoppedThere, Memory as MemoryThere}
 use Rattle.lynx_entry.specs.declared.message.Message.{Message}
-use Rattle.lynx_world.specs.declared.event.Outcome.{Outcome}
-use Rattle.lynx_world.specs.declared.event.Outcome.TheVariants.{Answered, Delivered as DeliveredNow, Woken, NotSent, LostNow, Idle, Restarted, NoServer, Memory as NoMemory}
+use Rattle.lynx_entry.specs.declared.event.Outcome.{Outcome}
+use Rattle.lynx_entry.specs.declared.event.Outcome.TheVariants.{Answered, Delivered as DeliveredNow, Woken, NotSent, LostNow, Idle, Restarted, NoServer, Memory as NoMemory}
 
 -- values with a space before each
 abbrev pub spaced : List ℕ → List ℕ
@@ -19,9 +20,6 @@ spaced values = flat_map (λ value. 32 ∷ decimal value) values
 abbrev pub values_text : List ℕ → List ℕ
 values_text [] = codes "-"
 values_text (value ∷ values) = decimal value ++ spaced values
-
-abbrev pub chain_text : ChainId → List ℕ
-chain_text chain = decimal chain.origin ++ 58 ∷ decimal chain.index
 
 abbrev pub again_text : Bool → List ℕ
 again_text again = if again then codes " again" else []
@@ -78,6 +76,7 @@ outcome_text (Restarted server) = codes "restarted " ++ decimal server
 outcome_text NoServer = codes "no-server"
 outcome_text NoMemory = []
 
--- a line ends with LF
-abbrev pub line : List ℕ → List ℕ
-line text = text ++ 10 ∷ []
+-- chains with a space before each, or ` -` where there is none
+abbrev pub chains_text : List ChainId → List ℕ
+chains_text [] = codes " -"
+chains_text (chain ∷ chains) = flat_map (λ one. 32 ∷ chain_text one) (chain ∷ chains)

@@ -2,17 +2,20 @@
 ghost use Rattle.std.specs.Prelude.{◌≡◌, ◌++◌, ◌∷◌, [], OnOk, IfOk, codes};
 ghost use Rattle.std.specs.String.{string_bytes};
 ghost use Rattle.std.specs.Fmt.{decimal};
-ghost use Rattle.lynx_print.specs.Printed.{spaced, values_text, again_text, answer_text, next_text, hop_text, ran_text, delivered_text, outcome_text, line};
+ghost use Rattle.std.specs.List.{flat_map};
+ghost use Rattle.lynx_names.specs.Chain.{chain_text};
+ghost use Rattle.lynx_print.specs.Printed.{spaced, values_text, again_text, answer_text, chains_text, next_text, hop_text, ran_text, delivered_text, outcome_text};
+ghost use Rattle.lynx_words.specs.Lines.{with_feed};
 
-use lynx_entry::{Answer, Delivered, Message};
+use lynx_entry::{Answer, Delivered, Message, Outcome};
 use lynx_names::ChainId;
-use lynx_world::Outcome;
 use std::alloc::{AllocError, Global};
 use std::fmt::Write;
 
 /// A list of values: single spaces between them, or `-` where there is none.
 fn push_values(text: &mut String, values: &[u64]) -> Result<(), AllocError>
-    ensures { OnOk result (string_bytes text.new ≡ string_bytes text.old ++ values_text values.now) }
+    ensures { OnOk result (string_bytes text.new ≡ string_bytes text.old
+        ++ values_text values.now) }
 {
     match values {
         [] => text.push_str("-"),
@@ -44,7 +47,8 @@ fn push_again(text: &mut String, again: bool) -> Result<(), AllocError>
 
 /// What a begin is answered.
 fn push_answer(text: &mut String, answer: &Answer) -> Result<(), AllocError>
-    ensures { OnOk result (string_bytes text.new ≡ string_bytes text.old ++ answer_text answer.now) }
+    ensures { OnOk result (string_bytes text.new ≡ string_bytes text.old
+        ++ answer_text answer.now) }
 {
     match answer {
         Answer::Begun {
@@ -88,7 +92,8 @@ fn push_next(text: &mut String, next: &Option<Message>) -> Result<(), AllocError
 
 /// A hop of a chain, with a word before it.
 fn push_hop(text: &mut String, word: &str, chain: &ChainId, hop: u8) -> Result<(), AllocError>
-    ensures { OnOk result (string_bytes text.new ≡ string_bytes text.old ++ hop_text word.now chain.now hop) }
+    ensures { OnOk result (string_bytes text.new ≡ string_bytes text.old
+        ++ hop_text word.now chain.now hop) }
 {
     write!(text, "{word} {chain} {hop}")
 }
@@ -100,7 +105,8 @@ fn push_delivered(
     hop: u8,
     delivered: &Delivered,
 ) -> Result<(), AllocError>
-    ensures { OnOk result (string_bytes text.new ≡ string_bytes text.old ++ delivered_text chain.now hop delivered.now) }
+    ensures { OnOk result (string_bytes text.new ≡ string_bytes text.old
+        ++ delivered_text chain.now hop delivered.now) }
 {
     match delivered {
         Delivered::Done {
@@ -134,7 +140,8 @@ fn push_delivered(
 
 /// What an outcome prints, without its LF.
 fn push_outcome(text: &mut String, outcome: &Outcome) -> Result<(), AllocError>
-    ensures { OnOk result (string_bytes text.new ≡ string_bytes text.old ++ outcome_text outcome.now) }
+    ensures { OnOk result (string_bytes text.new ≡ string_bytes text.old
+        ++ outcome_text outcome.now) }
 {
     match outcome {
         Outcome::Answered(answer) => push_answer(text, answer),
@@ -159,7 +166,7 @@ fn push_outcome(text: &mut String, outcome: &Outcome) -> Result<(), AllocError>
 
 /// The line that an outcome prints.
 pub fn outcome_line(alloc: Global, outcome: &Outcome) -> Result<String, AllocError>
-    ensures { IfOk result (λ text. string_bytes text ≡ line (outcome_text outcome.now)) }
+    ensures { IfOk result (λ text. string_bytes text ≡ with_feed (outcome_text outcome.now)) }
 {
     let mut text = String::new(alloc);
     push_outcome(&mut text, outcome)?;
@@ -169,7 +176,8 @@ pub fn outcome_line(alloc: Global, outcome: &Outcome) -> Result<String, AllocErr
 
 /// The line of a nonzero cell of a table of that name.
 pub fn cell_line(alloc: Global, table: &[u8], key: u64, value: u64) -> Result<Vec<u8>, AllocError>
-    ensures { IfOk result (λ text. text.items ≡ line (codes "cell " ++ table.now ++ 32 ∷ decimal key ++ 32 ∷ decimal value)) }
+    ensures { IfOk result (λ text. text.items ≡ with_feed (codes "cell " ++ table.now
+        ++ 32 ∷ decimal key ++ 32 ∷ decimal value)) }
 {
     let mut text = Vec::new(alloc);
     text.extend_from_slice(b"cell ")?;
@@ -187,7 +195,8 @@ pub fn conflict_line(
     next: &[u8],
     entered: usize,
 ) -> Result<Vec<u8>, AllocError>
-    ensures { IfOk result (λ text. text.items ≡ line (codes "conflict " ++ program.now ++ 32 ∷ decimal left ++ 32 ∷ next.now ++ 32 ∷ decimal entered)) }
+    ensures { IfOk result (λ text. text.items ≡ with_feed (codes "conflict " ++ program.now
+        ++ 32 ∷ decimal left ++ 32 ∷ next.now ++ 32 ∷ decimal entered)) }
 {
     let mut text = Vec::new(alloc);
     text.extend_from_slice(b"conflict ")?;
@@ -195,5 +204,31 @@ pub fn conflict_line(
     text.extend_from_slice(format!(in alloc; " {left} ")?.as_bytes())?;
     text.extend_from_slice(next)?;
     text.extend_from_slice(format!(in alloc; " {entered}\n")?.as_bytes())?;
+    Ok(text)
+}
+
+/// Chains with a space before each.
+fn push_chains(text: &mut String, chains: &[ChainId]) -> Result<(), AllocError>
+    ensures { OnOk result (string_bytes text.new
+        ≡ string_bytes text.old ++ flat_map (λ one. 32 ∷ chain_text one) chains.now) }
+{
+    for chain in chains {
+        write!(text, " {chain}")?;
+    }
+    Ok(())
+}
+
+/// A line of chains behind a word: `order` or `cycle`. Where there is no chain, `-` stands in their place.
+pub fn chains_line(alloc: Global, word: &str, chains: &[ChainId]) -> Result<String, AllocError>
+    ensures { IfOk result (λ text. string_bytes text ≡ with_feed (word.now
+        ++ chains_text chains.now)) }
+{
+    let mut text = String::from_str(alloc, word)?;
+    if chains.is_empty() {
+        text.push_str(" -")?;
+    } else {
+        push_chains(&mut text, chains)?;
+    }
+    text.push_str("\n")?;
     Ok(text)
 }

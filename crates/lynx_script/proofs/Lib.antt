@@ -1,4 +1,2 @@
-pub mod LineLemmas
-pub mod InputLemmas
 pub mod SpelledLemmas
 pub mod EventLemmas

@@ -20,14 +20,14 @@ use Rattle.lynx_words.specs.Lines.{◌>>=◌, texts}
 use Rattle.lynx_set.specs.Names.{place_of, place_below}
 use Rattle.lynx_set.specs.Set.{Set}
 use Rattle.lynx_set.specs.Text.{name_at}
-use Rattle.lynx_words.specs.WordLaws.{and_true, cond_some, own}
-use Rattle.lynx_print.specs.Printed.{chain_text}
+use Rattle.lynx_words.proofs.WordLaws.{and_true, cond_some, own}
+use Rattle.lynx_names.specs.Chain.{chain_text}
 use Rattle.lynx_script.specs.Scripts.{is_colon, FitsServer}
-use Rattle.lynx_script.specs.Spelled.{Fails, IsRead}
-use Rattle.lynx_words.specs.Equal.{first_is, rest_is}
+use Rattle.lynx_script.specs.Spelled.{MeansUnread, IsRead}
+use Rattle.lynx_words.proofs.Equal.{first_is, rest_is}
 
 -- a fault that means one thing means what follows from it
-pub fails_so : (kind : FaultKind) (only then : Type 0) → (only → then) → Fails kind only → Fails kind then
+pub fails_so : (kind : FaultKind) (only then : Type 0) → (only → then) → MeansUnread kind only → MeansUnread kind then
 fails_so TooLong only then so h = h
 fails_so BadVersion only then so h = h
 fails_so BadLine only then so h = so h

@@ -4,28 +4,31 @@ ghost use Rattle.std.specs.List.{AllByRecursion, slice_split};
 ghost use Rattle.lynx_names.specs.declared.limits.TheConstants.{MAX_SERVERS, MAX_TEXT_BYTES};
 ghost use Rattle.lynx_words.specs.Lines.{next_line, texts, line};
 ghost use Rattle.lynx_set.specs.Text.{name_at};
-ghost use Rattle.lynx_print.specs.Printed.{chain_text};
-ghost use Rattle.lynx_script.specs.Scripts.{is_colon, names_of, begin_words, message_words, event_words, FitsServer, FitsProgram, FitsBegin, FitsDeliver, FitsEvent, script_of, IsScript};
-ghost use Rattle.lynx_script.specs.Spelled.{Fails, IsRead};
+ghost use Rattle.lynx_names.specs.Chain.{chain_text};
+ghost use Rattle.lynx_script.specs.Scripts.{is_colon, begin_words, message_words, event_words, FitsServer, FitsProgram, FitsBegin, FitsMessage, FitsEvent, script_of, IsScript};
+ghost use Rattle.lynx_script.specs.Spelled.{MeansUnread, IsRead};
+ghost use Rattle.lynx_set.specs.Lookups.{program_names};
 
-use lynx_entry::Request;
+use lynx_entry::{Event, Request};
 use lynx_names::limits::{MAX_PARAMETERS, MAX_TEXT_BYTES};
 use lynx_names::{ChainId, ClientId, Items, ProgramId, ServerId, Stamp, Values};
 use lynx_set::ChainSet;
 use lynx_words::lines::{next_line, words_of};
 use lynx_words::number::number;
 use lynx_words::{FaultKind, Name, TextFault};
-use lynx_world::Event;
 use std::alloc::Global;
 
 /// The events that a script spells, all judged before any is run. An error tells the fault on the earliest line,
 /// or want of memory.
 pub fn parse_script(alloc: Global, set: &ChainSet, text: &[u8]) -> Result<Vec<Event>, TextFault>
     // What is read is spelled so.
-    ensures found { IfOk result (λ events. IsScript set.now events.items × (text.now ≡ script_of set.now events.items)) }
+    ensures found { IfOk result (λ events. IsScript set.now events.items
+        × (text.now ≡ script_of set.now events.items)) }
     // What is spelled so is read.
-    ensures only { IfErr result (λ fault. (fault.kind ≡ FaultKind.Memory) ⊎ ((events : List Event) → IsScript set.now events → text.now ≢ script_of set.now events)) }
-    ensures too_long { IsErrAnd result (λ fault. fault.kind ≡ FaultKind.TooLong) ↔ (MAX_TEXT_BYTES < length text.now) }
+    ensures only { IfErr result (λ fault. (fault.kind ≡ FaultKind.Memory)
+        ⊎ ((events : List Event) → IsScript set.now events → text.now ≢ script_of set.now events)) }
+    ensures too_long { IsErrAnd result (λ fault. fault.kind ≡ FaultKind.TooLong)
+        ↔ (MAX_TEXT_BYTES < length text.now) }
 {
     if text.len() > MAX_TEXT_BYTES {
         return Err(TextFault {
@@ -53,11 +56,14 @@ fn read_line<'a>(
     text: &'a [u8],
     events: &mut Vec<Event>,
 ) -> Result<&'a [u8], FaultKind>
-    ensures found { IfOk result (λ rest. (event : Event) × FitsEvent set.now event × (events.new.items ≡ events.old.items ++ event ∷ [])
-        × (text.now ≡ line (event_words (names_of set.now) event) ++ rest.now)) }
-    ensures next { IfOk result (λ rest. (first : List ℕ) × (next_line text.now ≡ Some (first, rest.now))) }
-    ensures only { IfErr result (λ kind. Fails kind ((event : Event) (more : List ℕ) → FitsEvent set.now event
-        → text.now ≢ line (event_words (names_of set.now) event) ++ more)) }
+    ensures found { IfOk result (λ rest. (event : Event) × FitsEvent set.now event
+        × (events.new.items ≡ events.old.items ++ event ∷ [])
+        × (text.now ≡ line (event_words (program_names set.now) event) ++ rest.now)) }
+    ensures next { IfOk result (λ rest. (first : List ℕ) × (next_line text.now
+        ≡ Some (first, rest.now))) }
+    ensures only { IfErr result (λ kind. MeansUnread kind ((event : Event) (more : List ℕ)
+        → FitsEvent set.now event
+        → text.now ≢ line (event_words (program_names set.now) event) ++ more)) }
     ensures shrinks { IfOk result (λ rest. length rest.now < length text.now) }
 {
     let Some((line, rest)) = next_line(text) else {
@@ -71,7 +77,8 @@ fn read_line<'a>(
 
 /// The event of a line of these words.
 fn read_event(alloc: Global, set: &ChainSet, words: &[&[u8]]) -> Result<Event, FaultKind>
-    ensures { IsRead (FitsEvent set.now) (event_words (names_of set.now)) (texts words.now) result }
+    ensures { IsRead (FitsEvent set.now) (event_words (program_names set.now))
+        (texts words.now) result }
 {
     let Some((verb, words)) = words.split_first() else {
         return Err(FaultKind::BadLine);
@@ -86,8 +93,27 @@ fn read_event(alloc: Global, set: &ChainSet, words: &[&[u8]]) -> Result<Event, F
     } else if *verb == b"deliver".as_slice() {
         let (chain, hop) = read_message(set, words)?;
         Ok(Event::Deliver { chain, hop })
+    } else if *verb == b"lose".as_slice() {
+        let (lost, hop) = read_message(set, words)?;
+        Ok(Event::Lost { chain: lost, hop })
+    } else if *verb == b"wake".as_slice() {
+        let woken = read_one_server(set, words)?;
+        Ok(Event::Wake { server: woken })
+    } else if *verb == b"restart".as_slice() {
+        let restarted = read_one_server(set, words)?;
+        Ok(Event::Restart { server: restarted })
     } else {
         Err(FaultKind::BadLine)
+    }
+}
+
+/// `SERVER`
+fn read_one_server(set: &ChainSet, words: &[&[u8]]) -> Result<ServerId, FaultKind>
+    ensures { IsRead (FitsServer set.now) (λ server. decimal server ∷ []) (texts words.now) result }
+{
+    match words {
+        [word] => read_server(set, word),
+        _ => Err(FaultKind::BadLine),
     }
 }
 
@@ -97,7 +123,8 @@ fn read_begin(
     set: &ChainSet,
     words: &[&[u8]],
 ) -> Result<(ServerId, Request), FaultKind>
-    ensures { IsRead (λ begin. FitsBegin set.now begin.0 begin.1 0) (λ begin. begin_words (names_of set.now) begin.0 begin.1) (texts words.now) result }
+    ensures { IsRead (λ begin. FitsBegin set.now begin.0 begin.1 0) (λ begin.
+        begin_words (program_names set.now) begin.0 begin.1) (texts words.now) result }
 {
     if words.len() < 4 {
         return Err(FaultKind::BadLine);
@@ -123,7 +150,8 @@ fn read_begin(
 
 /// Numbers, one for each word.
 fn read_numbers(alloc: Global, words: &[&[u8]]) -> Result<Values, FaultKind>
-    ensures { IsRead (AllByRecursion (λ number. number < 2 ^ 64)) (map decimal) (texts words.now) result }
+    ensures { IsRead (AllByRecursion (λ number. number < 2 ^ 64)) (map decimal)
+        (texts words.now) result }
 {
     let mut numbers = Items::new(alloc);
     for word in words {
@@ -134,7 +162,8 @@ fn read_numbers(alloc: Global, words: &[&[u8]]) -> Result<Values, FaultKind>
 
 /// `ORIGIN:INDEX HOP`
 fn read_message(set: &ChainSet, words: &[&[u8]]) -> Result<(ChainId, u8), FaultKind>
-    ensures { IsRead (λ message. FitsDeliver set.now message.0 message.1) (λ message. message_words message.0 message.1) (texts words.now) result }
+    ensures { IsRead (λ message. FitsMessage set.now message.0 message.1) (λ message.
+        message_words message.0 message.1) (texts words.now) result }
 {
     if words.len() != 2 {
         return Err(FaultKind::BadLine);
@@ -146,7 +175,8 @@ fn read_message(set: &ChainSet, words: &[&[u8]]) -> Result<(ChainId, u8), FaultK
 
 /// `ORIGIN:INDEX`, the origin a server of the set.
 fn read_chain(set: &ChainSet, word: &[u8]) -> Result<ChainId, FaultKind>
-    ensures { IsRead (λ chain. FitsServer set.now chain.origin × (chain.index < 2 ^ 64)) chain_text word.now result }
+    ensures { IsRead (λ chain. FitsServer set.now chain.origin
+        × (chain.index < 2 ^ 64)) chain_text word.now result }
 {
     let servers = set.servers();
     let Some((origin, index)) = split_chain(word) else {
@@ -160,8 +190,10 @@ fn read_chain(set: &ChainSet, word: &[u8]) -> Result<ChainId, FaultKind>
 
 /// The parts before and behind the one colon.
 fn split_chain(word: &[u8]) -> Option<(&[u8], &[u8])>
-    ensures found { IfSome result (λ parts. slice_split is_colon word.now ≡ parts.0.now ∷ parts.1.now ∷ []) }
-    ensures none { IfNone result ((origin index : List ℕ) → slice_split is_colon word.now ≢ origin ∷ index ∷ []) }
+    ensures found { IfSome result (λ parts. slice_split is_colon word.now
+        ≡ parts.0.now ∷ parts.1.now ∷ []) }
+    ensures none { IfNone result ((origin index : List ℕ)
+        → slice_split is_colon word.now ≢ origin ∷ index ∷ []) }
 {
     let colon = place_of_colon(word)?;
     let index = &word[colon + 1..];
@@ -218,7 +250,7 @@ fn known_server(servers: u8, number: u64) -> Result<ServerId, FaultKind>
 
 /// A program of the set.
 fn read_program(set: &ChainSet, word: &[u8]) -> Result<ProgramId, FaultKind>
-    ensures { IsRead (FitsProgram set.now) (name_at (names_of set.now)) word.now result }
+    ensures { IsRead (FitsProgram set.now) (name_at (program_names set.now)) word.now result }
 {
     let Some(name) = Name::new(word) else {
         return Err(FaultKind::BadName);

@@ -1,6 +1,6 @@
 use Rattle.std.proofs.Common.{◌≡◌, ◌++◌, List, length}
 use Rattle.std.specs.List.{AllByRecursion}
-use Rattle.lynx_world.specs.declared.event.Event.{Event}
+use Rattle.lynx_entry.specs.declared.event.Event.{Event}
 use Rattle.lynx_script.specs.Scripts.{FitsEvent, script_of}
 use Rattle.lynx_script.proofs.script.parse_script.Given as goal
 

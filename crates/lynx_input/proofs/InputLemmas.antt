@@ -5,12 +5,11 @@ use Rattle.std.specs.List.{flat_map, AllByRecursion}
 use Rattle.std.proofs.lemmas.Grind.{flat_map-append}
 use Rattle.std.proofs.lemmas.List.{append-nil, length-append}
 use Rattle.std.proofs.Math.Seq.{take-append_seam}
-use Rattle.lynx_words.specs.Lines.{is_feed, next_line}
-use Rattle.lynx_words.specs.WordLaws.{and_true}
-use Rattle.lynx_script.specs.Inputs.{IsOther, IsCut, HasNoCut}
-use Rattle.lynx_print.specs.Printed.{line}
-use Rattle.lynx_script.proofs.LineLemmas.{HasNoFeed, line_taken, last_line}
-use Rattle.lynx_words.specs.Equal.{first_is, rest_is}
+use Rattle.lynx_words.specs.Lines.{is_feed, next_line, with_feed}
+use Rattle.lynx_words.proofs.WordLaws.{and_true}
+use Rattle.lynx_input.specs.Inputs.{IsOther, IsCut, HasNoCut}
+use Rattle.lynx_words.proofs.NextLine.{HasNoFeed, line_taken, last_line}
+use Rattle.lynx_words.proofs.Equal.{first_is, rest_is}
 
 feed_not : (y : ℕ) → 10 ≡ y → not (is_feed y) ≡ true → ⊥
 feed_not y is none = let bad : false ≡ true = ap (λ n. not (is_feed n)) is ∙ none in cc
@@ -36,29 +35,29 @@ no_feed_in [] r (y ∷ text) none e = feed_not y (sym (first_is y 10 text r e)) 
 no_feed_in (x ∷ a) r (y ∷ text) none e = no_feed_in a r text (and_true (not (is_feed y)) _ none).1 (rest_is y x text (a ++ 10 ∷ r) e)
 
 -- a line before some text, and its LF
-line_before : (l more : List ℕ) → line l ++ more ≡ l ++ 10 ∷ more
+line_before : (l more : List ℕ) → with_feed l ++ more ≡ l ++ 10 ∷ more
 line_before l more = append_assoc l (10 ∷ []) more
 
 -- a cut behind a first line that is no separator is one of the rest
 cut_less : (l rest text before after : List ℕ) → text ≡ l ++ 10 ∷ rest → IsOther l → IsCut text before after → (less : List ℕ) × IsCut rest less after
 cut_less l rest text before after is other cut = by cut.lines cut.others cut.spelled
   where
-    separator : before ≡ [] → (text ≡ before ++ (line (codes "--") ++ after)) ⊎ ((text ≡ before ++ codes "--") × (after ≡ [])) → ⊥
-    separator none (inl whole) = other.1 (one_line l (codes "--") rest after other.0 refl (sym is ∙ whole ∙ ap (λ (b : List ℕ). b ++ (line (codes "--") ++ after)) none)).0
+    separator : before ≡ [] → (text ≡ before ++ (with_feed (codes "--") ++ after)) ⊎ ((text ≡ before ++ codes "--") × (after ≡ [])) → ⊥
+    separator none (inl whole) = other.1 (one_line l (codes "--") rest after other.0 refl (sym is ∙ whole ∙ ap (λ (b : List ℕ). b ++ (with_feed (codes "--") ++ after)) none)).0
     separator none (inr whole) = no_feed_in l rest (codes "--") refl (sym (whole.0 ∙ ap (λ (b : List ℕ). b ++ codes "--") none) ∙ is)
 
-    behind : (m : List ℕ) (ms : List (List ℕ)) (tail : List ℕ) → before ≡ flat_map line (m ∷ ms) → text ≡ before ++ tail → HasNoFeed m → (l ≡ m) × (rest ≡ flat_map line ms ++ tail)
+    behind : (m : List ℕ) (ms : List (List ℕ)) (tail : List ℕ) → before ≡ flat_map with_feed (m ∷ ms) → text ≡ before ++ tail → HasNoFeed m → (l ≡ m) × (rest ≡ flat_map with_feed ms ++ tail)
     behind m ms tail spelled whole none =
-        one_line l m rest (flat_map line ms ++ tail) other.0 none
-        (sym is ∙ whole ∙ ap (λ (b : List ℕ). b ++ tail) spelled ∙ append_assoc (line m) (flat_map line ms) tail ∙ line_before m (flat_map line ms ++ tail))
+        one_line l m rest (flat_map with_feed ms ++ tail) other.0 none
+        (sym is ∙ whole ∙ ap (λ (b : List ℕ). b ++ tail) spelled ∙ append_assoc (with_feed m) (flat_map with_feed ms) tail ∙ line_before m (flat_map with_feed ms ++ tail))
 
-    cut_rest : (m : List ℕ) (ms : List (List ℕ)) → HasNoFeed m → AllByRecursion IsOther ms → before ≡ flat_map line (m ∷ ms)
-        → (text ≡ before ++ (line (codes "--") ++ after)) ⊎ ((text ≡ before ++ codes "--") × (after ≡ [])) → IsCut rest (flat_map line ms) after
+    cut_rest : (m : List ℕ) (ms : List (List ℕ)) → HasNoFeed m → AllByRecursion IsOther ms → before ≡ flat_map with_feed (m ∷ ms)
+        → (text ≡ before ++ (with_feed (codes "--") ++ after)) ⊎ ((text ≡ before ++ codes "--") × (after ≡ [])) → IsCut rest (flat_map with_feed ms) after
     cut_rest m ms none others spelled (inl whole) = record {
       lines = ms;
       others = others;
       spelled = refl;
-      whole = inl (behind m ms (line (codes "--") ++ after) spelled whole none).1;
+      whole = inl (behind m ms (with_feed (codes "--") ++ after) spelled whole none).1;
     }
     cut_rest m ms none others spelled (inr whole) = record {
       lines = ms;
@@ -67,16 +66,16 @@ cut_less l rest text before after is other cut = by cut.lines cut.others cut.spe
       whole = inr ((behind m ms (codes "--") spelled whole.0 none).1, whole.1);
     }
 
-    by : (lines : List (List ℕ)) → AllByRecursion IsOther lines → before ≡ flat_map line lines → (less : List ℕ) × IsCut rest less after
+    by : (lines : List (List ℕ)) → AllByRecursion IsOther lines → before ≡ flat_map with_feed lines → (less : List ℕ) × IsCut rest less after
     by [] others spelled = absurd (separator spelled cut.whole)
-    by (m ∷ ms) others spelled = (flat_map line ms, cut_rest m ms others.0.0 others.1 spelled cut.whole)
+    by (m ∷ ms) others spelled = (flat_map with_feed ms, cut_rest m ms others.0.0 others.1 spelled cut.whole)
 
 -- so far as it was read, no line of the input is `--`, and each cut of it is one of the rest
 pub record HasRead (input : List ℕ) (read : ℕ) (rest : List ℕ) : Type 0 where
   pub lines : List (List ℕ)
   pub others : AllByRecursion IsOther lines
-  pub place : read ≡ length (flat_map line lines)
-  pub spelled : input ≡ flat_map line lines ++ rest
+  pub place : read ≡ length (flat_map with_feed lines)
+  pub spelled : input ≡ flat_map with_feed lines ++ rest
   pub kept : (before after : List ℕ) → IsCut input before after → (less : List ℕ) × IsCut rest less after
 
 pub nothing_read : (input : List ℕ) → HasRead input 0 input
@@ -89,19 +88,19 @@ nothing_read input = record {
 }
 
 pub read_within : (input rest : List ℕ) (read : ℕ) → HasRead input read rest → read + length rest ≡ length input
-read_within input rest read so_far = omega (arith, so_far.place, ap length so_far.spelled, length-append (flat_map line so_far.lines) rest)
+read_within input rest read so_far = omega (arith, so_far.place, ap length so_far.spelled, length-append (flat_map with_feed so_far.lines) rest)
 
 -- the input before the place is the lines that were read
-read_front : (input rest : List ℕ) (read : ℕ) (so_far : HasRead input read rest) → take read input ≡ flat_map line so_far.lines
+read_front : (input rest : List ℕ) (read : ℕ) (so_far : HasRead input read rest) → take read input ≡ flat_map with_feed so_far.lines
 read_front input rest read so_far =
-    ap (λ n. take n input) so_far.place ∙ ap (take (length (flat_map line so_far.lines))) so_far.spelled ∙ take-append_seam (flat_map line so_far.lines) rest
+    ap (λ n. take n input) so_far.place ∙ ap (take (length (flat_map with_feed so_far.lines))) so_far.spelled ∙ take-append_seam (flat_map with_feed so_far.lines) rest
 
 others_push : (lines : List (List ℕ)) (l : List ℕ) → AllByRecursion IsOther lines → IsOther l → AllByRecursion IsOther (lines ++ l ∷ [])
 others_push [] l all one = (one, tt)
 others_push (m ∷ lines) l all one = (all.0, others_push lines l all.1 one)
 
-lines_push : (lines : List (List ℕ)) (l : List ℕ) → flat_map line (lines ++ l ∷ []) ≡ flat_map line lines ++ line l
-lines_push lines l = flat_map-append line lines (l ∷ []) ∙ ap (λ (bytes : List ℕ). flat_map line lines ++ bytes) (append-nil (line l))
+lines_push : (lines : List (List ℕ)) (l : List ℕ) → flat_map with_feed (lines ++ l ∷ []) ≡ flat_map with_feed lines ++ with_feed l
+lines_push lines l = flat_map-append with_feed lines (l ∷ []) ∙ ap (λ (bytes : List ℕ). flat_map with_feed lines ++ bytes) (append-nil (with_feed l))
 
 -- one more line
 pub line_read : (input rest l after : List ℕ) (read : ℕ) → HasRead input read rest → next_line rest ≡ Some (l, after) → (l ≡ codes "--" → ⊥)
@@ -111,9 +110,9 @@ line_read input rest l after read so_far next other =
     record {
       lines = so_far.lines ++ l ∷ [];
       others = others_push so_far.lines l so_far.others (taken.1, other);
-      place = omega (arith, so_far.place, ap length (lines_push so_far.lines l), length-append (flat_map line so_far.lines) (line l), length-append l (10 ∷ []));
-      spelled = so_far.spelled ∙ ap (λ (bytes : List ℕ). flat_map line so_far.lines ++ bytes) (taken.0 ∙ sym (line_before l after))
-          ∙ sym (append_assoc (flat_map line so_far.lines) (line l) after) ∙ ap (λ (bytes : List ℕ). bytes ++ after) (sym (lines_push so_far.lines l));
+      place = omega (arith, so_far.place, ap length (lines_push so_far.lines l), length-append (flat_map with_feed so_far.lines) (with_feed l), length-append l (10 ∷ []));
+      spelled = so_far.spelled ∙ ap (λ (bytes : List ℕ). flat_map with_feed so_far.lines ++ bytes) (taken.0 ∙ sym (line_before l after))
+          ∙ sym (append_assoc (flat_map with_feed so_far.lines) (with_feed l) after) ∙ ap (λ (bytes : List ℕ). bytes ++ after) (sym (lines_push so_far.lines l));
       kept = λ before behind cut.
           let less = so_far.kept before behind cut in cut_less l after rest less.0 behind taken.0 (taken.1, other) less.1;
     }
@@ -144,20 +143,20 @@ pub no_cut : (input rest : List ℕ) (read : ℕ) → HasRead input read rest �
 no_cut input rest read so_far last other before after cut =
     let less = so_far.kept before after cut in none less.0 less.1
   where
-    ends : (less : List ℕ) → less ≡ [] → (rest ≡ less ++ (line (codes "--") ++ after)) ⊎ ((rest ≡ less ++ codes "--") × (after ≡ [])) → ⊥
-    ends less is (inl whole) = no_feed_in (codes "--") after rest (last_line rest last) (whole ∙ ap (λ (b : List ℕ). b ++ (line (codes "--") ++ after)) is)
+    ends : (less : List ℕ) → less ≡ [] → (rest ≡ less ++ (with_feed (codes "--") ++ after)) ⊎ ((rest ≡ less ++ codes "--") × (after ≡ [])) → ⊥
+    ends less is (inl whole) = no_feed_in (codes "--") after rest (last_line rest last) (whole ∙ ap (λ (b : List ℕ). b ++ (with_feed (codes "--") ++ after)) is)
     ends less is (inr whole) = other (whole.0 ∙ ap (λ (b : List ℕ). b ++ codes "--") is)
 
-    goes_on : (less m : List ℕ) (ms : List (List ℕ)) (tail : List ℕ) → less ≡ flat_map line (m ∷ ms) → rest ≡ less ++ tail → ⊥
+    goes_on : (less m : List ℕ) (ms : List (List ℕ)) (tail : List ℕ) → less ≡ flat_map with_feed (m ∷ ms) → rest ≡ less ++ tail → ⊥
     goes_on less m ms tail spelled whole =
-        no_feed_in m (flat_map line ms ++ tail) rest (last_line rest last)
-        (whole ∙ ap (λ (b : List ℕ). b ++ tail) spelled ∙ append_assoc (line m) (flat_map line ms) tail ∙ line_before m (flat_map line ms ++ tail))
+        no_feed_in m (flat_map with_feed ms ++ tail) rest (last_line rest last)
+        (whole ∙ ap (λ (b : List ℕ). b ++ tail) spelled ∙ append_assoc (with_feed m) (flat_map with_feed ms) tail ∙ line_before m (flat_map with_feed ms ++ tail))
 
-    later : (less m : List ℕ) (ms : List (List ℕ)) → less ≡ flat_map line (m ∷ ms) → (rest ≡ less ++ (line (codes "--") ++ after)) ⊎ ((rest ≡ less ++ codes "--") × (after ≡ [])) → ⊥
-    later less m ms spelled (inl whole) = goes_on less m ms (line (codes "--") ++ after) spelled whole
+    later : (less m : List ℕ) (ms : List (List ℕ)) → less ≡ flat_map with_feed (m ∷ ms) → (rest ≡ less ++ (with_feed (codes "--") ++ after)) ⊎ ((rest ≡ less ++ codes "--") × (after ≡ [])) → ⊥
+    later less m ms spelled (inl whole) = goes_on less m ms (with_feed (codes "--") ++ after) spelled whole
     later less m ms spelled (inr whole) = goes_on less m ms (codes "--") spelled whole.0
 
-    by : (less : List ℕ) (lines : List (List ℕ)) → less ≡ flat_map line lines → (rest ≡ less ++ (line (codes "--") ++ after)) ⊎ ((rest ≡ less ++ codes "--") × (after ≡ [])) → ⊥
+    by : (less : List ℕ) (lines : List (List ℕ)) → less ≡ flat_map with_feed lines → (rest ≡ less ++ (with_feed (codes "--") ++ after)) ⊎ ((rest ≡ less ++ codes "--") × (after ≡ [])) → ⊥
     by less [] spelled whole = ends less spelled whole
     by less (m ∷ ms) spelled whole = later less m ms spelled whole
 

@@ -2,7 +2,7 @@
 ghost use Rattle.std.specs.Prelude.{◌≡◌, ◌≤◌, IfSome, IfOk, length, take};
 
 use lynx_names::Memory;
-use std::alloc::Global;
+use std::alloc::{AllocError, Global};
 use std::io::Read;
 use thiserror::Error;
 
@@ -15,6 +15,7 @@ pub const MAX_FILE_BYTES: usize = 65_537;
 /// A source that needs more reads than this can't be read.
 const MAX_READS: u32 = 1_000_000;
 
+/// Why a source was not read.
 #[derive(Clone, Copy, Debug, PartialEq, Eq, Error)]
 pub enum InputFault {
     #[error("cannot read")]
@@ -25,7 +26,7 @@ pub enum InputFault {
 
 impl From<Memory> for InputFault {
     ghost use Rattle.std.specs.Prelude.{◌≡◌};
-    ghost use Rattle.lynx_script.specs.declared.reading.InputFault.TheVariants.{Memory as NoMemory};
+    ghost use Rattle.lynx_input.specs.declared.source.InputFault.TheVariants.{Memory as NoMemory};
 
     ghost from_gives = { λ _ fault. fault ≡ NoMemory };
 
@@ -34,13 +35,13 @@ impl From<Memory> for InputFault {
     }
 }
 
-impl From<std::alloc::AllocError> for InputFault {
+impl From<AllocError> for InputFault {
     ghost use Rattle.std.specs.Prelude.{◌≡◌};
-    ghost use Rattle.lynx_script.specs.declared.reading.InputFault.TheVariants.{Memory as NoMemory};
+    ghost use Rattle.lynx_input.specs.declared.source.InputFault.TheVariants.{Memory as NoMemory};
 
     ghost from_gives = { λ _ fault. fault ≡ NoMemory };
 
-    fn from(_: std::alloc::AllocError) -> InputFault {
+    fn from(_: AllocError) -> InputFault {
         InputFault::Memory
     }
 }
@@ -49,7 +50,8 @@ impl From<std::alloc::AllocError> for InputFault {
 /// the source fails, or would need more than 1,000,000 reads.
 pub fn read_all<R: Read>(alloc: Global, reader: &mut R, limit: usize) -> Result<Vec<u8>, InputFault>
     ensures within { IfOk result (λ bytes. length bytes.items ≤ limit) }
-    ensures known { IfOk result (λ bytes. IfSome (R.remaining reader.old) (λ source. bytes.items ≡ take limit source)) }
+    ensures known { IfOk result (λ bytes. IfSome (R.remaining reader.old) (λ source.
+        bytes.items ≡ take limit source)) }
 {
     let mut bytes = Vec::new(alloc);
     let mut buffer = [0u8; 4096];
@@ -68,5 +70,9 @@ pub fn read_all<R: Read>(alloc: Global, reader: &mut R, limit: usize) -> Result<
         }
         bytes.extend_from_slice(&buffer[..count])?;
     }
-    Err(InputFault::Read)
+    if bytes.len() < limit {
+        Err(InputFault::Read)
+    } else {
+        Ok(bytes)
+    }
 }

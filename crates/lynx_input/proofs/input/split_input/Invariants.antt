@@ -1,6 +1,6 @@
 use Rattle.std.proofs.Common.{length}
-use Rattle.lynx_script.proofs.InputLemmas.{HasRead}
-use Rattle.lynx_script.proofs.input.split_input.Given as goal
+use Rattle.lynx_input.proofs.InputLemmas.{HasRead}
+use Rattle.lynx_input.proofs.input.split_input.Given as goal
 
 abbrev pub invariant-loop-line : goal.invariant-loop-line
 invariant-loop-line l = HasRead l.input l.read l.rest

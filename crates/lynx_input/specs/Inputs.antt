@@ -1,8 +1,7 @@
 -- The input: a set text, a line that is exactly `--`, and a script.
 use Rattle.std.specs.Prelude.{◌≡◌, ◌≢◌, not, true, ℕ, List, [], ◌++◌, ◌⊎◌, codes}
 use Rattle.std.specs.List.{flat_map, list_all, AllByRecursion}
-use Rattle.lynx_words.specs.Lines.{is_feed}
-use Rattle.lynx_print.specs.Printed.{line}
+use Rattle.lynx_words.specs.Lines.{is_feed, with_feed}
 
 -- a line, without its LF, that isn't `--`
 abbrev pub IsOther : List ℕ → Type 0
@@ -13,8 +12,8 @@ IsOther text = (list_all (λ byte. not (is_feed byte)) text ≡ true) × (text �
 pub record IsCut (input before after : List ℕ) : Type 0 where
   pub lines : List (List ℕ)
   pub others : AllByRecursion IsOther lines
-  pub spelled : before ≡ flat_map line lines
-  pub whole : (input ≡ before ++ (line (codes "--") ++ after)) ⊎ ((input ≡ before ++ codes "--") × (after ≡ []))
+  pub spelled : before ≡ flat_map with_feed lines
+  pub whole : (input ≡ before ++ (with_feed (codes "--") ++ after)) ⊎ ((input ≡ before ++ codes "--") × (after ≡ []))
 
 -- no line is `--`
 abbrev pub HasNoCut : List ℕ → Type 0

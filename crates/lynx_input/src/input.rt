@@ -1,6 +1,6 @@
 //! The input: a set text, a line that is exactly `--`, and a script.
 ghost use Rattle.std.specs.Prelude.{◌≡◌, ◌≢◌, true, false, IfSome, IfNone, codes};
-ghost use Rattle.lynx_script.specs.Inputs.{IsCut, HasNoCut};
+ghost use Rattle.lynx_input.specs.Inputs.{IsCut, HasNoCut};
 
 use lynx_words::lines::next_line;
 

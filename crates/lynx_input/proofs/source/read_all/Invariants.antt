@@ -1,6 +1,6 @@
 use Rattle.std.proofs.Common.{◌≤◌, length}
 use Rattle.std.specs.Io.KnownBytes.{Consumes}
-use Rattle.lynx_script.proofs.reading.read_all.Given as goal
+use Rattle.lynx_input.proofs.source.read_all.Given as goal
 
 -- what was read is the front of the source, and not more than asked for
 abbrev pub invariant-loop : goal.invariant-loop

@@ -1,6 +1,6 @@
 use Rattle.std.proofs.Common.{sym}
-use Rattle.lynx_script.proofs.InputLemmas.{line_read, cut_here, cut_at_end, no_cut}
-use Rattle.lynx_script.proofs.input.split_input.Goals as goal
+use Rattle.lynx_input.proofs.InputLemmas.{line_read, cut_here, cut_at_end, no_cut}
+use Rattle.lynx_input.proofs.input.split_input.Goals as goal
 
 pub returns-then-is_separator-clause-cut : goal.returns-then-is_separator-clause-cut
 returns-then-is_separator-clause-cut c =

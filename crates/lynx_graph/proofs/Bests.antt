@@ -7,7 +7,7 @@ use Rattle.lynx_graph.specs.declared.nodes.Node.{Node}
 use Rattle.lynx_graph.specs.declared.search.Outcome.{Outcome}
 use Rattle.lynx_graph.specs.declared.search.Outcome.TheVariants.{Found, Nothing, Longer}
 use Rattle.lynx_graph.specs.declared.visit.Visit.{Visit}
-use Rattle.lynx_graph.specs.Reading.{IsSound}
+use Rattle.lynx_graph.specs.Tracing.{IsSound}
 use Rattle.lynx_graph.specs.Searches.{Answers, ClosesNone, better}
 
 -- the best walk offends, and where there is none no start so far closes one

@@ -9,14 +9,14 @@ use Rattle.lynx_graph.specs.declared.joins.Place.{Place}
 use Rattle.lynx_graph.specs.declared.nodes.Exit.{Exit}
 use Rattle.lynx_graph.specs.declared.nodes.Node.{Node}
 use Rattle.lynx_graph.specs.declared.marks.Marks.{Marks}
-use Rattle.lynx_graph.specs.declared.reading.Arrival.{Arrival}
-use Rattle.lynx_graph.specs.declared.reading.Step.{Step}
+use Rattle.lynx_graph.specs.declared.tracing.Arrival.{Arrival}
+use Rattle.lynx_graph.specs.declared.tracing.Step.{Step}
 use Rattle.lynx_graph.specs.declared.visit.Visit.{Visit}
-use Rattle.lynx_graph.specs.Walks.{IsAccepted, origin_of}
+use Rattle.lynx_graph.specs.Walks.{IsAccepted}
 use Rattle.lynx_graph.specs.Tests.{crosses, differs, entrance_of, exit_of, joins}
 use Rattle.lynx_graph.specs.Nodes.{nodes_of, places_of}
 use Rattle.lynx_graph.specs.Marks.{goes_on, is_abroad, leaves, leaving_table, mark_at, next_table, table_within}
-use Rattle.lynx_graph.specs.Reading.{arrival_after, first_step, next_step, step_by}
+use Rattle.lynx_graph.specs.Tracing.{arrival_after, first_step, next_step, step_by}
 use Rattle.std.specs.Option.{option_or}
 use Rattle.lynx_graph.specs.Searches.{ClosesNone, HasNone}
 use Rattle.lynx_graph.proofs.Decides.{Decides-joins, Decides-leaves_origin, Decides-some_crosses}
@@ -25,6 +25,7 @@ use Rattle.lynx_graph.proofs.Places.{Conflict, hop_right, node_at, place_of}
 use Rattle.lynx_graph.proofs.Sound.{at_place}
 use Rattle.lynx_graph.proofs.Tables.{length-table_within, mark_at-first_table, mark_at-leaving_table, mark_at-leaving_table_none, mark_at-next_table, table_within-suc, table_within-zero}
 use Rattle.lynx_graph.proofs.Trails.{Trail, Trail-begins, Trail-from_around}
+use Rattle.lynx_set.specs.Lookups.{origin_of}
 
 -- ---- a marked arrival that was not marked before can be left
 

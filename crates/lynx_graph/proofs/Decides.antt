@@ -7,13 +7,14 @@ use Rattle.std.proofs.lemmas.Bool.Decides.{Decides-eqb, Decides-and, Decides-not
 use Rattle.std.proofs.lemmas.Option.{same_Some}
 use Rattle.lynx_set.specs.Set.{Set}
 use Rattle.lynx_foot.specs.Feet.{footprint_of}
-use Rattle.lynx_foot.specs.Conflicts.{MayClash, MayConflict, server_at}
-use Rattle.lynx_foot.proofs.Decides.{Decides-some_may_clash}
+use Rattle.lynx_foot.specs.Conflicts.{MayCollide, MayConflict}
+use Rattle.lynx_foot.proofs.Decides.{Decides-some_may_collide}
 use Rattle.lynx_graph.specs.declared.joins.Place.{Place}
 use Rattle.lynx_graph.specs.declared.visit.Visit.{Visit}
 use Rattle.std.proofs.lemmas.List.Folds.{Any-from_list_any, list_any-from_Any}
-use Rattle.lynx_graph.specs.Walks.{Crosses, Differ, IsClosedWalk, IsOffending, Joins, JoinsAround, origin_of}
+use Rattle.lynx_graph.specs.Walks.{Crosses, Differ, IsClosedWalk, IsOffending, Joins, JoinsAround}
 use Rattle.lynx_graph.specs.Tests.{crosses, differs, is_closed, joins, joins_around, joins_next, leaves_origin, offends, same_server}
+use Rattle.lynx_set.specs.Lookups.{origin_of, server_at}
 
 pub Decides-same_server : (left right : Option ℕ) → Decides (same_server left right) (left ≡ right)
 Decides-same_server (Some left) (Some right) = Decides-like (same_server (Some left) (Some right)) (ap Some) (same_Some left right) (Decides-eqb left right)
@@ -24,11 +25,11 @@ Decides-same_server None None = (λ _. refl, λ _. refl)
 pub Decides-joins : (set : Set) (left right : Place) → Decides (joins set left right) (MayConflict set left.program left.hop right.program right.hop)
 Decides-joins set left right = Decides-like
     {P = (server_at set left.program left.hop ≡ server_at set right.program right.hop)
-    × Any (λ left. Any (λ right. MayClash left right) (footprint_of set right.program right.hop)) (footprint_of set left.program left.hop)}
+    × Any (λ left. Any (λ right. MayCollide left right) (footprint_of set right.program right.hop)) (footprint_of set left.program left.hop)}
     (joins set left right)
-    (λ parts. record { same_server = parts.0; feet_may_clash = parts.1 })
-    (λ whole. (whole.same_server, whole.feet_may_clash))
-    (Decides-and _ _ (Decides-same_server _ _) (Decides-some_may_clash (footprint_of set left.program left.hop) (footprint_of set right.program right.hop)))
+    (λ parts. record { same_server = parts.0; feet_may_collide = parts.1 })
+    (λ whole. (whole.same_server, whole.feet_may_collide))
+    (Decides-and _ _ (Decides-same_server _ _) (Decides-some_may_collide (footprint_of set left.program left.hop) (footprint_of set right.program right.hop)))
 
 pub Decides-joins_next : (set : Set) (visit next : Visit) → Decides (joins_next set visit next) (Joins set visit next)
 Decides-joins_next set visit next = Decides-joins set (record { program = visit.program; hop = visit.left }) (record { program = next.program; hop = next.entered })

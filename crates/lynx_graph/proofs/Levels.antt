@@ -8,12 +8,12 @@ use Rattle.std.proofs.lemmas.List.FromFn.{get_or-map-range_with_len}
 use Rattle.lynx_set.specs.Set.{Set}
 use Rattle.lynx_graph.specs.declared.nodes.Node.{Node}
 use Rattle.lynx_graph.specs.declared.marks.Marks.{Marks}
-use Rattle.lynx_graph.specs.declared.reading.Arrival.{Arrival}
-use Rattle.lynx_graph.specs.declared.reading.Step.{Step}
+use Rattle.lynx_graph.specs.declared.tracing.Arrival.{Arrival}
+use Rattle.lynx_graph.specs.declared.tracing.Step.{Step}
 use Rattle.lynx_graph.specs.declared.visit.Visit.{Visit}
 use Rattle.lynx_graph.specs.Nodes.{nodes_of}
 use Rattle.lynx_graph.specs.Marks.{first_table, mark, mark_at, next_table, table_within}
-use Rattle.lynx_graph.specs.Reading.{AreLevels, IsSound, arrival_after, next_step}
+use Rattle.lynx_graph.specs.Tracing.{AreLevels, IsSound, arrival_after, next_step}
 use Rattle.lynx_graph.proofs.Complete.{next_step-some}
 use Rattle.lynx_graph.proofs.Lists.{slice_get-within}
 use Rattle.lynx_graph.proofs.Places.{place_at}

@@ -7,7 +7,6 @@ use Rattle.std.proofs.lemmas.Option.{none-some, slice_get-map, slice_get_within}
 use Rattle.lynx_set.specs.declared.program.Hop.{Hop}
 use Rattle.lynx_set.specs.declared.program.Program.{Program}
 use Rattle.lynx_set.specs.Set.{Set}
-use Rattle.lynx_hops.specs.Meaning.{hop_at, program_at}
 use Rattle.lynx_foot.specs.declared.foot.Foot.{Foot}
 use Rattle.lynx_foot.specs.Feet.{foot_of, footprint_of}
 use Rattle.lynx_foot.specs.Conflicts.{MayConflict}
@@ -15,6 +14,7 @@ use Rattle.lynx_graph.specs.declared.joins.Place.{Place}
 use Rattle.lynx_graph.specs.declared.nodes.Node.{Node}
 use Rattle.lynx_graph.specs.Nodes.{node_of, nodes_of, places_in, places_of}
 use Rattle.lynx_graph.proofs.Lists.{slice_get-flat_map, slice_get-mapped, slice_get-range}
+use Rattle.lynx_set.specs.Lookups.{hop_at, program_at}
 
 -- the conflict of a place with another
 abbrev pub Conflict : Set → Place → Place → Type 0
@@ -31,10 +31,10 @@ hop_from_foot {P} set program hop foot = by_hop (hop_at set program hop) refl fo
     by_hop (Some found) is k within = (found, is)
 
 pub hop_left : (set : Set) (left right : Place) → Conflict set left right → (found : Hop) × (hop_at set left.program left.hop ≡ Some found)
-hop_left set left right conflict = hop_from_foot set left.program left.hop conflict.feet_may_clash
+hop_left set left right conflict = hop_from_foot set left.program left.hop conflict.feet_may_collide
 
 pub hop_right : (set : Set) (left right : Place) → Conflict set left right → (found : Hop) × (hop_at set right.program right.hop ≡ Some found)
-hop_right set left right conflict = hop_from_foot set right.program right.hop conflict.feet_may_clash.4
+hop_right set left right conflict = hop_from_foot set right.program right.hop conflict.feet_may_collide.4
 
 -- ---- each hop has a place
 

@@ -10,20 +10,21 @@ use Rattle.lynx_graph.specs.declared.joins.Place.{Place}
 use Rattle.lynx_graph.specs.declared.nodes.Exit.{Exit}
 use Rattle.lynx_graph.specs.declared.nodes.Node.{Node}
 use Rattle.lynx_graph.specs.declared.marks.Marks.{Marks}
-use Rattle.lynx_graph.specs.declared.reading.Arrival.{Arrival}
-use Rattle.lynx_graph.specs.declared.reading.Step.{Step}
+use Rattle.lynx_graph.specs.declared.tracing.Arrival.{Arrival}
+use Rattle.lynx_graph.specs.declared.tracing.Step.{Step}
 use Rattle.lynx_graph.specs.declared.visit.Visit.{Visit}
-use Rattle.lynx_graph.specs.Walks.{IsOffending, origin_of}
+use Rattle.lynx_graph.specs.Walks.{IsOffending}
 use Rattle.lynx_graph.specs.Tests.{crosses, differs, entrance_of, joins, offends}
 use Rattle.lynx_graph.specs.Nodes.{node_of, nodes_of, places_of}
 use Rattle.lynx_graph.specs.Marks.{first_table, is_abroad, is_goal, mark_at}
-use Rattle.lynx_graph.specs.Reading.{arrival_after, first_step, next_step, step_by}
+use Rattle.lynx_graph.specs.Tracing.{arrival_after, first_step, next_step, step_by}
 use Rattle.std.specs.Option.{option_or}
 use Rattle.lynx_graph.proofs.Decides.{Decides-joins, Decides-joins_around, Decides-offends}
 use Rattle.lynx_graph.proofs.Lists.{find-Some, found-Some}
 use Rattle.lynx_graph.proofs.Places.{Conflict, node_at, place_at}
 use Rattle.lynx_graph.proofs.Tables.{mark_at-first_table}
 use Rattle.lynx_graph.proofs.Trails.{Trail, Trail-push, around_from_Trail}
+use Rattle.lynx_set.specs.Lookups.{origin_of}
 
 -- the node of a place of the set
 abbrev pub at_place : Set → Place → Node

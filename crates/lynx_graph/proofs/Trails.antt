@@ -2,12 +2,12 @@
 use Rattle.std.proofs.Common.{◌≡◌, List, [], ◌∷◌, ◌++◌, Some}
 use Rattle.lynx_set.specs.declared.program.Hop.{Hop}
 use Rattle.lynx_set.specs.Set.{Set}
-use Rattle.lynx_hops.specs.Meaning.{hop_at}
 use Rattle.lynx_graph.specs.declared.joins.Place.{Place}
 use Rattle.lynx_graph.specs.declared.visit.Visit.{Visit}
 use Rattle.lynx_graph.specs.Walks.{JoinsAround}
 use Rattle.lynx_graph.specs.Tests.{entrance_of, exit_of}
 use Rattle.lynx_graph.proofs.Places.{Conflict, hop_left}
+use Rattle.lynx_set.specs.Lookups.{hop_at}
 
 -- each hop that is left conflicts with the hop that is entered next
 abbrev pub Trail : Set → Place → List Visit → Place → Type 0

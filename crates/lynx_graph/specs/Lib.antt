@@ -2,6 +2,6 @@ pub mod Walks
 pub mod Tests
 pub mod Nodes
 pub mod Marks
-pub mod Reading
+pub mod Tracing
 pub mod Searches
 pub mod Verdicts

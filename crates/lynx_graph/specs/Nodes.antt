@@ -5,10 +5,9 @@ use Rattle.lynx_set.specs.Set.{Set}
 use Rattle.lynx_graph.specs.declared.joins.Place.{Place}
 use Rattle.lynx_graph.specs.declared.nodes.Exit.{Exit}
 use Rattle.lynx_graph.specs.declared.nodes.Node.{Node}
-use Rattle.lynx_graph.specs.Walks.{origin_of}
 use Rattle.lynx_graph.specs.Tests.{joins}
 use Rattle.std.specs.Option.{option_map_or}
-use Rattle.lynx_hops.specs.Meaning.{program_at}
+use Rattle.lynx_set.specs.Lookups.{origin_of, program_at}
 
 -- what is made of the places that pass the test, each with its number
 abbrev pub found : {X : Type 0} → (Place → Bool) → (ℕ × Place → X) → ℕ → List Place → List X

@@ -5,7 +5,7 @@ use Rattle.lynx_graph.specs.declared.search.Outcome.{Outcome}
 use Rattle.lynx_graph.specs.declared.search.Outcome.TheVariants.{Found, Nothing, Longer}
 use Rattle.lynx_graph.specs.declared.visit.Visit.{Visit}
 use Rattle.lynx_graph.specs.Marks.{leaves, table_within}
-use Rattle.lynx_graph.specs.Reading.{IsSound}
+use Rattle.lynx_graph.specs.Tracing.{IsSound}
 
 -- no walk leaves at the start, of whatever length
 abbrev pub ClosesNone : List Node → Node → Type 0

@@ -3,11 +3,10 @@ use Rattle.std.specs.Prelude.{Bool, true, false, not, ◌==◌, ◌&&◌, ℕ, L
 use Rattle.std.specs.List.{list_any}
 use Rattle.lynx_set.specs.Set.{Set}
 use Rattle.lynx_foot.specs.Feet.{footprint_of}
-use Rattle.lynx_foot.specs.Conflicts.{server_at}
-use Rattle.lynx_foot.specs.Tests.{some_may_clash}
+use Rattle.lynx_foot.specs.Tests.{some_may_collide}
 use Rattle.lynx_graph.specs.declared.joins.Place.{Place}
 use Rattle.lynx_graph.specs.declared.visit.Visit.{Visit}
-use Rattle.lynx_graph.specs.Walks.{origin_of}
+use Rattle.lynx_set.specs.Lookups.{origin_of, server_at}
 
 -- whether the servers are one, or both are wanting
 abbrev pub same_server : Option ℕ → Option ℕ → Bool
@@ -20,7 +19,7 @@ same_server None None = true
 abbrev pub joins : Set → Place → Place → Bool
 joins set left right =
     same_server (server_at set left.program left.hop) (server_at set right.program right.hop)
-    && some_may_clash (footprint_of set left.program left.hop) (footprint_of set right.program right.hop)
+    && some_may_collide (footprint_of set left.program left.hop) (footprint_of set right.program right.hop)
 
 -- where the visit is entered, and where it is left
 abbrev pub entrance_of : Visit → Place

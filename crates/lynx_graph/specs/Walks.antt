@@ -1,8 +1,9 @@
 -- Closed walks of a set, and which of them offend.
 use Rattle.std.specs.Prelude.{◌≢◌, ℕ, List, [], ◌∷◌, Any, Option}
 use Rattle.lynx_set.specs.Set.{Set}
-use Rattle.lynx_foot.specs.Conflicts.{MayConflict, server_at}
+use Rattle.lynx_foot.specs.Conflicts.{MayConflict}
 use Rattle.lynx_graph.specs.declared.visit.Visit.{Visit}
+use Rattle.lynx_set.specs.Lookups.{origin_of}
 
 -- the hop by which the visit is left may conflict with the hop at which the next is entered
 abbrev pub Joins : Set → Visit → Visit → Type 0
@@ -22,10 +23,6 @@ IsClosedWalk set (first ∷ second ∷ rest) = JoinsAround set first first (seco
 -- left by another hop than it was entered at
 abbrev pub Crosses : Visit → Type 0
 Crosses visit = visit.entered ≢ visit.left
-
--- the server of a program's first hop
-abbrev pub origin_of : Set → ℕ → Option ℕ
-origin_of set program = server_at set program 0
 
 -- programs of different origins
 abbrev pub Differ : Set → Visit → Visit → Type 0

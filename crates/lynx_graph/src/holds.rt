@@ -3,7 +3,7 @@ ghost use Rattle.std.specs.List.{list_any};
 ghost use Rattle.lynx_graph.specs.Walks.{IsOffending};
 ghost use Rattle.lynx_graph.specs.Tests.{crosses, differs, is_closed, joins_around, joins_next, leaves_origin, offends};
 
-use crate::joins::{Place, joins, origin_of, same_server};
+use crate::joins::{Place, joins, same_server};
 use crate::visit::{Visit, Walk};
 use lynx_names::ServerId;
 use lynx_set::ChainSet;
@@ -55,7 +55,7 @@ fn crosses(visit: &Visit) -> bool
 fn differs(set: &ChainSet, origin: Option<ServerId>, visit: &Visit) -> bool
     ensures { result ≡ differs set.now origin visit.now }
 {
-    !same_server(origin_of(set, visit.program), origin)
+    !same_server(set.origin(visit.program), origin)
 }
 
 fn some_differs(set: &ChainSet, origin: Option<ServerId>, visits: &[Visit]) -> bool
@@ -75,7 +75,7 @@ fn leaves_origin(set: &ChainSet, walk: &[Visit]) -> bool
     ensures { result ≡ leaves_origin set.now walk.now }
 {
     match walk {
-        [first, rest @ ..] => some_differs(set, origin_of(set, first.program), rest),
+        [first, rest @ ..] => some_differs(set, set.origin(first.program), rest),
         [] => false,
     }
 }

@@ -1,6 +1,5 @@
-//! Which hops of a set join, and where its programs begin.
+//! Which hops of a set join.
 ghost use Rattle.std.specs.Prelude.{◌≡◌};
-ghost use Rattle.lynx_graph.specs.Walks.{origin_of};
 ghost use Rattle.lynx_graph.specs.Tests.{joins, same_server};
 
 use lynx_foot::may_conflict;
@@ -19,14 +18,6 @@ pub(crate) fn joins(set: &ChainSet, left: &Place, right: &Place) -> bool
     ensures { result ≡ joins set.now left.now right.now }
 {
     may_conflict(set, left.program, left.hop, right.program, right.hop)
-}
-
-/// The server of a program's first hop, None where the set hasn't one.
-pub(crate) fn origin_of(set: &ChainSet, program: ProgramId) -> Option<ServerId>
-    ensures { result ≡ origin_of set.now program }
-{
-    let first = set.program(program)?.hops.as_slice().first()?;
-    Some(first.server)
 }
 
 pub(crate) fn same_server(left: Option<ServerId>, right: Option<ServerId>) -> bool

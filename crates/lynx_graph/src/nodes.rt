@@ -4,7 +4,7 @@ ghost use Rattle.std.specs.Prelude.{◌≡◌, ◌<◌, ◌++◌, IfOk, OnOk, ma
 ghost use Rattle.lynx_names.specs.declared.limits.TheConstants.{MAX_PROGRAMS};
 ghost use Rattle.lynx_graph.specs.Nodes.{exits_of, neighbours_of, node_of, nodes_of, places_in, places_of};
 
-use crate::joins::{Place, joins, origin_of};
+use crate::joins::{Place, joins};
 use lynx_names::{Items, Memory, ProgramId, ServerId};
 use lynx_set::ChainSet;
 use std::alloc::Global;
@@ -46,7 +46,8 @@ fn neighbours_of(
     places: &[Place],
     place: &Place,
 ) -> Result<Vec<usize>, Memory>
-    ensures { IfOk result (λ neighbours. neighbours.items ≡ neighbours_of set.now places.now place.now) }
+    ensures { IfOk result (λ neighbours. neighbours.items
+        ≡ neighbours_of set.now places.now place.now) }
 {
     let neighbours = places
         .iter()
@@ -62,7 +63,7 @@ fn node_of(alloc: Global, set: &ChainSet, places: &[Place], place: &Place) -> Re
 {
     Ok(Node {
         place: *place,
-        origin: origin_of(set, place.program),
+        origin: set.origin(place.program),
         exits: Items::from_vec(exits_of(alloc, places, place)?),
         neighbours: Items::from_vec(neighbours_of(alloc, set, places, place)?),
     })

@@ -6,7 +6,7 @@ ghost use Rattle.lynx_graph.specs.Searches.{Answers};
 
 use crate::marks::{Marks, first_table, leaves, next_table};
 use crate::nodes::Node;
-use crate::reading::read_walk;
+use crate::tracing::read_walk;
 use crate::visit::Walk;
 use lynx_names::{Items, Memory};
 use std::alloc::Global;

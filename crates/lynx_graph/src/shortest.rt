@@ -1,6 +1,6 @@
 //! The least of the shortest walks of a set.
 ghost use Rattle.std.specs.Prelude.{◌≡◌, ◌↔◌, IfOk, IsSome, MatchOption};
-ghost use Rattle.lynx_graph.specs.Reading.{IsSound};
+ghost use Rattle.lynx_graph.specs.Tracing.{IsSound};
 ghost use Rattle.lynx_graph.specs.Searches.{HasNone, better};
 
 use crate::nodes::Node;

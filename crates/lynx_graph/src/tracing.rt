@@ -2,7 +2,7 @@
 ghost use Rattle.std.specs.Prelude.{◌≡◌, IfOk, find};
 ghost use Rattle.std.specs.List.{Contains};
 ghost use Rattle.lynx_graph.specs.Marks.{mark_at};
-ghost use Rattle.lynx_graph.specs.Reading.{AreLevels, IsSound, arrival_after, first_step, next_step, step_by};
+ghost use Rattle.lynx_graph.specs.Tracing.{AreLevels, IsSound, arrival_after, first_step, next_step, step_by};
 
 use crate::marks::{Marks, Table, is_abroad, mark_at};
 use crate::nodes::{Exit, Node};

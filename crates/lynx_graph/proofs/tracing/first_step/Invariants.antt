@@ -1,6 +1,6 @@
 use Rattle.std.proofs.Common.{◌≡◌, drop}
-use Rattle.lynx_graph.specs.Reading.{first_step}
-use Rattle.lynx_graph.proofs.reading.first_step.Given as goal
+use Rattle.lynx_graph.specs.Tracing.{first_step}
+use Rattle.lynx_graph.proofs.tracing.first_step.Given as goal
 
 -- none of the exits so far has a marked arrival after it
 abbrev pub invariant-loop-exit : goal.invariant-loop-exit

@@ -4,11 +4,11 @@ use Rattle.std.proofs.lemmas.Option.{slice_get-get_or}
 use Rattle.lynx_graph.specs.declared.marks.Marks.{Marks}
 use Rattle.lynx_graph.specs.declared.visit.Visit.{Visit}
 use Rattle.lynx_graph.specs.Marks.{leaves, mark_at, table_within}
-use Rattle.lynx_graph.specs.Reading.{IsSound}
+use Rattle.lynx_graph.specs.Tracing.{IsSound}
 use Rattle.lynx_graph.proofs.Complete.{is_some-arrival_after}
 use Rattle.lynx_graph.proofs.Levels.{Reads, Reads-all, Reads-first, Reads-some, Reads-step, Reads-within, insert-first, level_at}
-use Rattle.lynx_graph.proofs.reading.read_walk.Goals as goal
-use Rattle.lynx_graph.proofs.reading.read_walk.Goals.{After-as_slice, After-as_slice-table}
+use Rattle.lynx_graph.proofs.tracing.read_walk.Goals as goal
+use Rattle.lynx_graph.proofs.tracing.read_walk.Goals.{After-as_slice, After-as_slice-table}
 
 -- the last table
 last_is : (c : After-as_slice) → c.as_slice.result.now ≡ table_within c.args.nodes.now c.args.start.now (length c.args.levels.now - 1)

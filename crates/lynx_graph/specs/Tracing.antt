@@ -9,8 +9,8 @@ use Rattle.lynx_graph.specs.Nodes.{nodes_of}
 use Rattle.lynx_graph.specs.declared.nodes.Exit.{Exit}
 use Rattle.lynx_graph.specs.declared.nodes.Node.{Node}
 use Rattle.lynx_graph.specs.declared.marks.Marks.{Marks}
-use Rattle.lynx_graph.specs.declared.reading.Arrival.{Arrival}
-use Rattle.lynx_graph.specs.declared.reading.Step.{Step}
+use Rattle.lynx_graph.specs.declared.tracing.Arrival.{Arrival}
+use Rattle.lynx_graph.specs.declared.tracing.Step.{Step}
 use Rattle.lynx_graph.specs.Marks.{is_abroad, leaves, mark_at, table_within}
 
 -- the first marked arrival for a walk that leaves at this node

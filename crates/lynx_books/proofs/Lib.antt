@@ -1,0 +1,9 @@
+pub mod Delivering
+pub mod Answering
+pub mod Chains
+pub mod Due
+pub mod Growing
+pub mod Indexing
+pub mod Numbers
+pub mod Turning
+pub mod Waking

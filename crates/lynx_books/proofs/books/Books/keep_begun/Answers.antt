@@ -1,0 +1,32 @@
+use Rattle.std.proofs.Common.{◌≡◌, ◌∙◌, ◌++◌, ◌∷◌, [], ap, subst, length}
+use Rattle.lynx_cells.specs.Database.{applied}
+use Rattle.lynx_entry.specs.declared.entry.Entry.TheVariants.{Begun}
+use Rattle.lynx_server.specs.Lawful.{IsLawful}
+use Rattle.lynx_books.specs.Keeping.{AreChangesOf, kept_of}
+use Rattle.lynx_books.proofs.Growing.{books_with_begun, kept_more}
+use Rattle.lynx_books.proofs.books.Books.keep_begun.Goals as goal
+
+pub invariant_of-self-2 : goal.invariant_of-self-2
+invariant_of-self-2 g c =
+    let set = c.self.inside.set in
+    let server = c.self.inside.server in
+    let history = c.self.inside.history.items in
+    let lawful : IsLawful set server history (Begun c.args.begun) = rw (← c.self.view_is) at c.requires.lawful in
+    let changes : AreChangesOf set history (Begun c.args.begun) c.args.changes = rw (← c.self.view_is) at c.requires.changes in
+    let grow : c.push_reserved.new.self.items ≡ c.self.inside.chains.items ++ length history ∷ [] =
+    c.push_reserved.ensures.items ∙ ap (λ n. c.make_room.new.chains.items ++ n ∷ []) (ap length (c.as_slice-place.ensures.value ∙ c.make_room.ensures.history))
+    ∙ ap (λ chains. chains ++ length history ∷ []) c.make_room.ensures.chains in
+    rw (c.push_reserved-2.ensures.items, c.make_room.ensures.history)
+    (books_with_begun set server history c.args.begun c.self.inside.sequencer.counters c.self.inside.turns c.self.inside.chains.items c.self.inside.cells.database
+    c.args.changes _ _ _ _ c.self.invariant lawful (rw (← c.requires.numbers) at c.bind.ensures.each) c.count_turn.ensures grow
+    (c.apply.ensures.database ∙ ap (applied c.args.changes) c.make_room.ensures.cells) changes)
+
+pub returns-clause-commits : goal.returns-clause-commits
+returns-clause-commits g c = record {
+  sound_before = c.commit.ensures.sound;
+  keeps_after = λ sound keeps.
+      subst (g.K.Keeper.keeps c.commit.new.self)
+      (kept_more c.args.self.now.set c.args.self.now.history (Begun c.args.begun) c.args.changes c.requires.changes)
+      (c.in_default.ensures.ok sound (kept_of c.args.self.now.set c.args.self.now.history) keeps);
+  counts = c.commit.ensures.counts;
+}

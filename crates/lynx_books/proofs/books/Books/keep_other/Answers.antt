@@ -1,0 +1,18 @@
+use Rattle.std.proofs.Common.{◌∙◌, ap}
+use Rattle.lynx_cells.specs.Database.{applied}
+use Rattle.lynx_server.specs.Lawful.{IsLawful}
+use Rattle.lynx_books.specs.Keeping.{AreChangesOf}
+use Rattle.lynx_books.proofs.Growing.{books_with_other}
+use Rattle.lynx_books.proofs.books.Books.keep_other.Goals as goal
+
+pub invariant_of-self-2 : goal.invariant_of-self-2
+invariant_of-self-2 g c =
+    let set = c.self.inside.set in
+    let server = c.self.inside.server in
+    let history = c.self.inside.history.items in
+    let lawful : IsLawful set server history c.args.entry = rw (← c.self.view_is) at c.requires.lawful in
+    let changes : AreChangesOf set history c.args.entry c.args.changes = rw (← c.self.view_is) at c.requires.changes in
+    rw (c.push_reserved.ensures.items, c.in_ok-make_room.ensures.history)
+    (books_with_other set server history c.args.entry c.self.inside.sequencer.counters c.self.inside.turns c.self.inside.chains.items c.self.inside.cells.database
+    c.args.changes _ _ _ c.self.invariant c.requires.other lawful c.count_turn.ensures c.in_ok-make_room.ensures.chains
+    (c.apply.ensures.database ∙ ap (applied c.args.changes) c.in_ok-make_room.ensures.cells) changes)

@@ -1,0 +1,31 @@
+use Rattle.std.proofs.Common.{◌∙◌, ap, refl, filter, not, if◌then◌else◌}
+use Rattle.lynx_entry.specs.declared.answer.Delivered.{Delivered}
+use Rattle.lynx_turn.specs.Held.{is_for}
+use Rattle.lynx_books.specs.Books.{BooksState}
+use Rattle.lynx_books.specs.History.{grown}
+use Rattle.lynx_books.specs.Hops.{outcome_of}
+use Rattle.lynx_books.specs.Serving.{is_done}
+use Rattle.lynx_books.proofs.Delivering.{same_delivered, same_added, held_then}
+use Rattle.lynx_books.proofs.server.Server.run_message.Goals as goal
+
+pub returns-in-Ok-clause-tried : goal.returns-in-Ok-clause-tried
+returns-in-Ok-clause-tried g c =
+    let books = c.self.inside.register in
+    let message = c.args.message in
+    let held = c.self.inside.held in
+    let outcome = outcome_of books message in
+    let grew = c.in-Ok.ensures.grown in
+    rw (← c.self.view_is)
+    (record {
+      delivered_is = c.in-Ok.ensures.delivered ∙ same_delivered books.set books.history held message outcome;
+      becomes = record {
+        set_is = ap (λ (s : BooksState). s.set) grew;
+        server_is = ap (λ (s : BooksState). s.server) grew;
+        history_is = ap (λ (s : BooksState). s.history) grew ∙ ap (grown books.history) (same_added books.set books.history held message outcome);
+        held_is = c.release_done.ensures
+            ∙ ap (λ (d : Delivered). if is_done d then filter (λ other. not (is_for message.chain message.hop other)) held else held) c.in-Ok.ensures.delivered
+            ∙ held_then books.set books.history held message outcome;
+        stopped_is = refl;
+        opened_is = refl;
+      };
+    })

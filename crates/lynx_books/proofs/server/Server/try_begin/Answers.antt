@@ -1,0 +1,50 @@
+use Rattle.std.proofs.Common.{◌≡◌, ◌∙◌, ap, sym, refl, None, Option}
+use Rattle.lynx_entry.specs.declared.answer.Answer.{Answer}
+use Rattle.lynx_server.specs.Checks.{request_fault}
+use Rattle.lynx_books.specs.Begins.{IsDue}
+use Rattle.lynx_books.specs.Books.{BooksState}
+use Rattle.lynx_books.proofs.Answering.{answered}
+use Rattle.lynx_books.proofs.Due.{busy-answer, due-answer}
+use Rattle.lynx_books.proofs.server.Server.try_begin.Goals as goal
+
+pub returns-then-is_busy-clause-tried : goal.returns-then-is_busy-clause-tried
+returns-then-is_busy-clause-tried g c =
+    let books = c.self.inside.register in
+    let request = c.args.request in
+    let seen = c.args.seen in
+    let here : c.books-books.result.now ≡ books = c.books-books.ensures in
+    let none : Option Answer = None in
+    let in_order : none ≡ request_fault c.books-books.result.now.set c.books-books.result.now.server request =
+    rw (← c.set.ensures.value, ← c.server.ensures) c.in_default-request_fault.ensures in
+    rw (← c.self.view_is)
+    (answered _ _ request seen _ _
+    (busy-answer books.set books.server books.history request seen (sym c.in_default.ensures) (sym (rw here at in_order)) (rw here at c.in-Some-next_stamp.ensures.0) (sym (rw here at c.if-is_busy.ensures)))
+    refl
+    (record { set_is = refl; server_is = refl; history_is = refl; held_is = refl; stopped_is = refl; opened_is = refl }))
+
+pub returns-in-Ok-clause-tried : goal.returns-in-Ok-clause-tried
+returns-in-Ok-clause-tried g c =
+    let books = c.self.inside.register in
+    let request = c.args.request in
+    let seen = c.args.seen in
+    let here : c.books-books.result.now ≡ books = c.books-books.ensures in
+    let none : Option Answer = None in
+    let in_order : none ≡ request_fault c.books-books.result.now.set c.books-books.result.now.server request =
+    rw (← c.set.ensures.value, ← c.server.ensures) c.in_default-request_fault.ensures in
+    let is : IsDue books request seen = record {
+      new = sym c.in_default.ensures;
+      in_order = sym (rw here at in_order);
+      room = rw here at c.in-Some-next_stamp.ensures.0;
+      not_busy = sym (rw here at c.if-is_busy.ensures);
+    } in
+    let grew = c.in-Ok.ensures.grown in
+    rw (← c.self.view_is)
+    (answered _ _ request seen _ _ (due-answer books request seen is) (c.answer.ensures ∙ c.in-Ok.ensures.answer)
+    (record {
+      set_is = ap (λ (s : BooksState). s.set) grew;
+      server_is = ap (λ (s : BooksState). s.server) grew;
+      history_is = ap (λ (s : BooksState). s.history) grew;
+      held_is = refl;
+      stopped_is = refl;
+      opened_is = refl;
+    }))

@@ -1,0 +1,18 @@
+//! A server with its state: its history with counters, turns, tables and indexes beside it, the states of a step, which
+//! must be spent, and its keeper.
+#![tactic(auto)]
+
+pub use books::Books;
+pub use hop_steps::{KeptHop, RanMessage, TakenMessage};
+pub use register::Register;
+pub use server::{Server, Woken};
+pub use steps::{Kept, RanStep, RefusedStep, Stepped, Taken};
+
+pub mod books;
+mod counting;
+pub mod hop_steps;
+mod keeping;
+pub mod register;
+pub mod server;
+mod sorting;
+pub mod steps;

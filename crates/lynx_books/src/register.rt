@@ -1,0 +1,153 @@
+//! The books of a server with indexes: where the record of each request is, and the entry of each later hop.
+ghost use Rattle.std.specs.Prelude.{◌≡◌, ◌+◌, ◌<◌, None, IfOk, OnErr, OnOk, false, [], length, max, option_copied};
+ghost use Rattle.lynx_names.specs.declared.limits.TheConstants.{MAX_ENTRIES};
+ghost use Rattle.lynx_server.specs.Lawful.{hop_entry_of, record_of};
+ghost use Rattle.lynx_server.specs.Tables.{clock_of};
+ghost use Rattle.lynx_books.specs.Hops as hops;
+ghost use Rattle.lynx_books.specs.Hops.{came};
+ghost use Rattle.lynx_books.specs.Begins.{IsDue, books_with, due};
+ghost use Rattle.lynx_books.specs.Keeping.{Commits, kept_of};
+ghost use Rattle.lynx_books.specs.History.{grown};
+
+use crate::books::Books;
+use crate::hop_steps::TakenMessage;
+use crate::steps::Kept;
+use lynx_entry::{Delivered, Entry, Message, Request};
+use lynx_keep::{KeepFault, Keeper};
+use lynx_names::{ChainId, ClientId, ServerId, Stamp};
+use std::alloc::Global;
+use std::collections::BTreeMap;
+use std::marker::Model;
+
+/// The books of a server, and where its records are. Contracts see the books.
+#[derive(Debug, Drop)]
+pub struct Register {
+    pub(crate) books: Books,
+    /// The place of the entry that keeps the answer to a request, by client and number.
+    requests: BTreeMap<(ClientId, u64), usize>,
+    /// The place of the entry of a later hop, by origin, index and hop.
+    hops: BTreeMap<((ServerId, u64), u8), usize>,
+}
+
+impl Model for Register {
+    ghost use Rattle.lynx_books.specs.Books.{BooksState};
+    ghost use Rattle.lynx_books.specs.Indexes.{IsRegister};
+
+    ghost Value = { BooksState };
+
+    ghost view = { λ register. register.books };
+
+    ghost invariant = { λ register. IsRegister register.books.history register.requests register.hops };
+}
+
+impl Register {
+    /// The register of books in which nothing is written yet. Takes no memory.
+    pub fn new(alloc: Global, books: Books) -> Register
+        requires { books.history ≡ [] }
+        ensures { result ≡ books }
+    {
+        Register {
+            books,
+            requests: BTreeMap::new(alloc),
+            hops: BTreeMap::new(alloc),
+        }
+    }
+
+    pub fn books(&self) -> &Books
+        ensures { result.now ≡ self.now }
+    {
+        &self.books
+    }
+
+    /// The entry that keeps the answer to a request of this client and number.
+    pub(crate) fn record_of(&self, request: &Request) -> Option<&Entry>
+        ensures { option_copied result ≡ record_of request.now self.now.history }
+    {
+        match self.requests.get(&(request.client, request.number)) {
+            Some(place) => self.books.entry(*place),
+            None => None,
+        }
+    }
+
+    /// The entry of that later hop of the chain.
+    pub(crate) fn hop_entry_of(&self, chain: ChainId, hop: u8) -> Option<&Entry>
+        ensures { option_copied result ≡ hop_entry_of chain hop self.now.history }
+    {
+        match self.hops.get(&((chain.origin, chain.index), hop)) {
+            Some(place) => self.books.entry(*place),
+            None => None,
+        }
+    }
+
+    /// A request that is due, from its place in the index to what is kept.
+    pub(crate) fn begin_new<K: Keeper>(
+        &mut self,
+        alloc: Global,
+        keeper: &mut K,
+        request: Request,
+        seen: Stamp,
+        stamp: Stamp,
+    ) -> Result<Kept, KeepFault>
+        requires free { self.old.out ≡ None }
+        requires due { IsDue self.old request seen }
+        requires room { length self.old.history < MAX_ENTRIES }
+        requires stamp { stamp ≡ max (clock_of self.old.history) seen + 1 }
+        ensures answer { IfOk result (λ kept. kept.answer ≡ (due self.old request seen).answer) }
+        ensures grown { OnOk result (self.new ≡ books_with self.old
+            (due self.old request seen).added) }
+        ensures err { OnErr result (self.new ≡ self.old) }
+        ensures commits { Commits K.sound K.keeps K.counted keeper.old keeper.new
+            (kept_of self.old.set self.old.history)
+            (kept_of self.old.set (grown self.old.history (due self.old request seen).added)) result }
+    {
+        let key = (request.client, request.number);
+        let place = self.books.len();
+        self.requests.insert(key, place)?;
+        match self.books.begin_new(alloc, keeper, request, seen, stamp) {
+            Ok(kept) => Ok(kept),
+            Err(fault) => {
+                let _ = self.requests.remove(&key);
+                Err(fault)
+            }
+        }
+    }
+
+    /// A message that is due, from its place in the index to what is kept.
+    pub(crate) fn run_message<K: Keeper>(
+        &mut self,
+        alloc: Global,
+        keeper: &mut K,
+        message: Message,
+        stamp: Stamp,
+    ) -> Result<Delivered, KeepFault>
+        requires { hops.IsDue self.old message stamp }
+        ensures delivered { IfOk result (λ delivered. delivered
+            ≡ (came self.old message).delivered) }
+        ensures grown { OnOk result (self.new
+            ≡ record self.old { history = grown self.old.history (came self.old message).added }) }
+        ensures err { OnErr result (self.new ≡ self.old) }
+        ensures commits { Commits K.sound K.keeps K.counted keeper.old keeper.new
+            (kept_of self.old.set self.old.history)
+            (kept_of self.old.set (grown self.old.history (came self.old message).added)) result }
+    {
+        let chain = message.chain;
+        let key = ((chain.origin, chain.index), message.hop);
+        let place = self.books.len();
+        let taken = TakenMessage::new(message, stamp);
+        let came = taken.run(alloc, &self.books)?;
+        let Some(step) = came else {
+            return Ok(Delivered::Malformed);
+        };
+        if let Err(_) = self.hops.insert(key, place) {
+            step.release();
+            return Err(KeepFault::Memory);
+        }
+        match step.keep(alloc, &mut self.books, keeper) {
+            Ok(kept) => Ok(kept.delivered()),
+            Err(fault) => {
+                let _ = self.hops.remove(&key);
+                Err(fault)
+            }
+        }
+    }
+}

@@ -1,0 +1,325 @@
+//! A server over its keeper.
+ghost use Rattle.std.specs.Prelude.{[], IfOk, ◌≡◌, ◌≤◌, false, filter, if◌then◌else◌, not};
+ghost use Rattle.lynx_server.specs.Tables.{tables_of};
+ghost use Rattle.lynx_books.specs.Keeping.{kept_of};
+ghost use Rattle.lynx_keep.specs.Kept.{nothing_kept};
+ghost use Rattle.lynx_books.specs.Serving.{Begins, Delivers, Wakes, WakesSo, is_put_off, IsDueHere, RanHere, TriedBegin, TriedDelivery, is_done};
+ghost use Rattle.lynx_turn.specs.Held.{is_for};
+
+use crate::books::Books;
+use crate::register::Register;
+use crate::sorting::Sorted;
+use lynx_cells::Cells;
+use lynx_entry::{Answer, Delivered, Entry, Message, Request};
+use lynx_keep::{KeepFault, Keeper};
+use lynx_names::{ChainId, Memory, ServerId, Stamp, TryCopy};
+use lynx_server::answers::recorded_answer;
+use lynx_server::checks::request_fault;
+use lynx_set::ChainSet;
+use lynx_turn::HeldBuffer;
+use std::alloc::Global;
+use std::marker::Model;
+
+/// One server: its history with all that stands beside it, the messages that it holds, and its keeper, which has
+/// each entry before it is answered. Contracts see the set, the server, the history, the held messages, whether it
+/// stopped, how often its keeper had failed when it was opened, and the keeper.
+#[derive(Drop)]
+pub struct Server<K: Keeper> {
+    register: Register,
+    held: HeldBuffer,
+    keeper: K,
+    is_stopped: bool,
+    opened: u64,
+}
+
+impl<K: Keeper> Model for Server<K> {
+    ghost use Rattle.lynx_books.specs.Serving.{Serving, IsServing, serving_code};
+
+    ghost Value = { Serving K };
+
+    ghost coded = { serving_code K.code };
+
+    ghost view = { λ server. record {
+      set = server.register.set;
+      server = server.register.server;
+      history = server.register.history;
+      held = server.held;
+      is_stopped = server.is_stopped;
+      opened = server.opened;
+      keeper = server.keeper;
+    } };
+
+    ghost invariant = { λ server. IsServing K.sound K.keeps K.counted server.register server.is_stopped server.opened server.keeper };
+}
+
+/// A held message that was delivered.
+#[derive(Debug, PartialEq, Eq, Drop)]
+pub struct Woken {
+    pub chain: ChainId,
+    pub hop: u8,
+    pub delivered: Delivered,
+}
+
+impl<K: Keeper> Server<K> {
+    /// A server that did nothing yet, over a keeper that keeps nothing.
+    pub fn new(
+        alloc: Global,
+        set: &ChainSet,
+        server: ServerId,
+        keeper: K,
+    ) -> Result<Server<K>, Memory>
+    where
+        K: Drop,
+        requires { K.sound keeper → K.keeps keeper nothing_kept }
+        ensures { IfOk result (λ server_made. server_made ≡ record { set = set.now; server = server; history = []; held = []; is_stopped = false; opened = K.counted keeper; keeper = keeper }) }
+    {
+        let set = set.copy(alloc)?;
+        let held = HeldBuffer::new(alloc)?;
+        let opened = keeper.faults();
+        Ok(Server {
+            register: Register::new(alloc, Books::new(alloc, set, server)),
+            held,
+            keeper,
+            is_stopped: false,
+            opened,
+        })
+    }
+
+    pub fn set(&self) -> &ChainSet
+        ensures { result.now ≡ self.now.set }
+    {
+        self.register.books().set()
+    }
+
+    pub fn server(&self) -> ServerId
+        ensures { result ≡ self.now.server }
+    {
+        self.register.books().server()
+    }
+
+    /// All that the server did, in order.
+    pub fn history(&self) -> &[Entry]
+        ensures { result.now ≡ self.now.history }
+    {
+        self.register.books().history()
+    }
+
+    /// The cells that the history leaves.
+    pub fn cells(&self) -> &Cells
+        ensures { result.now.database ≡ tables_of self.now.set self.now.history }
+    {
+        self.register.books().cells()
+    }
+
+    /// The messages that wait for their turn, in order of origin, index and hop.
+    pub fn held(&self) -> &[Message]
+        ensures { result.now ≡ self.now.held }
+    {
+        self.held.as_slice()
+    }
+
+    pub fn keeper(&self) -> &K
+        ensures { result.now ≡ self.now.keeper }
+    {
+        &self.keeper
+    }
+
+    /// Gives back the keeper.
+    pub fn into_keeper(self) -> K
+        ensures keeper { result ≡ self.keeper }
+        ensures kept { self.is_stopped ≡ false → K.sound result
+            → K.keeps result (kept_of self.set self.history) }
+    {
+        self.keeper
+    }
+
+    /// A begin of a server that runs.
+    fn try_begin(
+        &mut self,
+        alloc: Global,
+        request: Request,
+        seen: Stamp,
+    ) -> Result<Answer, KeepFault>
+        requires { self.old.is_stopped ≡ false }
+        ensures tried { TriedBegin K.counted self.old request seen result self.new }
+        ensures sound { K.sound self.new.keeper → K.sound self.old.keeper }
+    {
+        if let Some(entry) = self.register.record_of(&request) {
+            return Ok(recorded_answer(alloc, entry, &request)?);
+        }
+        let books = self.register.books();
+        if let Some(fault) = request_fault(books.set(), books.server(), &request) {
+            return Ok(fault);
+        }
+        let Some(stamp) = books.next_stamp(seen) else {
+            return Ok(Answer::Full);
+        };
+        if books.is_busy() {
+            return Ok(Answer::Busy);
+        }
+        match self
+            .register
+            .begin_new(alloc, &mut self.keeper, request, seen, stamp)
+        {
+            Ok(kept) => Ok(kept.answer()),
+            Err(KeepFault::Memory) => Err(KeepFault::Memory),
+            Err(KeepFault::Failed) => {
+                self.is_stopped = true;
+                Err(KeepFault::Failed)
+            }
+        }
+    }
+
+    /// Begins a chain, or answers from the record. In this order: a request that is recorded; what is wrong with
+    /// it; no room; a chain that has still to return here; else hop 0 runs. The work is that of the hop, and a
+    /// few look-ups in the indexes.
+    pub fn begin(&mut self, alloc: Global, request: Request, seen: Stamp) -> Answer
+        ensures begins { Begins K.counted self.old request seen result self.new }
+        ensures sound { K.sound self.new.keeper → K.sound self.old.keeper }
+    {
+        if self.is_stopped {
+            return Answer::Stopped;
+        }
+        match self.try_begin(alloc, request, seen) {
+            Ok(answer) => answer,
+            Err(KeepFault::Memory) => Answer::Memory,
+            Err(KeepFault::Failed) => Answer::Stopped,
+        }
+    }
+
+    /// A delivery at a server that runs.
+    fn try_deliver(&mut self, alloc: Global, message: Message) -> Result<Delivered, KeepFault>
+        requires { self.old.is_stopped ≡ false }
+        ensures tried { TriedDelivery K.counted self.old message result self.new }
+        ensures sound { K.sound self.new.keeper → K.sound self.old.keeper }
+    {
+        let sorted = self.register.sort(alloc, self.held.as_slice(), &message)?;
+        match sorted {
+            Sorted::Answered(delivered) => Ok(delivered),
+            Sorted::Waits => {
+                self.held.hold(message);
+                Ok(Delivered::Held)
+            }
+            Sorted::Runs(stamp) => self.run_message(alloc, message, stamp),
+        }
+    }
+
+    /// Runs the hop of a message that is due. What was held for the hop is let go.
+    fn run_message(
+        &mut self,
+        alloc: Global,
+        message: Message,
+        stamp: Stamp,
+    ) -> Result<Delivered, KeepFault>
+        requires running { self.old.is_stopped ≡ false }
+        requires due { IsDueHere self.old message stamp }
+        ensures tried { RanHere K.counted self.old message result self.new }
+        ensures sound { K.sound self.new.keeper → K.sound self.old.keeper }
+    {
+        let (chain, hop) = (message.chain, message.hop);
+        match self
+            .register
+            .run_message(alloc, &mut self.keeper, message, stamp)
+        {
+            Ok(delivered) => {
+                release_done(&mut self.held, chain, hop, &delivered);
+                Ok(delivered)
+            }
+            Err(KeepFault::Memory) => Err(KeepFault::Memory),
+            Err(KeepFault::Failed) => {
+                self.is_stopped = true;
+                Err(KeepFault::Failed)
+            }
+        }
+    }
+
+    /// Delivers a message. In this order: one that nobody can have sent; a hop that ran; a hop whose turn it is
+    /// not, which may wait; no room; else the hop runs. The work is that of the hop, a few look-ups in the indexes,
+    /// and for one that comes early a walk over the held messages.
+    pub fn deliver(&mut self, alloc: Global, message: Message) -> Delivered
+        ensures delivers { Delivers K.counted self.old message result self.new }
+        ensures sound { K.sound self.new.keeper → K.sound self.old.keeper }
+    {
+        if self.is_stopped {
+            return Delivered::Stopped;
+        }
+        match self.try_deliver(alloc, message) {
+            Ok(delivered) => delivered,
+            Err(KeepFault::Memory) => Delivered::Memory,
+            Err(KeepFault::Failed) => Delivered::Stopped,
+        }
+    }
+}
+
+impl<K: Keeper> Server<K> {
+    /// Delivers the held message whose turn it is now, the least by origin, index and hop. None where none's turn
+    /// it is. Where there is no room for its entry, or no memory, or the server stopped, it is held as before. The
+    /// work is that of a delivery, and a walk over the held messages.
+    pub fn wake(&mut self, alloc: Global) -> Option<Woken>
+        ensures wakes { Wakes K.counted self.old result self.new }
+        ensures sound { K.sound self.new.keeper → K.sound self.old.keeper }
+    {
+        let Some(message) = self.register.least_now(self.held.as_slice()) else {
+            return None;
+        };
+        let chain = message.chain;
+        let hop = message.hop;
+        let Ok(copied) = message.copy(alloc) else {
+            return Some(Woken {
+                chain,
+                hop,
+                delivered: Delivered::Memory,
+            });
+        };
+        let delivered = self.deliver_woken(alloc, copied);
+        Some(Woken {
+            chain,
+            hop,
+            delivered,
+        })
+    }
+
+    /// Delivers a held message, which is let go unless it could not be served.
+    fn deliver_woken(&mut self, alloc: Global, message: Message) -> Delivered
+        ensures wakes { WakesSo K.counted self.old message result self.new }
+        ensures sound { K.sound self.new.keeper → K.sound self.old.keeper }
+    {
+        let chain = message.chain;
+        let hop = message.hop;
+        let delivered = self.deliver(alloc, message);
+        release_woken(&mut self.held, chain, hop, &delivered);
+        delivered
+    }
+}
+
+/// A held message that was delivered is let go, unless it could not be served.
+fn release_woken(held: &mut HeldBuffer, chain: ChainId, hop: u8, delivered: &Delivered)
+    ensures { held.new ≡ (if is_put_off delivered.now then held.old else filter (λ other.
+        not (is_for chain hop other)) held.old) }
+{
+    match delivered {
+        Delivered::Full | Delivered::Stopped | Delivered::Memory => {}
+        Delivered::Done { .. }
+        | Delivered::Repeat { .. }
+        | Delivered::Held
+        | Delivered::Dropped
+        | Delivered::Malformed => held.release(chain, hop),
+    }
+}
+
+/// What was held for a hop that ran is let go.
+fn release_done(held: &mut HeldBuffer, chain: ChainId, hop: u8, delivered: &Delivered)
+    ensures { held.new ≡ (if is_done delivered.now then filter (λ other.
+        not (is_for chain hop other)) held.old else held.old) }
+{
+    match delivered {
+        Delivered::Done { .. } => held.release(chain, hop),
+        Delivered::Repeat { .. }
+        | Delivered::Held
+        | Delivered::Dropped
+        | Delivered::Malformed
+        | Delivered::Full
+        | Delivered::Stopped
+        | Delivered::Memory => {}
+    }
+}

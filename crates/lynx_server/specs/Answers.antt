@@ -4,7 +4,7 @@ use Rattle.std.specs.Cmp.Lexicographic.{pointwise}
 use Rattle.lynx_names.specs.declared.limits.TheConstants.{MAX_ENTRIES, STAMP_LIMIT}
 use Rattle.lynx_names.specs.declared.chain.ChainId.{ChainId}
 use Rattle.lynx_set.specs.Set.{Set}
-use Rattle.lynx_hops.specs.Meaning.{Outcome, meaning}
+use Rattle.lynx_hops.specs.Meaning.{HopOutcome, meaning}
 use Rattle.lynx_entry.specs.declared.answer.Answer.{Answer}
 use Rattle.lynx_entry.specs.declared.answer.Answer.TheVariants.{Begun as BegunAnswer, Refused as RefusedAnswer, Clash, Full, Busy}
 use Rattle.lynx_entry.specs.declared.entry.Entry.{Entry}
@@ -71,7 +71,7 @@ begun_with set server history request seen results =
     }
 
 -- a begin whose hop 0 came out so
-abbrev pub begun_by : Set → ℕ → History → Request → ℕ → Outcome → Begins
+abbrev pub begun_by : Set → ℕ → History → Request → ℕ → HopOutcome → Begins
 begun_by set server history request seen (Ok outcome) = begun_with set server history request seen outcome.0
 begun_by set server history request seen (Err need) = refused_by request seen need (max (clock_of history) seen + 1)
 

@@ -11,16 +11,17 @@ use Rattle.lynx_set.specs.declared.program.Hop.{Hop}
 use Rattle.lynx_set.specs.declared.program.Program.{Program}
 use Rattle.lynx_set.specs.Set.{Set}
 use Rattle.lynx_shards.specs.Shards.{server_of}
-use Rattle.lynx_hops.specs.Meaning.{key_of, program_at}
+use Rattle.lynx_hops.specs.Meaning.{key_of}
 use Rattle.lynx_entry.specs.declared.answer.Answer.{Answer}
 use Rattle.lynx_entry.specs.declared.answer.Answer.TheVariants.{UnknownProgram, WrongOrigin, ArgCount, WrongShard}
 use Rattle.lynx_entry.specs.declared.request.Request.{Request}
 use Rattle.lynx_entry.specs.declared.message.Message.{Message}
-use Rattle.lynx_entry.specs.declared.message.NumberAt.{NumberAt}
+use Rattle.lynx_names.specs.declared.numbers.NumberAt.{NumberAt}
 use Rattle.lynx_entry.specs.declared.entry.Entry.{Entry}
 use Rattle.lynx_entry.specs.declared.entry.Entry.TheVariants.{Begun, Refused, Hop as HopRan}
 use Rattle.lynx_entry.specs.Entry.{History}
 use Rattle.lynx_server.specs.Visits.{is_origin, visited}
+use Rattle.lynx_set.specs.Lookups.{program_at}
 
 -- a key that is a parameter names a cell of the server; a literal was judged with the set's text
 abbrev pub is_key_at : Set → ℕ → List ℕ → ℕ → Key → Bool

@@ -1,10 +1,9 @@
 -- What a delivery is answered, the entry that it adds, and what is held after it.
-use Rattle.std.specs.Prelude.{◌≡◌, ℕ, ◌+◌, ◌==◌, ◌&&◌, Bool, not, max, if◌then◌else◌, nat_lt, nat_eq, List, [], ◌∷◌, ◌++◌, length, filter, Option, Some, None, Ok, Err, unwrap_or}
+use Rattle.std.specs.Prelude.{◌≡◌, ℕ, ◌+◌, ◌==◌, ◌&&◌, Bool, not, max, if◌then◌else◌, nat_lt, nat_eq, List, length, filter, insert, Option, Some, None, Ok, Err, unwrap_or}
 use Rattle.std.specs.List.{list_any}
 use Rattle.std.specs.Cmp.Lexicographic.{pointwise}
-use Rattle.lynx_names.specs.declared.chain.ChainId.{ChainId}
 use Rattle.lynx_set.specs.Set.{Set}
-use Rattle.lynx_hops.specs.Meaning.{Outcome, meaning}
+use Rattle.lynx_hops.specs.Meaning.{HopOutcome, meaning}
 use Rattle.lynx_entry.specs.declared.answer.Delivered.{Delivered}
 use Rattle.lynx_entry.specs.declared.answer.Delivered.TheVariants.{Done, Repeat, Held, Dropped, Malformed, Full}
 use Rattle.lynx_entry.specs.declared.entry.Entry.{Entry}
@@ -12,6 +11,8 @@ use Rattle.lynx_entry.specs.declared.entry.Entry.TheVariants.{Begun, Refused, Ho
 use Rattle.lynx_entry.specs.declared.message.Message.{Message}
 use Rattle.lynx_entry.specs.Entry.{History}
 use Rattle.lynx_server.specs.declared.deliveries.Delivery.{Delivery}
+pub use Rattle.lynx_turn.specs.Held.{same_chain, same_hop}
+use Rattle.lynx_turn.specs.Held.{place_for}
 use Rattle.lynx_server.specs.Turns.{turn_of}
 use Rattle.lynx_server.specs.Tables.{tables_of, clock_of}
 use Rattle.lynx_server.specs.Messages.{next_message}
@@ -28,14 +29,6 @@ pub record Delivers : Type 0 where
 -- the answer and the entry are those of the delivery
 abbrev pub Gives : Delivery → Delivers → Type 0
 Gives code delivers = (code.delivered ≡ delivers.delivered) × (code.added ≡ delivers.added)
-
--- the same chain
-abbrev pub same_chain : ChainId → ChainId → Bool
-same_chain left right = (left.origin == right.origin) && (left.index == right.index)
-
--- both are for one hop of one chain
-abbrev pub same_hop : Message → Message → Bool
-same_hop left right = same_chain left.chain right.chain && (left.hop == right.hop)
 
 -- the same message
 abbrev pub same_message : Message → Message → Bool
@@ -54,7 +47,7 @@ repeated set message (Hop ran) =
     then Repeat ran.stamp ran.results (next_message set (Hop ran))
     else Malformed
 
--- a message that comes before its turn is held, where there is room
+-- a message that comes before its turn is held, where there is room, in order of origin, index and hop
 abbrev pub early : ℕ → List Message → Message → Delivers
 early room held message =
     if list_any (λ other. same_hop other message && not (same_message other message)) held
@@ -62,7 +55,7 @@ early room held message =
     else (if list_any (same_message message) held
     then record { delivered = Held; added = None; held = held }
     else (if nat_lt (length held) room
-    then record { delivered = Held; added = None; held = held ++ message ∷ [] }
+    then record { delivered = Held; added = None; held = insert held (place_for message held) message }
     else record { delivered = Dropped; added = None; held = held }))
 
 -- a hop that ran on this message gives the entry with that stamp, and lets go what was held for it
@@ -76,7 +69,7 @@ done_at set held message stamp results =
     }
 
 -- a hop whose turn it is came out so; a later hop has no needs, so none refuses
-abbrev pub done_by : Set → History → List Message → Message → Outcome → Delivers
+abbrev pub done_by : Set → History → List Message → Message → HopOutcome → Delivers
 done_by set history held message (Ok outcome) = done_at set held message (max (clock_of history) message.stamp + 1) outcome.0
 done_by set history held message (Err need) = record { delivered = Malformed; added = None; held = held }
 

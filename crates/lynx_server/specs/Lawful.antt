@@ -10,7 +10,7 @@ use Rattle.lynx_entry.specs.declared.entry.RefusedEntry.{RefusedEntry}
 use Rattle.lynx_entry.specs.declared.entry.HopEntry.{HopEntry}
 use Rattle.lynx_entry.specs.declared.entry.Entry.{Entry}
 use Rattle.lynx_entry.specs.declared.entry.Entry.TheVariants.{Begun, Refused, Hop}
-use Rattle.lynx_entry.specs.declared.message.NumberAt.{NumberAt}
+use Rattle.lynx_names.specs.declared.numbers.NumberAt.{NumberAt}
 use Rattle.lynx_entry.specs.declared.message.Message.{Message}
 use Rattle.lynx_entry.specs.declared.request.Request.{Request}
 use Rattle.lynx_entry.specs.Entry.{History}

@@ -3,8 +3,6 @@ pub mod Checks
 pub mod Deliveries
 pub mod Lawful
 pub mod Messages
-pub mod Ranges
-pub mod Steps
 pub mod Tables
 pub mod Turns
 pub mod Visits

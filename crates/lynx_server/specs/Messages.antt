@@ -5,8 +5,8 @@ use Rattle.lynx_set.specs.Set.{Set}
 use Rattle.lynx_entry.specs.declared.entry.Entry.{Entry}
 use Rattle.lynx_entry.specs.declared.entry.Entry.TheVariants.{Begun, Refused, Hop}
 use Rattle.lynx_entry.specs.declared.message.Message.{Message}
-use Rattle.lynx_entry.specs.declared.message.NumberAt.{NumberAt}
-use Rattle.lynx_server.specs.Visits.{hops_of}
+use Rattle.lynx_names.specs.declared.numbers.NumberAt.{NumberAt}
+use Rattle.lynx_set.specs.Lookups.{hops_of}
 
 -- what the hop after this one is sent, where there is one
 abbrev pub message_after : Set → ChainId → ℕ → ℕ → ℕ → List ℕ → List NumberAt → List (List ℕ) → Option Message

@@ -2,13 +2,13 @@
 use Rattle.std.specs.Prelude.{ℕ, [], fold, Ok, Err}
 use Rattle.lynx_cells.specs.Database.{Database, empty_database}
 use Rattle.lynx_set.specs.Set.{Set}
-use Rattle.lynx_hops.specs.Meaning.{Outcome, meaning}
+use Rattle.lynx_hops.specs.Meaning.{HopOutcome, meaning}
 use Rattle.lynx_entry.specs.declared.entry.Entry.{Entry}
 use Rattle.lynx_entry.specs.declared.entry.Entry.TheVariants.{Begun, Refused, Hop}
 use Rattle.lynx_entry.specs.Entry.{History, stamp_of}
 
 -- a hop that refuses changes nothing
-abbrev pub database_after : Outcome → Database → Database
+abbrev pub database_after : HopOutcome → Database → Database
 database_after (Ok outcome) db = outcome.1
 database_after (Err need) db = db
 

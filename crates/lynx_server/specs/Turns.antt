@@ -3,9 +3,10 @@ use Rattle.std.specs.Prelude.{ℕ, ◌==◌, ◌&&◌, Bool, true, false, List, 
 use Rattle.lynx_set.specs.Set.{Set}
 use Rattle.lynx_entry.specs.declared.entry.Entry.{Entry}
 use Rattle.lynx_entry.specs.declared.entry.Entry.TheVariants.{Begun, Refused, Hop}
-use Rattle.lynx_entry.specs.declared.message.NumberAt.{NumberAt}
+use Rattle.lynx_names.specs.declared.numbers.NumberAt.{NumberAt}
 use Rattle.lynx_entry.specs.Entry.{History}
-use Rattle.lynx_server.specs.Visits.{hops_of, visits, visited, is_last_at}
+use Rattle.lynx_server.specs.Visits.{visits, visited, is_last_at}
+use Rattle.lynx_set.specs.Lookups.{hops_of}
 
 abbrev pub is_begun : Entry → Bool
 is_begun (Begun begun) = true

@@ -1,14 +1,10 @@
 -- Which servers a program visits, and in which hops.
-use Rattle.std.specs.Prelude.{ℕ, ◌+◌, ◌==◌, Bool, false, not, List, [], ◌∷◌, unwrap_or, option_map, drop, filter}
+use Rattle.std.specs.Prelude.{ℕ, ◌==◌, ◌&&◌, Bool, false, not, List, [], ◌∷◌, unwrap_or, option_map, drop, filter}
 use Rattle.std.specs.List.{list_any, range_with_len}
 use Rattle.lynx_names.specs.declared.limits.TheConstants.{MAX_SERVERS}
 use Rattle.lynx_set.specs.declared.program.Hop.{Hop}
 use Rattle.lynx_set.specs.Set.{Set}
-use Rattle.lynx_hops.specs.Meaning.{program_at}
-
--- the hops of the program of that number
-abbrev pub hops_of : Set → ℕ → List Hop
-hops_of set program = unwrap_or (option_map (λ found. found.hops) (program_at set program)) []
+use Rattle.lynx_set.specs.Lookups.{hops_of}
 
 -- the first of these hops is at the server
 abbrev pub starts_at : List Hop → ℕ → Bool
@@ -27,6 +23,11 @@ visits hops server = list_any (λ hop. hop.server == server) hops
 unfoldable pub visited : Set → ℕ → List ℕ
 visited set program = filter (λ server. visits (hops_of set program) server) (range_with_len 0 MAX_SERVERS)
 
--- no later hop of the program is at the server
+-- the first of these hops is at the server, and no later one is
+abbrev pub leaves_by_first : List Hop → ℕ → Bool
+leaves_by_first [] server = false
+leaves_by_first (hop ∷ hops) server = (hop.server == server) && not (visits hops server)
+
+-- the hop of the program is at the server, and no later one is
 abbrev pub is_last_at : Set → ℕ → ℕ → ℕ → Bool
-is_last_at set server program hop = not (visits (drop (hop + 1) (hops_of set program)) server)
+is_last_at set server program hop = leaves_by_first (drop hop (hops_of set program)) server

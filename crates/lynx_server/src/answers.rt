@@ -54,7 +54,7 @@ fn same_call(left: &Request, right: &Request) -> bool
 }
 
 /// The answer that an entry keeps, if the request is the very one.
-fn recorded_answer(alloc: Global, entry: &Entry, request: &Request) -> Result<Answer, Memory>
+pub fn recorded_answer(alloc: Global, entry: &Entry, request: &Request) -> Result<Answer, Memory>
     ensures { IfOk result (λ answer. answer ≡ recorded_answer entry.now request.now) }
 {
     match entry {
@@ -76,7 +76,8 @@ fn recorded_answer(alloc: Global, entry: &Entry, request: &Request) -> Result<An
 /// The stamp of the next entry, above the clock and what it was told. None where the history has all the
 /// entries, or all the stamps, that it may have.
 pub fn next_stamp(history: &[Entry], told: Stamp) -> Option<Stamp>
-    ensures { MatchOption result (is_full history.now told ≡ true) (λ stamp. (is_full history.now told ≡ false) × (stamp ≡ max (clock_of history.now) told + 1)) }
+    ensures { MatchOption result (is_full history.now told ≡ true) (λ stamp.
+        (is_full history.now told ≡ false) × (stamp ≡ max (clock_of history.now) told + 1)) }
 {
     if history.len() as u64 >= MAX_ENTRIES {
         return None;
@@ -135,14 +136,15 @@ fn begun(
     results: Values,
 ) -> Result<Begins, Memory>
     requires { stamp ≡ max (clock_of history.now) seen + 1 }
-    ensures { IfOk result (λ begins. begins ≡ begun_with set.now server history.now request.now seen results) }
+    ensures { IfOk result (λ begins. begins
+        ≡ begun_with set.now server history.now request.now seen results) }
 {
     let chain = ChainId {
         origin: server,
         index: begun_count(history) as u64,
     };
     let numbers = numbers_of(alloc, set, history, request.program)?;
-    let again = results.copy(alloc)?;
+    let told = results.copy(alloc)?;
     let entry = BegunEntry {
         request: request.copy(alloc)?,
         seen,
@@ -155,7 +157,7 @@ fn begun(
         answer: Answer::Begun {
             chain,
             stamp,
-            results: again,
+            results: told,
             again: false,
         },
         added: Some(Entry::Begun(entry)),
@@ -163,7 +165,7 @@ fn begun(
 }
 
 /// What comes of a hop 0 that refused by that need, as the entry with that stamp.
-fn refused(
+pub fn refused(
     alloc: Global,
     request: &Request,
     seen: Stamp,

@@ -2,8 +2,8 @@
 ghost use Rattle.std.specs.Prelude.{◌≡◌, IfOk, Some, None, map, length, nat_eq, ◌≤◌};
 ghost use Rattle.std.specs.List.{list_all, list_any};
 ghost use Rattle.std.specs.Cmp.Lexicographic.{pointwise};
-ghost use Rattle.lynx_hops.specs.Meaning.{program_at};
 ghost use Rattle.lynx_server.specs.Checks.{is_key_at, is_action_at, are_keys_placed, request_fault, binds, result_count, begins, fits, fits_program, has_begun, is_well_formed};
+ghost use Rattle.lynx_set.specs.Lookups.{program_at};
 
 use crate::visits::{is_origin, visited};
 use lynx_entry::{Answer, Entry, Message, NumberAt, Request};
@@ -113,7 +113,7 @@ fn are_for(numbers: &[NumberAt], servers: &[ServerId]) -> bool
 }
 
 /// An entry in which this very chain began.
-fn begins(message: &Message, entry: &Entry) -> bool
+pub fn begins(message: &Message, entry: &Entry) -> bool
     ensures { result ≡ begins message.now entry.now }
 {
     match entry {
@@ -153,13 +153,14 @@ fn fits(
 }
 
 /// The message is of a later hop of a program of the set, and is what that hop may be sent.
-fn fits_program(
+pub fn fits_program(
     alloc: Global,
     set: &ChainSet,
     server: ServerId,
     message: &Message,
 ) -> Result<bool, Memory>
-    ensures { IfOk result (λ answer. answer ≡ fits_program set.now server message.now (program_at set.now message.now.program)) }
+    ensures { IfOk result (λ answer. answer ≡ fits_program set.now server message.now
+        (program_at set.now message.now.program)) }
 {
     let Some(program) = set.program(message.program) else {
         return Ok(false);
@@ -192,7 +193,8 @@ pub fn is_well_formed(
     history: &[Entry],
     message: &Message,
 ) -> Result<bool, Memory>
-    ensures { IfOk result (λ answer. answer ≡ is_well_formed set.now server history.now message.now) }
+    ensures { IfOk result (λ answer. answer
+        ≡ is_well_formed set.now server history.now message.now) }
 {
     Ok(fits_program(alloc, set, server, message)? && has_begun(server, history, message))
 }

@@ -64,14 +64,14 @@ fn number_at(numbers: &[NumberAt], server: ServerId) -> Option<u64>
 }
 
 /// The number that the message's chain has for this server, which it visits.
-fn own_number(message: &Message, server: ServerId) -> u64
+pub fn own_number(message: &Message, server: ServerId) -> u64
     ensures { result ≡ unwrap_or (number_at message.now.numbers server) 0 }
 {
     number_at(message.numbers.as_slice(), server).unwrap_or(0)
 }
 
 /// The answer for a hop that ran before.
-fn repeated(
+pub fn repeated(
     alloc: Global,
     set: &ChainSet,
     message: &Message,
@@ -90,16 +90,17 @@ fn repeated(
 }
 
 /// What comes of a later hop that ran on this message, as the entry with that stamp.
-fn done(
+pub fn done(
     alloc: Global,
     set: &ChainSet,
     message: &Message,
     stamp: Stamp,
     results: Values,
 ) -> Result<Delivery, Memory>
-    ensures { IfOk result (λ delivery. Gives delivery (done_at set.now [] message.now stamp results)) }
+    ensures { IfOk result (λ delivery. Gives delivery
+        (done_at set.now [] message.now stamp results)) }
 {
-    let again = results.copy(alloc)?;
+    let told = results.copy(alloc)?;
     let message = message.copy(alloc)?;
     let entry = Entry::Hop(HopEntry {
         message,
@@ -110,7 +111,7 @@ fn done(
     Ok(Delivery {
         delivered: Delivered::Done {
             stamp,
-            results: again,
+            results: told,
             next,
         },
         added: Some(entry),
@@ -153,7 +154,8 @@ pub fn deliver(
     history: &[Entry],
     message: &Message,
 ) -> Result<Delivery, Memory>
-    ensures { IfOk result (λ delivery. Gives delivery (spec.delivery set.now server 0 history.now [] message.now)) }
+    ensures { IfOk result (λ delivery. Gives delivery
+        (spec.delivery set.now server 0 history.now [] message.now)) }
 {
     if !is_well_formed(alloc, set, server, history, message)? {
         return Ok(only(Delivered::Malformed));
@@ -173,7 +175,8 @@ fn deliver_by_turn(
     history: &[Entry],
     message: &Message,
 ) -> Result<Delivery, Memory>
-    ensures { IfOk result (λ delivery. Gives delivery (deliver_new set.now server 0 history.now [] message.now None)) }
+    ensures { IfOk result (λ delivery. Gives delivery
+        (deliver_new set.now server 0 history.now [] message.now None)) }
 {
     let number = own_number(message, server);
     let origin = message.chain.origin;

@@ -4,9 +4,9 @@
 pub use messages::next_of;
 
 pub mod answers;
-mod checks;
+pub mod checks;
 pub mod deliveries;
 mod messages;
 pub mod tables;
 mod turns;
-mod visits;
+pub mod visits;

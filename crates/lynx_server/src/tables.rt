@@ -20,7 +20,8 @@ fn run_again(
     args: &[u64],
     earlier: &[Values],
 ) -> Result<(), Memory>
-    ensures { OnOk result (cells.new.database ≡ database_after (meaning set.now program hop args.now earlier.now cells.old.database) cells.old.database) }
+    ensures { OnOk result (cells.new.database ≡ database_after
+        (meaning set.now program hop args.now earlier.now cells.old.database) cells.old.database) }
 {
     match run_hop(alloc, set, program, hop, args, earlier, cells) {
         Ok(ran) => {

@@ -1,7 +1,8 @@
 //! Which servers a program visits, and in which hops.
 ghost use Rattle.std.specs.Prelude.{◌≡◌, ◌≤◌, filter, IfOk};
 ghost use Rattle.std.specs.List.{range_with_len};
-ghost use Rattle.lynx_server.specs.Visits.{hops_of, is_origin, visits, visited, is_last_at};
+ghost use Rattle.lynx_server.specs.Visits.{is_origin, visits, visited, is_last_at};
+ghost use Rattle.lynx_set.specs.Lookups.{hops_of};
 
 use lynx_names::limits::MAX_SERVERS;
 use lynx_names::{Memory, ProgramId, ServerId};
@@ -35,20 +36,21 @@ pub fn visits(hops: &[Hop], server: ServerId) -> bool
     hops.iter().any(|hop| hop.server == server)
 }
 
-/// No later hop of the program is at the server.
+/// The hop of the program is at the server, and no later one is.
 pub fn is_last_at(set: &ChainSet, server: ServerId, program: ProgramId, hop: usize) -> bool
     ensures { result ≡ is_last_at set.now server program hop }
 {
-    match hops_of(set, program).get(hop.saturating_add(1)..) {
-        Some(later) => !visits(later, server),
-        None => true,
+    match hops_of(set, program).get(hop..) {
+        Some([hop, later @ ..]) => hop.server == server && !visits(later, server),
+        _ => false,
     }
 }
 
 /// Those of the first servers that the hops visit, rising.
 fn visited_below(alloc: Global, hops: &[Hop], end: u8) -> Result<Vec<ServerId>, Memory>
     requires { end ≤ MAX_SERVERS }
-    ensures { IfOk result (λ servers. servers.items ≡ filter (λ server. visits hops.now server) (range_with_len 0 end)) }
+    ensures { IfOk result (λ servers. servers.items ≡ filter (λ server.
+        visits hops.now server) (range_with_len 0 end)) }
 {
     let mut servers = Vec::new(alloc);
     for number in 0..end {

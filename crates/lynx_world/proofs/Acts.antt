@@ -7,9 +7,9 @@ use Rattle.lynx_entry.specs.declared.entry.BegunEntry.{BegunEntry}
 use Rattle.lynx_entry.specs.declared.entry.HopEntry.{HopEntry}
 use Rattle.lynx_entry.specs.declared.entry.Entry.{Entry}
 use Rattle.lynx_entry.specs.declared.entry.Entry.TheVariants.{Begun, Refused, Hop as HopRan}
-use Rattle.lynx_server.specs.Visits.{hops_of, visits}
+use Rattle.lynx_server.specs.Visits.{visits}
 use Rattle.lynx_server.specs.Deliveries.{same_chain}
-use Rattle.lynx_server.specs.Steps.{begins_visiting-lawful}
+use Rattle.lynx_server.proofs.Steps.{begins_visiting-lawful}
 use Rattle.lynx_world.specs.declared.placed.Placed.{Placed}
 use Rattle.lynx_world.specs.Worlds.{history_of}
 use Rattle.lynx_world.specs.Legal.{IsLegal}
@@ -21,6 +21,7 @@ use Rattle.lynx_world.proofs.Standing.{stands}
 use Rattle.lynx_world.proofs.Sent.{message-sent}
 use Rattle.lynx_world.proofs.Chains.{descends}
 use Rattle.lynx_world.proofs.Numbers.{number_in, BeginsAt, IsVisiting}
+use Rattle.lynx_set.specs.Lookups.{hops_of}
 
 -- the number for a server of the chain of an entry
 abbrev pub number_of : Entry → ℕ → ℕ

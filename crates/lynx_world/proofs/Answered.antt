@@ -8,7 +8,7 @@ use Rattle.lynx_names.specs.declared.limits.TheConstants.{MAX_SERVERS}
 use Rattle.lynx_set.specs.declared.program.Hop.{Hop}
 use Rattle.lynx_set.specs.Rules.{IsSet}
 use Rattle.lynx_set.specs.Set.{Set}
-use Rattle.lynx_hops.specs.Meaning.{Outcome, meaning}
+use Rattle.lynx_hops.specs.Meaning.{HopOutcome, meaning}
 use Rattle.lynx_entry.specs.declared.answer.Delivered.{Delivered}
 use Rattle.lynx_entry.specs.declared.answer.Delivered.TheVariants.{Repeat, Malformed}
 use Rattle.lynx_entry.specs.declared.entry.Entry.{Entry}
@@ -75,7 +75,7 @@ early_is_good set list room held message legal sent each =
     (λ not_there. cond_both (nat_lt (length held) room) _ _ IsGood (λ room e. cc) (λ full e. cc)))
 
 -- a hop that doesn't refuse
-done_is_good : (set : Set) (history : History) (held : List Message) (message : Message) (outcome : Outcome) →
+done_is_good : (set : Set) (history : History) (held : List Message) (message : Message) (outcome : HopOutcome) →
     ((need : ℕ) → outcome ≡ Err need → ⊥) → IsGood (done_by set history held message outcome)
 done_is_good set history held message (Ok (results, db)) never e = cc
 done_is_good set history held message (Err need) never e = never need refl

@@ -10,7 +10,6 @@ use Rattle.lynx_entry.specs.declared.entry.HopEntry.{HopEntry}
 use Rattle.lynx_entry.specs.declared.entry.Entry.{Entry}
 use Rattle.lynx_entry.specs.declared.entry.Entry.TheVariants.{Begun, Refused, Hop as HopRan}
 use Rattle.lynx_entry.specs.declared.message.Message.{Message}
-use Rattle.lynx_server.specs.Visits.{hops_of}
 use Rattle.lynx_server.specs.Messages.{next_message}
 use Rattle.lynx_server.specs.Tables.{tables_of}
 use Rattle.lynx_server.specs.Checks.{result_count}
@@ -22,6 +21,7 @@ use Rattle.lynx_world.proofs.ResultCounts.{meaning-counted}
 use Rattle.lynx_world.proofs.Members.{IsIn, in-append, in-last}
 use Rattle.lynx_world.proofs.Standing.{legal_induction}
 use Rattle.lynx_world.proofs.Sent.{sent-push}
+use Rattle.lynx_set.specs.Lookups.{hops_of}
 
 -- the chain of the message began at its origin, with the message's program, arguments and numbers
 pub record HasChain (list : List Placed) (message : Message) : Type 0 where

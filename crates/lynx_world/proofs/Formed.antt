@@ -5,12 +5,11 @@ use Rattle.std.specs.List.{list_any}
 use Rattle.std.proofs.lemmas.Bool.{eqb-true, lt-ltb}
 use Rattle.lynx_set.specs.declared.program.Program.{Program}
 use Rattle.lynx_set.specs.Set.{Set}
-use Rattle.lynx_hops.specs.Meaning.{program_at}
 use Rattle.lynx_entry.specs.declared.answer.Answer.{Answer}
 use Rattle.lynx_entry.specs.declared.answer.Answer.TheVariants.{WrongOrigin, ArgCount, WrongShard}
 use Rattle.lynx_entry.specs.declared.entry.Entry.TheVariants.{Begun}
 use Rattle.lynx_entry.specs.declared.message.Message.{Message}
-use Rattle.lynx_entry.specs.declared.message.NumberAt.{NumberAt}
+use Rattle.lynx_names.specs.declared.numbers.NumberAt.{NumberAt}
 use Rattle.lynx_entry.specs.declared.request.Request.{Request}
 use Rattle.lynx_entry.specs.Entry.{History}
 use Rattle.lynx_server.specs.Visits.{is_origin, visited}
@@ -25,6 +24,7 @@ use Rattle.lynx_world.proofs.Standing.{stands}
 use Rattle.lynx_world.proofs.Tests.{and-true}
 use Rattle.lynx_world.proofs.Alike.{pointwise-self, nat-self, numbers-self}
 use Rattle.lynx_world.proofs.Chains.{Descends, HasChain}
+use Rattle.lynx_set.specs.Lookups.{program_at}
 
 -- what a request that is in order has
 record IsInOrder (set : Set) (server : ℕ) (request : Request) (program : Program) : Type 0 where

@@ -7,9 +7,9 @@ use Rattle.std.proofs.lemmas.Option.{slice_get_within, get_or_from_slice_get}
 use Rattle.lynx_set.specs.declared.program.Hop.{Hop}
 use Rattle.lynx_set.specs.declared.program.Program.{Program}
 use Rattle.lynx_set.specs.Set.{Set}
-use Rattle.lynx_hops.specs.Meaning.{program_at, hop_at, actions_at}
-use Rattle.lynx_server.specs.Visits.{hops_of, visits}
+use Rattle.lynx_server.specs.Visits.{visits}
 use Rattle.lynx_world.proofs.Tests.{not_both}
+use Rattle.lynx_set.specs.Lookups.{actions_at, hop_at, hops_of, program_at}
 
 -- the hop of that number of a program
 pub record HasHop (set : Set) (program number : ℕ) : Type 0 where

@@ -13,7 +13,7 @@ use Rattle.lynx_set.specs.Plain.{PlainHop, PlainProgram, PlainSet, plain_hop, pl
 use Rattle.lynx_set.specs.Standing.{Place}
 use Rattle.lynx_set.specs.Rules.{FitActions, FitHops, FitsProgram, FitPrograms, next_place, with_hop, with_program, no_programs, IsSet}
 use Rattle.lynx_set.specs.Set.{Set}
-use Rattle.lynx_hops.specs.Meaning.{Outcome, after_results, run, meaning, key_of, value_of, sum_of, difference_of, result_of}
+use Rattle.lynx_hops.specs.Meaning.{HopOutcome, after_results, run, meaning, key_of, value_of, sum_of, difference_of, result_of}
 use Rattle.lynx_world.proofs.HopsOf.{HasHop, actions_are}
 
 -- actions that never refuse
@@ -21,7 +21,7 @@ abbrev pub NeverRefuse : List Action → Type 0
 NeverRefuse actions = (args : List ℕ) (needs : ℕ) (names : List ℕ) (db : Database) (need : ℕ) → run args needs actions names db ≡ Err need → ⊥
 
 -- a refusal behind an action that bound a value
-refused_behind : (value : ℕ) (outcome : Outcome) (need : ℕ) → after_results (value ∷ []) outcome ≡ Err need → outcome ≡ Err need
+refused_behind : (value : ℕ) (outcome : HopOutcome) (need : ℕ) → after_results (value ∷ []) outcome ≡ Err need → outcome ≡ Err need
 refused_behind value (Ok (results, db)) need e = cc
 refused_behind value (Err other) need e = e
 

@@ -1,4 +1,6 @@
 pub mod Histories
+pub mod Held
+pub mod Growing
 pub mod Members
 pub mod Once
 pub mod Tests
@@ -19,3 +21,4 @@ pub mod Ran
 pub mod Formed
 pub mod Answered
 pub mod Origins
+pub mod LegalSteps

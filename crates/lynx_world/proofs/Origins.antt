@@ -16,7 +16,7 @@ use Rattle.lynx_server.specs.Deliveries.{same_chain}
 use Rattle.lynx_world.specs.declared.placed.Placed.{Placed}
 use Rattle.lynx_world.specs.Worlds.{history_of}
 use Rattle.lynx_world.specs.Legal.{MayFollow, IsLegal}
-use Rattle.lynx_world.specs.LegalSteps.{legal-push}
+use Rattle.lynx_world.proofs.LegalSteps.{legal-push}
 use Rattle.lynx_world.specs.Order.{hop_in, StandsAt, IsInOriginOrder}
 use Rattle.lynx_world.proofs.Members.{IsIn, in-append, in-last}
 use Rattle.lynx_world.proofs.Once.{same_name, chosen_hop}

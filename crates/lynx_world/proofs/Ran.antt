@@ -8,7 +8,7 @@ use Rattle.lynx_entry.specs.declared.entry.BegunEntry.{BegunEntry}
 use Rattle.lynx_entry.specs.declared.entry.Entry.{Entry}
 use Rattle.lynx_entry.specs.declared.entry.Entry.TheVariants.{Begun, Refused, Hop as HopRan}
 use Rattle.lynx_entry.specs.declared.message.Message.{Message}
-use Rattle.lynx_server.specs.Visits.{hops_of, visits}
+use Rattle.lynx_server.specs.Visits.{visits}
 use Rattle.lynx_server.specs.Turns.{turn_of}
 use Rattle.lynx_server.specs.Lawful.{is_hop_of, hop_entry_of}
 use Rattle.lynx_server.specs.Deliveries.{same_chain}
@@ -24,6 +24,7 @@ use Rattle.lynx_world.proofs.Numbers.{number_in, BeginsAt, IsVisiting}
 use Rattle.lynx_world.proofs.Rises.{one_chain}
 use Rattle.lynx_world.proofs.Acts.{acts}
 use Rattle.lynx_world.proofs.Turns.{HasLeft, leaving, has_left}
+use Rattle.lynx_set.specs.Lookups.{hops_of}
 
 -- the hops before one that stands in the list stand there too
 pub earlier_ran : (set : Set) (chain : ChainId) (hop last : ℕ) (list : List Placed) (placed : Placed) → IsLegal set list → IsIn placed list →

@@ -7,15 +7,15 @@ use Rattle.lynx_cells.specs.Database.{Database, value_at, with_value}
 use Rattle.lynx_set.specs.declared.action.Action.{Action}
 use Rattle.lynx_set.specs.declared.action.Action.TheVariants.{Get, Set as SetCell, Add, Sub, Let, Need}
 use Rattle.lynx_set.specs.Set.{Set}
-use Rattle.lynx_hops.specs.Meaning.{Outcome, after_results, run, meaning, key_of, value_of, sum_of, difference_of, result_of, is_met}
+use Rattle.lynx_hops.specs.Meaning.{HopOutcome, after_results, run, meaning, key_of, value_of, sum_of, difference_of, result_of, is_met}
 use Rattle.lynx_server.specs.Checks.{binds, result_count}
 use Rattle.lynx_world.proofs.HopsOf.{HasHop, actions_are}
 
-ok_is : (one other : List ℕ × Database) → ◌≡◌ {A = Outcome} (Ok one) (Ok other) → one ≡ other
+ok_is : (one other : List ℕ × Database) → ◌≡◌ {A = HopOutcome} (Ok one) (Ok other) → one ≡ other
 ok_is one other e = cc
 
 -- what the actions gave behind one that binds a value
-behind_bound : (value : ℕ) (outcome : Outcome) (results : List ℕ) (db : Database) → after_results (value ∷ []) outcome ≡ Ok (results, db) →
+behind_bound : (value : ℕ) (outcome : HopOutcome) (results : List ℕ) (db : Database) → after_results (value ∷ []) outcome ≡ Ok (results, db) →
     (rest : List ℕ) × (outcome ≡ Ok (rest, db)) × (results ≡ value ∷ rest)
 behind_bound value (Ok (rest, other)) results db e =
     let same = ok_is (value ∷ rest, other) (results, db) e in
@@ -23,7 +23,7 @@ behind_bound value (Ok (rest, other)) results db e =
 behind_bound value (Err need) results db e = cc
 
 -- a need that was met
-behind_need : (met : Bool) (rest : Outcome) (needs : ℕ) (results : List ℕ) (db : Database) →
+behind_need : (met : Bool) (rest : HopOutcome) (needs : ℕ) (results : List ℕ) (db : Database) →
     cond met rest (Err needs) ≡ Ok (results, db) → rest ≡ Ok (results, db)
 behind_need true rest needs results db e = e
 behind_need false rest needs results db e = cc

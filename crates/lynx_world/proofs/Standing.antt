@@ -4,7 +4,7 @@ use Rattle.std.proofs.lemmas.List.{append-nil}
 use Rattle.lynx_set.specs.Set.{Set}
 use Rattle.lynx_world.specs.declared.placed.Placed.{Placed}
 use Rattle.lynx_world.specs.Legal.{MayFollow, IsLegalAfter, IsLegal}
-use Rattle.lynx_world.specs.LegalSteps.{legal-push}
+use Rattle.lynx_world.proofs.LegalSteps.{legal-push}
 use Rattle.lynx_world.proofs.Members.{IsIn, in-push}
 
 -- behind a list of which it holds, what stays with each entry that may follow holds of the whole

@@ -1,5 +1,5 @@
 -- At each server the chains of one origin act in the order of their numbers: the k-th to leave it has number k.
-use Rattle.std.proofs.Common.{◌≡◌, ℕ, ◌+◌, ◌<◌, true, false, cond, List, [], ◌∷◌, ◌++◌, drop, Some, None, inl, inr, ◌⊎◌, nat_eq, sym, ap, ◌∙◌, subst, arith}
+use Rattle.std.proofs.Common.{◌≡◌, ℕ, zero, suc, add-one, ◌+◌, ◌<◌, not, true, false, cond, List, [], ◌∷◌, ◌++◌, drop, Some, None, inl, inr, ◌⊎◌, nat_eq, sym, ap, ◌∙◌, subst, arith}
 use Rattle.std.proofs.lemmas.Bool.{eqb-true}
 use Rattle.lynx_names.specs.declared.chain.ChainId.{ChainId}
 use Rattle.lynx_names.specs.declared.limits.TheConstants.{MAX_SERVERS}
@@ -7,11 +7,12 @@ use Rattle.lynx_set.specs.Set.{Set}
 use Rattle.lynx_entry.specs.declared.entry.Entry.{Entry}
 use Rattle.lynx_entry.specs.declared.entry.Entry.TheVariants.{Begun, Refused, Hop as HopRan}
 use Rattle.lynx_entry.specs.Entry.{History}
-use Rattle.lynx_server.specs.Visits.{hops_of, visits, is_last_at}
+use Rattle.lynx_set.specs.declared.program.Hop.{Hop as HopOf}
+use Rattle.lynx_server.specs.Visits.{visits, is_last_at, leaves_by_first}
 use Rattle.lynx_server.specs.Turns.{leaves, turn_of}
 use Rattle.lynx_server.specs.Lawful.{IsLawful}
 use Rattle.lynx_server.specs.Deliveries.{same_chain}
-use Rattle.lynx_server.specs.Steps.{begins_visiting-lawful}
+use Rattle.lynx_server.proofs.Steps.{begins_visiting-lawful}
 use Rattle.lynx_world.specs.declared.placed.Placed.{Placed}
 use Rattle.lynx_world.specs.Worlds.{history_of}
 use Rattle.lynx_world.specs.Legal.{MayFollow, IsLegal}
@@ -23,6 +24,7 @@ use Rattle.lynx_world.proofs.Tests.{not_true}
 use Rattle.lynx_world.proofs.Counts.{count-last}
 use Rattle.lynx_world.proofs.Numbers.{number_in-lawful}
 use Rattle.lynx_world.proofs.Acts.{number_of}
+use Rattle.lynx_set.specs.Lookups.{hops_of}
 
 -- an entry of a chain comes when the turn is its chain's number
 pub acts_in_turn : (set : Set) (server : ℕ) (history : History) (entry : Entry) (chain : ChainId) (hop : ℕ) → server < MAX_SERVERS →
@@ -36,6 +38,17 @@ acts_in_turn set server history (Refused refused) chain hop below lawful is = cc
 acts_in_turn set server history (HopRan ran) chain hop below lawful is =
     let test = chosen_hop (same_chain ran.message.chain chain) ran.message.hop hop is in
     lawful.in_turn ∙ ap (λ (c : ChainId). turn_of set server history c.origin) (same_name _ _ test.0)
+
+-- no hop behind one by which a chain leaves the server is there
+none_behind : (hops : List HopOf) (hop server : ℕ) → leaves_by_first (drop hop hops) server ≡ true →
+    visits (drop (hop + 1) hops) server ≡ false
+none_behind [] zero server left = cc
+none_behind [] (suc hop) server left = cc
+none_behind (first ∷ hops) zero server left =
+    let tests = both (nat_eq first.server server) (not (visits hops server)) left in
+    not_true _ tests.1
+none_behind (first ∷ hops) (suc hop) server left =
+    rw add-one (let behind = none_behind hops hop server left in rw add-one at behind)
 
 -- a chain of the origin leaves the server by the entry, its last there
 pub record IsLeaving (set : Set) (server origin : ℕ) (entry : Entry) : Type 0 where
@@ -54,7 +67,7 @@ leaving set server origin (Begun begun) left =
       hop = 0;
       hop_is = ap (λ b. cond b (Some 0) None) (same_chain-self begun.chain);
       of_origin = eqb-true _ _ tests.0;
-      last = not_true _ tests.1;
+      last = none_behind (hops_of set begun.request.program) 0 server tests.1;
     }
 leaving set server origin (Refused refused) left = cc
 leaving set server origin (HopRan ran) left =
@@ -64,7 +77,7 @@ leaving set server origin (HopRan ran) left =
       hop = ran.message.hop;
       hop_is = ap (λ b. cond b (Some ran.message.hop) None) (same_chain-self ran.message.chain);
       of_origin = eqb-true _ _ tests.0;
-      last = not_true _ tests.1;
+      last = none_behind (hops_of set ran.message.program) ran.message.hop server tests.1;
     }
 
 -- the entry by which the chain of the origin that has number k for the server left it

@@ -2,5 +2,4 @@ pub mod Worlds
 pub mod Steps
 pub mod Tables
 pub mod Legal
-pub mod LegalSteps
 pub mod Order

@@ -1,8 +1,7 @@
 -- A step of a world.
-use Rattle.std.specs.Prelude.{ℕ, ◌==◌, ◌&&◌, Bool, true, false, not, if◌then◌else◌, nat_lt, List, [], ◌∷◌, ◌++◌, find, filter, fold, unwrap_or, option_map, slice_get, slice_set, is_some, Option, Some, None}
+use Rattle.std.specs.Prelude.{◌≡◌, ◌⊎◌, ℕ, ◌==◌, ◌&&◌, Bool, true, false, not, if◌then◌else◌, nat_lt, List, [], ◌∷◌, ◌++◌, find, filter, fold, unwrap_or, option_map, slice_get, slice_set, is_some, Option, Some, None}
 use Rattle.lynx_names.specs.declared.chain.ChainId.{ChainId}
 use Rattle.lynx_set.specs.Set.{Set}
-use Rattle.lynx_hops.specs.Meaning.{hop_at}
 use Rattle.lynx_entry.specs.declared.answer.Delivered.{Delivered}
 use Rattle.lynx_entry.specs.declared.answer.Delivered.TheVariants.{Done, Repeat, Held, Dropped, Malformed, Full, Stopped, Memory}
 use Rattle.lynx_entry.specs.declared.entry.Entry.{Entry}
@@ -13,12 +12,13 @@ use Rattle.lynx_server.specs.Turns.{turn_of}
 use Rattle.lynx_server.specs.Lawful.{number_at}
 use Rattle.lynx_server.specs.Answers.{answer}
 use Rattle.lynx_server.specs.Deliveries.{Delivers, same_chain, same_hop, delivery}
-use Rattle.lynx_world.specs.declared.event.Event.{Event}
-use Rattle.lynx_world.specs.declared.event.Event.TheVariants.{Begin, Deliver, Wake, Lost, Restart}
-use Rattle.lynx_world.specs.declared.event.Outcome.{Outcome}
-use Rattle.lynx_world.specs.declared.event.Outcome.TheVariants.{Answered, Delivered as DeliveredNow, Woken, NotSent, LostNow, Idle, Restarted, NoServer}
+use Rattle.lynx_entry.specs.declared.event.Event.{Event}
+use Rattle.lynx_entry.specs.declared.event.Event.TheVariants.{Begin, Deliver, Wake, Lost, Restart}
+use Rattle.lynx_entry.specs.declared.event.Outcome.{Outcome}
+use Rattle.lynx_entry.specs.declared.event.Outcome.TheVariants.{Answered, Delivered as DeliveredNow, Woken, NotSent, LostNow, Idle, Restarted, NoServer}
 use Rattle.lynx_world.specs.declared.placed.Placed.{Placed}
 use Rattle.lynx_world.specs.Worlds.{WorldState, history_of, messages_of}
+use Rattle.lynx_set.specs.Lookups.{hop_at}
 
 -- an outcome, and the world after it
 pub record Step : Type 0 where
@@ -144,3 +144,7 @@ step room world (Restart server) =
     if is_server world server
     then record { outcome = Restarted server; world = record world { held = slice_set world.held server [] } }
     else stays world NoServer
+
+-- the list is as it was, or has one more entry at its end
+abbrev pub HasGrown : List Placed → List Placed → Type 0
+HasGrown old new = (new ≡ old) ⊎ ((placed : Placed) × (new ≡ old ++ placed ∷ []))

@@ -1,5 +1,5 @@
 -- A world: what all servers have done, in one order.
-use Rattle.std.specs.Prelude.{◌≡◌, ℕ, ◌<◌, ◌==◌, if◌then◌else◌, List, [], length, slice_index_or, Option, Some, None}
+use Rattle.std.specs.Prelude.{◌≡◌, ℕ, ◌<◌, ◌==◌, if◌then◌else◌, List, [], length, replicate, slice_index_or, Option, Some, None}
 use Rattle.std.specs.List.{filter_map}
 use Rattle.lynx_set.specs.Set.{Set}
 use Rattle.lynx_entry.specs.declared.entry.Entry.{Entry}
@@ -8,11 +8,15 @@ use Rattle.lynx_entry.specs.Entry.{History}
 use Rattle.lynx_server.specs.Messages.{next_message}
 use Rattle.lynx_world.specs.declared.placed.Placed.{Placed}
 
--- A set, the entries of all its servers in one list, and what each server holds; one past the end holds nothing.
+-- A set, the entries of all its servers in one list, and what each server holds: one list of messages for each.
 pub record WorldState : Type 0 where
   pub set : Set
   pub list : List Placed
   pub held : List (List Message)
+
+-- a world in which nothing happened yet
+abbrev pub new_world : Set → WorldState
+new_world set = record { set = set; list = []; held = replicate set.servers [] }
 
 -- the entry, if it is of that server
 abbrev pub entry_at : ℕ → Placed → Option Entry

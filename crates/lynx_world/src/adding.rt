@@ -6,14 +6,6 @@ use lynx_entry::Entry;
 use lynx_names::{Items, Memory, ServerId, TryCopy};
 use std::alloc::Global;
 
-/// The entry as one of that server in the one list.
-fn placed(alloc: Global, server: ServerId, entry: &Entry) -> Result<Placed, Memory>
-    ensures { IfOk result (λ placed. placed ≡ record { server = server; entry = entry.now }) }
-{
-    let entry = entry.copy(alloc)?;
-    Ok(Placed { server, entry })
-}
-
 /// Adds the entry at the end of the server's history. An error leaves all as it was.
 fn add_to_history(
     histories: &mut Vec<Items<Entry>>,
@@ -21,7 +13,8 @@ fn add_to_history(
     entry: Entry,
 ) -> Result<(), Memory>
     requires { server < length histories.old.items }
-    ensures ok { OnOk result (histories.new.items ≡ slice_set histories.old.items server (slice_index_or histories.old.items server [] ++ entry ∷ [])) }
+    ensures ok { OnOk result (histories.new.items ≡ slice_set histories.old.items server
+        (slice_index_or histories.old.items server [] ++ entry ∷ [])) }
     ensures err { OnErr result (histories.new.items ≡ histories.old.items) }
 {
     histories[server.index()].push(entry)
@@ -36,15 +29,16 @@ pub fn add_entry(
     entry: Entry,
 ) -> Result<(), Memory>
     requires { server < length histories.old.items }
-    ensures list { OnOk result (list.new.items ≡ list.old.items ++ record { server = server; entry = entry } ∷ []) }
-    ensures history { OnOk result (histories.new.items ≡ slice_set histories.old.items server (slice_index_or histories.old.items server [] ++ entry ∷ [])) }
+    ensures list { OnOk result (list.new.items ≡ list.old.items
+        ++ record { server = server; entry = entry } ∷ []) }
+    ensures history { OnOk result (histories.new.items ≡ slice_set histories.old.items server
+        (slice_index_or histories.old.items server [] ++ entry ∷ [])) }
     ensures same_list { OnErr result (list.new.items ≡ list.old.items) }
     ensures same_histories { OnErr result (histories.new.items ≡ histories.old.items) }
 {
-    let placed = placed(alloc, server, &entry)?;
     list.reserve(1)?;
-    add_to_history(histories, server, entry)?;
-    list.push_reserved(placed);
+    add_to_history(histories, server, entry.copy(alloc)?)?;
+    list.push_reserved(Placed { server, entry });
     Ok(())
 }
 

@@ -20,13 +20,15 @@ pub fn once_and_in_order()
 /// Two chains of one origin keep their order everywhere: at each server every hop of the one that began first stands
 /// before every hop of the other. Each `ChainSet` has at most 16 servers.
 pub fn origin_order()
-    ensures { (set : Set) (list : List Placed) → set.servers ≤ MAX_SERVERS → IsLegal set list → IsInOriginOrder list }
+    ensures { (set : Set) (list : List Placed) → set.servers ≤ MAX_SERVERS → IsLegal set list
+        → IsInOriginOrder list }
 {}
 
 /// A message that some entry of a legal list sends is never answered Malformed, whatever else its server holds, if
 /// that was sent too, and however much room it has to hold messages.
 pub fn sent_is_never_malformed()
-    ensures { (set : Set) (list : List Placed) (room : ℕ) (held : List Message) (message : Message) →
+    ensures { (set : Set) (list : List Placed) (room : ℕ) (held : List Message)
+        (message : Message) →
         IsSet set → IsLegal set list → IsSent set list message → All (IsSent set list) held →
         (delivery set (destination_of set message) room (history_of (destination_of set message) list) held message).delivered ≢ Malformed }
 {}

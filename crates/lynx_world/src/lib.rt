@@ -1,13 +1,12 @@
 //! A world: servers that run one set of chain programs, and all that they did, in one order.
 #![tactic(auto)]
 
-pub use event::{Event, Outcome};
+pub use lynx_entry::{Entry, Event, Outcome};
 pub use placed::Placed;
 pub use world::World;
 
 mod adding;
 mod cells;
-pub mod event;
 pub mod laws;
 pub mod placed;
 mod sending;

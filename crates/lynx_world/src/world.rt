@@ -2,16 +2,19 @@ ghost use Rattle.std.specs.Prelude.{◌≡◌, ◌⊎◌, ◌<◌, [], IfOk, IfS
 
 use crate::adding::{add_entry, empty_histories};
 use crate::cells::all_cells;
-use crate::event::{Event, Outcome};
 use crate::placed::Placed;
 use crate::sending::sent_message;
-use lynx_entry::{Entry, Message, Request};
+use lynx_entry::{Entry, Event, Message, Outcome, Request};
 use lynx_names::{ChainId, Items, Memory, ServerId, Stamp, TableId};
 use lynx_server::answers::answer;
 use lynx_server::deliveries::deliver;
 use lynx_set::ChainSet;
 use std::alloc::Global;
 use std::marker::Model;
+
+/// How many messages a server holds whose turn it is not: none so far, so each of them is dropped and may be
+/// delivered again.
+pub const HELD_ROOM: usize = 0;
 
 /// Servers that run one set of chain programs, seen as the one list of all that they did. Nothing is held: a
 /// message whose turn it is not is dropped, and may be delivered again. A step goes over the whole list.
@@ -23,27 +26,31 @@ pub struct World {
 }
 
 impl Model for World {
-    ghost use Rattle.std.specs.Prelude.{[]};
+    ghost use Rattle.std.specs.Prelude.{[], replicate};
     ghost use Rattle.lynx_world.specs.Worlds.{WorldState};
     ghost use Rattle.lynx_world.specs.Legal.{IsKept};
 
     ghost Value = { WorldState };
 
-    ghost view = { λ world. record { set = world.set; list = world.list.items; held = [] } };
+    ghost view = { λ world. record {
+      set = world.set;
+      list = world.list.items;
+      held = replicate world.set.servers [];
+    } };
 
     ghost invariant = { λ world. IsKept world.set world.histories.items world.list.items };
 }
 
 impl World {
     ghost use Rattle.std.specs.List.Sorted.{IsPermutation, IsSorted};
-    ghost use Rattle.lynx_world.specs.Worlds.{history_of};
+    ghost use Rattle.lynx_world.specs.Worlds.{history_of, new_world};
     ghost use Rattle.lynx_world.specs.Legal.{IsLegal, MayFollow};
     ghost use Rattle.lynx_world.specs.Tables.{cells_of, triple_cmp};
-    ghost use Rattle.lynx_world.specs.Steps.{step, with_entry, is_server, sent_message, destination_of};
+    ghost use Rattle.lynx_world.specs.Steps.{HasGrown, step, with_entry, is_server, sent_message, destination_of};
 
     /// A world in which nothing happened yet.
     pub fn new(alloc: Global, set: ChainSet) -> Result<World, Memory>
-        ensures { IfOk result (λ world. world ≡ record { set = set; list = []; held = [] }) }
+        ensures { IfOk result (λ world. world ≡ new_world set) }
     {
         let histories = empty_histories(alloc, set.servers())?;
         Ok(World {
@@ -70,8 +77,10 @@ impl World {
     /// Adds the entry at the end, if there is one.
     fn add(&mut self, alloc: Global, server: ServerId, added: Option<Entry>) -> Result<(), Memory>
         requires there { server < self.old.set.servers }
-        requires may_follow { IfSome added (λ entry. MayFollow self.old.set self.old.list (record { server = server; entry = entry })) }
-        ensures ok { OnOk result (self.new ≡ record self.old { list = with_entry server added self.old.list }) }
+        requires may_follow { IfSome added (λ entry. MayFollow self.old.set self.old.list
+            (record { server = server; entry = entry })) }
+        ensures ok { OnOk result (self.new
+            ≡ record self.old { list = with_entry server added self.old.list }) }
         ensures err { OnErr result (self.new ≡ self.old) }
     {
         let Some(entry) = added else {
@@ -93,17 +102,14 @@ impl World {
     fn has_server(&self, server: ServerId) -> bool
         ensures { result ≡ is_server self.now server }
     {
-        server.number() < self.set.servers()
+        self.set.has_server(server)
     }
 
     /// The server that the message is for.
     fn destination_of(&self, message: &Message) -> ServerId
         ensures { result ≡ destination_of self.now.set message.now }
     {
-        let Some(program) = self.set.program(message.program) else {
-            return ServerId::first();
-        };
-        match program.hops.as_slice().get(usize::from(message.hop)) {
+        match self.set.hop(message.program, usize::from(message.hop)) {
             Some(hop) => hop.server,
             None => ServerId::first(),
         }
@@ -116,7 +122,8 @@ impl World {
         request: &Request,
         seen: Stamp,
     ) -> Result<Outcome, Memory>
-        ensures ok { IfOk result (λ outcome. record { outcome = outcome; world = self.new } ≡ step 0 self.old (Event.Begin server request.now seen)) }
+        ensures ok { IfOk result (λ outcome. record { outcome = outcome; world = self.new }
+            ≡ step HELD_ROOM self.old (Event.Begin server request.now seen)) }
         ensures err { OnErr result (self.new ≡ self.old) }
     {
         if !self.has_server(server) {
@@ -136,7 +143,8 @@ impl World {
     }
 
     fn deliver(&mut self, alloc: Global, chain: ChainId, hop: u8) -> Result<Outcome, Memory>
-        ensures ok { IfOk result (λ outcome. record { outcome = outcome; world = self.new } ≡ step 0 self.old (Event.Deliver chain hop)) }
+        ensures ok { IfOk result (λ outcome. record { outcome = outcome; world = self.new }
+            ≡ step HELD_ROOM self.old (Event.Deliver chain hop)) }
         ensures err { OnErr result (self.new ≡ self.old) }
     {
         let world = &*self;
@@ -158,7 +166,8 @@ impl World {
 
     /// Says whether the message was sent; it changes nothing.
     fn lose(&self, alloc: Global, chain: ChainId, hop: u8) -> Result<Outcome, Memory>
-        ensures { IfOk result (λ outcome. record { outcome = outcome; world = self.now } ≡ step 0 self.now (Event.Lost chain hop)) }
+        ensures { IfOk result (λ outcome. record { outcome = outcome; world = self.now }
+            ≡ step HELD_ROOM self.now (Event.Lost chain hop)) }
     {
         match sent_message(alloc, &self.set, &self.list, &chain, hop)? {
             Some(_) => Ok(Outcome::LostNow { chain, hop }),
@@ -168,9 +177,10 @@ impl World {
 
     /// Nothing is held, so nothing wakes.
     fn wake(&self, server: ServerId) -> Outcome
-        ensures { record { outcome = result; world = self.now } ≡ step 0 self.now (Event.Wake server) }
+        ensures { record { outcome = result; world = self.now }
+            ≡ step HELD_ROOM self.now (Event.Wake server) }
     {
-        if server.number() < self.set.servers() {
+        if self.set.has_server(server) {
             Outcome::Idle { server }
         } else {
             Outcome::NoServer
@@ -179,9 +189,10 @@ impl World {
 
     /// What a server did is kept, and nothing is held that could be gone.
     fn restart(&self, server: ServerId) -> Outcome
-        ensures { record { outcome = result; world = self.now } ≡ step 0 self.now (Event.Restart server) }
+        ensures { record { outcome = result; world = self.now }
+            ≡ step HELD_ROOM self.now (Event.Restart server) }
     {
-        if server.number() < self.set.servers() {
+        if self.set.has_server(server) {
             Outcome::Restarted { server }
         } else {
             Outcome::NoServer
@@ -190,7 +201,8 @@ impl World {
 
     /// One event, or want of memory, which changes nothing.
     fn try_apply(&mut self, alloc: Global, event: Event) -> Result<Outcome, Memory>
-        ensures ok { IfOk result (λ outcome. record { outcome = outcome; world = self.new } ≡ step 0 self.old event) }
+        ensures ok { IfOk result (λ outcome. record { outcome = outcome; world = self.new }
+            ≡ step HELD_ROOM self.old event) }
         ensures err { OnErr result (self.new ≡ self.old) }
     {
         match event {
@@ -209,8 +221,10 @@ impl World {
     /// One event. Its cost is that of going over the whole list, and of running all its hops again. Want of
     /// memory is an outcome of its own, and changes nothing.
     pub fn apply(&mut self, alloc: Global, event: Event) -> Outcome
-        ensures { ((result ≡ Outcome.Memory) × (self.new ≡ self.old))
-            ⊎ (record { outcome = result; world = self.new } ≡ step 0 self.old event) }
+        ensures step { ((result ≡ Outcome.Memory) × (self.new ≡ self.old))
+            ⊎ (record { outcome = result; world = self.new } ≡ step HELD_ROOM self.old event) }
+        ensures set { self.new.set ≡ self.old.set }
+        ensures list { HasGrown self.old.list self.new.list }
     {
         match self.try_apply(alloc, event) {
             Ok(outcome) => outcome,

@@ -1,6 +1,6 @@
 use Rattle.std.proofs.Common.{◌++◌, ◌∷◌, [], ap, ◌∙◌}
 use Rattle.lynx_server.specs.Turns.{numbered}
-use Rattle.lynx_server.specs.Ranges.{map_take_push}
+use Rattle.lynx_server.proofs.Ranges.{map_take_push}
 use Rattle.lynx_server.proofs.answers.numbers_for.Goals as goal
 
 pub loop-server-preserved : goal.loop-server-preserved

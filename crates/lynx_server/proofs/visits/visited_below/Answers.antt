@@ -1,5 +1,5 @@
 use Rattle.std.proofs.Common.{ℕ, Vec, Global, sym, ◌∙◌, ap}
-use Rattle.lynx_server.specs.Ranges.{one_in, one_out}
+use Rattle.lynx_server.proofs.Ranges.{one_in, one_out}
 use Rattle.lynx_server.proofs.visits.visited_below.Goals as goal
 use Rattle.lynx_server.proofs.visits.visited_below.Goals.{then-visits+in_ok-push, else-visits}
 

@@ -2,7 +2,7 @@ use Rattle.std.proofs.Common.{◌≡◌, Option, IfSome, ap, sym, subst, arith}
 use Rattle.lynx_entry.specs.declared.entry.Entry.{Entry}
 use Rattle.lynx_world.specs.Worlds.{WorldState}
 use Rattle.lynx_world.specs.Legal.{MayFollow}
-use Rattle.lynx_world.specs.LegalSteps.{legal-push}
+use Rattle.lynx_world.proofs.LegalSteps.{legal-push}
 use Rattle.lynx_world.proofs.Histories.{histories_after}
 use Rattle.lynx_world.proofs.world.World.add.Goals as goal
 

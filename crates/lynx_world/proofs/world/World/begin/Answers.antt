@@ -2,7 +2,7 @@ use Rattle.std.proofs.Common.{◌≡◌, ap, subst}
 use Rattle.std.proofs.lemmas.Bool.{ltb-true}
 use Rattle.lynx_world.specs.Worlds.{WorldState}
 use Rattle.lynx_world.specs.Legal.{IsLegal}
-use Rattle.lynx_world.specs.LegalSteps.{begun-may_follow}
+use Rattle.lynx_world.proofs.LegalSteps.{begun-may_follow}
 use Rattle.lynx_world.proofs.world.World.begin.Goals as goal
 
 pub add-requires-clause-may_follow : goal.add-requires-clause-may_follow

@@ -6,7 +6,7 @@ use Rattle.lynx_names.specs.declared.limits.TheConstants.{MAX_ENTRIES, STAMP_LIM
 use Rattle.lynx_set.specs.declared.program.Hop.{Hop}
 use Rattle.lynx_set.specs.declared.program.Program.{Program}
 use Rattle.lynx_set.specs.Set.{Set}
-use Rattle.lynx_hops.specs.Meaning.{Outcome, meaning, program_at}
+use Rattle.lynx_hops.specs.Meaning.{HopOutcome, meaning}
 use Rattle.lynx_entry.specs.declared.answer.Answer.{Answer}
 use Rattle.lynx_entry.specs.declared.entry.Entry.{Entry}
 use Rattle.lynx_entry.specs.declared.entry.Entry.TheVariants.{Begun, Refused, Hop as HopRan}
@@ -14,13 +14,14 @@ use Rattle.lynx_entry.specs.declared.request.Request.{Request}
 use Rattle.lynx_entry.specs.declared.message.Message.{Message}
 use Rattle.lynx_entry.specs.Entry.{History}
 use Rattle.lynx_server.specs.declared.answers.Begins.{Begins}
-use Rattle.lynx_server.specs.Visits.{hops_of, starts_at, is_origin, visits}
+use Rattle.lynx_server.specs.Visits.{starts_at, is_origin, visits}
 use Rattle.lynx_server.specs.Turns.{is_begun, begun_count, begins_visiting, number_for, turn_of}
 use Rattle.lynx_server.specs.Tables.{tables_of, clock_of}
 use Rattle.lynx_server.specs.Checks.{request_fault, request_fault_in, is_well_formed}
 use Rattle.lynx_server.specs.Lawful.{HasRoom, MayBegin, IsLawful, Runs, Starts, record_of, hop_entry_of, number_at}
 use Rattle.lynx_server.specs.Answers.{is_full, is_busy, begun_by, answer_new, answer_recorded, answer}
 use Rattle.lynx_server.specs.Deliveries.{Delivers, delivery, deliver_new, deliver_by_turn, done_by, early, same_hop, same_message}
+use Rattle.lynx_set.specs.Lookups.{hops_of, program_at}
 
 -- a test that must not answer
 passes : (b : Bool) (fault : Answer) (rest : Option Answer) → IsNone (cond (not b) (Some fault) rest) → b ≡ true
@@ -59,7 +60,7 @@ room_left history told left =
     record { entries = ltb-true _ _ tests.0; stamps = ltb-true _ _ tests.1 }
 
 -- a new begin adds a lawful entry
-begun_by-lawful : (set : Set) (server : ℕ) (history : History) (request : Request) (seen : ℕ) (outcome : Outcome) →
+begun_by-lawful : (set : Set) (server : ℕ) (history : History) (request : Request) (seen : ℕ) (outcome : HopOutcome) →
     meaning set request.program 0 request.args [] (tables_of set history) ≡ outcome →
     HasRoom history seen → MayBegin set server history request →
     IfSome (begun_by set server history request seen outcome).added (Starts set server history)
@@ -119,7 +120,7 @@ pub answer-lawful : (set : Set) (server : ℕ) (history : History) (request : Re
 answer-lawful set server history request seen counted = answer_recorded-lawful set server history request seen _ refl counted
 
 -- the hop of that message came out so
-done_by-lawful : (set : Set) (server : ℕ) (history : History) (held : List Message) (message : Message) (outcome : Outcome) →
+done_by-lawful : (set : Set) (server : ℕ) (history : History) (held : List Message) (message : Message) (outcome : HopOutcome) →
     meaning set message.program message.hop message.args message.results (tables_of set history) ≡ outcome →
     HasRoom history message.stamp → IsTrue (is_well_formed set server history message) →
     IsNone (hop_entry_of message.chain message.hop history) →

@@ -15,7 +15,7 @@ use Rattle.lynx_server.specs.declared.answers.Begins.{Begins}
 use Rattle.lynx_server.specs.Answers.{answer}
 use Rattle.lynx_server.specs.Deliveries.{delivery}
 use Rattle.lynx_server.specs.Lawful.{Starts, Runs, message_of}
-use Rattle.lynx_server.specs.Steps.{begins_visiting-lawful, answer-lawful, delivery-lawful}
+use Rattle.lynx_server.proofs.Steps.{begins_visiting-lawful, answer-lawful, delivery-lawful}
 use Rattle.lynx_world.specs.declared.placed.Placed.{Placed}
 use Rattle.lynx_world.specs.Worlds.{history_of, messages_of}
 use Rattle.lynx_world.specs.Steps.{is_message_of, sent_message}

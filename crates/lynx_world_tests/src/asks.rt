@@ -1,0 +1,13 @@
+//! How tests ask.
+use lynx_names::Memory;
+use std::process::Abort;
+
+/// Ends the test unless it is so.
+pub fn holds(rt: &impl Abort, answer: Result<bool, Memory>) {
+    assert!(rt; answer == Ok(true));
+}
+
+/// Ends the test unless it is so of what has that name.
+pub fn holds_of(rt: &impl Abort, answer: Result<bool, Memory>, name: &str) {
+    assert!(rt; answer == Ok(true), "{name}");
+}

@@ -1,0 +1,14 @@
+pub mod Lists
+pub mod Reorder
+pub mod Keys
+pub mod Dones
+pub mod OneDatabase
+pub mod ChainForm
+pub mod Serial
+pub mod Places
+pub mod Explains
+pub mod Circle
+pub mod Tables
+pub mod Marks
+pub mod Found
+pub mod Judged

@@ -1,0 +1,40 @@
+-- Lists that loops build, one item on.
+use Rattle.std.proofs.Common.{◌≡◌, ℕ, zero, suc, ◌+◌, ◌<◌, List, [], ◌∷◌, ◌++◌, map, take, length, get_or, Option, Some, None, refl, ap, ◌∙◌, add-one, arith}
+use Rattle.std.specs.List.{cons_option, range_with_len}
+use Rattle.std.proofs.lemmas.List.{map_push}
+use Rattle.lynx_names.specs.declared.chain.ChainId.{ChainId}
+use Rattle.lynx_set.specs.Set.{Set}
+use Rattle.lynx_server.proofs.Ranges.{range_more}
+use Rattle.lynx_world.specs.declared.placed.Placed.{Placed}
+use Rattle.lynx_order.specs.declared.touching.Touching.{Touching}
+use Rattle.lynx_order.specs.Precedence.{touches_in}
+use Rattle.lynx_order.specs.Touchings.{touching, touchings_from, touchings_of}
+
+pub map_range_more : {X : Type 0} (f : ℕ → X) (n : ℕ) → map f (range_with_len 0 (n + 1)) ≡ map f (range_with_len 0 n) ++ f n ∷ []
+map_range_more f n =
+    ap (λ m. map f (range_with_len 0 m)) (add-one n) ∙ ap (map f) (range_more 0 n) ∙ map_push f (range_with_len 0 n) (0 + n)
+    ∙ ap (λ m. map f (range_with_len 0 n) ++ f m ∷ []) (omega arith)
+
+from_more : (set : Set) (chain : ChainId) (from : ℕ) (list : List Placed) (i : ℕ) (d : Placed) → i < length list →
+    touchings_from set chain from (take (suc i) list)
+    ≡ touchings_from set chain from (take i list) ++ cons_option (touching (from + i) (touches_in set chain (get_or list i d).entry)) []
+from_more set chain from [] i d within = absurd (omega arith)
+from_more set chain from (placed ∷ list) zero d within =
+    ap (λ n. cons_option (touching n (touches_in set chain placed.entry)) []) (omega arith)
+from_more set chain from (placed ∷ list) (suc i) d within =
+    ap (cons_option (touching from (touches_in set chain placed.entry))) (from_more set chain (from + 1) list i d (omega arith)
+    ∙ ap (λ n. touchings_from set chain (from + 1) (take i list) ++ cons_option (touching n (touches_in set chain (get_or list i d).entry)) []) (omega arith))
+    ∙ by (touching from (touches_in set chain placed.entry)) (touchings_from set chain (from + 1) (take i list))
+    (cons_option (touching (from + suc i) (touches_in set chain (get_or list i d).entry)) [])
+  where
+    by : (o : Option Touching) (xs ys : List Touching) → cons_option o (xs ++ ys) ≡ cons_option o xs ++ ys
+    by None xs ys = refl
+    by (Some t) xs ys = refl
+
+-- the touching hops with one more entry
+pub touchings_more : (set : Set) (chain : ChainId) (list : List Placed) (i : ℕ) (d : Placed) → i < length list →
+    touchings_of set (take (i + 1) list) chain
+    ≡ touchings_of set (take i list) chain ++ cons_option (touching i (touches_in set chain (get_or list i d).entry)) []
+touchings_more set chain list i d within =
+    ap (λ n. touchings_of set (take n list) chain) (add-one i) ∙ from_more set chain 0 list i d within
+    ∙ ap (λ n. touchings_of set (take i list) chain ++ cons_option (touching n (touches_in set chain (get_or list i d).entry)) []) (omega arith)

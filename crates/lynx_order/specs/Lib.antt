@@ -1,0 +1,9 @@
+pub mod Lists
+pub mod Runs
+pub mod Precedence
+pub mod Explanations
+pub mod Begun
+pub mod Touchings
+pub mod Picks
+pub mod Explained
+pub mod ChainsAt

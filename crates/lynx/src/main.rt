@@ -3,12 +3,16 @@
 
 use clap::error::ErrorKind;
 use clap::{ArgMatches, Error};
-use lynx_command::{command, job_of};
+use lynx_command::{CommandFault, command, job_of};
 use lynx_jobs::{Fault, do_job};
 use lynx_run::RunFault;
 use std::env;
+use std::io::{self, IsTerminal};
 use std::process::ExitCode;
 use std::rt::{Env, Files};
+
+/// The status of faulty words.
+const BAD_WORDS: u8 = 2;
 
 /// Prints the one line of a fault, and gives its status.
 fn report<R: Eprint>(rt: &R, fault: &Fault) -> u8 {
@@ -16,30 +20,49 @@ fn report<R: Eprint>(rt: &R, fault: &Fault) -> u8 {
     fault.status()
 }
 
-/// Help that was asked for goes to standard output, a fault of the words to standard error.
-fn explain<R: Print + Eprint>(rt: &R, error: &Error) -> u8 {
-    if error.kind() == ErrorKind::OutOfMemory {
+/// Prints what the parser says: help that was asked for on standard output, a fault on standard error. Faulty
+/// words have their status also where standard error takes nothing.
+fn print_help<R: Print + Eprint>(rt: &R, said: &Error) -> u8 {
+    if said.kind() == ErrorKind::OutOfMemory {
         return report(rt, &Fault::Run(RunFault::Memory));
     }
-    match error.print(rt) {
-        Ok(()) => error.exit_code() as u8,
-        Err(_) => report(rt, &Fault::Run(RunFault::Write)),
+    let printed = said.print(rt).is_ok();
+    if said.use_stderr() {
+        BAD_WORDS
+    } else if printed {
+        0
+    } else {
+        report(rt, &Fault::Run(RunFault::Write))
     }
 }
 
 /// The words of the command line, the program's name first.
-fn words_of<R: Env + AllocGlobal>(rt: &R) -> Result<Vec<String>, RunFault> {
-    match env::args(rt) {
-        Ok(args) => Ok(args.collect(rt.alloc())?),
-        Err(_) => Err(RunFault::Memory),
+fn command_line<'a, R: Env + AllocGlobal>(rt: &R) -> Result<Vec<String>, Fault<'a>> {
+    let args = match env::args(rt) {
+        Ok(args) => args,
+        Err(error) if error.kind() == io::ErrorKind::OutOfMemory => {
+            return Err(Fault::Run(RunFault::Memory));
+        }
+        Err(_) => return Err(Fault::Command(CommandFault::NotUtf8)),
+    };
+    match args.collect(rt.alloc()) {
+        Ok(words) => Ok(words),
+        Err(_) => Err(Fault::Run(RunFault::Memory)),
     }
+}
+
+/// Says what the program waits for: a person who gave no words may not know.
+fn prompt<R: Eprint>(rt: &R) {
+    let _ = eprintln!(rt;
+        "lynx: reading a set text, a line -- and a script (lynx --help tells more)"
+    );
 }
 
 /// Does what the matched words ask for, and gives the status.
 fn do_matches<R: Input + Files + Print + Eprint + AllocGlobal>(rt: &R, matches: &ArgMatches) -> u8 {
     let done = match job_of(matches) {
         Ok(job) => do_job(rt, job),
-        Err(fault) => Err(Fault::Words(fault)),
+        Err(fault) => Err(Fault::Command(fault)),
     };
     match done {
         Ok(status) => status,
@@ -48,27 +71,25 @@ fn do_matches<R: Input + Files + Print + Eprint + AllocGlobal>(rt: &R, matches: 
 }
 
 /// Does what the words ask for, and gives the status.
-fn obey<R: Input + Files + Print + Eprint + AllocGlobal>(
-    rt: &R,
-    words: &[String],
-) -> Result<u8, RunFault> {
-    match command(rt.alloc())?.try_get_matches_from(words) {
-        Ok(matches) => Ok(do_matches(rt, &matches)),
-        Err(error) => Ok(explain(rt, &error)),
+fn obey<R: Input + Files + Print + Eprint + AllocGlobal>(rt: &R, words: &[String]) -> u8 {
+    let Ok(command) = command(rt.alloc()) else {
+        return report(rt, &Fault::Run(RunFault::Memory));
+    };
+    match command.try_get_matches_from(words) {
+        Ok(matches) => do_matches(rt, &matches),
+        Err(said) => print_help(rt, &said),
     }
-}
-
-/// Reads the words, does what they ask for, and gives the status.
-fn status_of<R: Env + Input + Files + Print + Eprint + AllocGlobal>(
-    rt: &R,
-) -> Result<u8, RunFault> {
-    let words = words_of(rt)?;
-    obey(rt, words.as_slice())
 }
 
 fn main(rt: HostRuntime) -> ExitCode {
-    match status_of(&rt) {
-        Ok(status) => ExitCode::from(status),
-        Err(fault) => ExitCode::from(report(&rt, &Fault::Run(fault))),
-    }
+    let status = match command_line(&rt) {
+        Ok(words) => {
+            if words.len() < 2 && rt.stdin().is_terminal() {
+                prompt(&rt);
+            }
+            obey(&rt, words.as_slice())
+        }
+        Err(fault) => report(&rt, &fault),
+    };
+    ExitCode::from(status)
 }

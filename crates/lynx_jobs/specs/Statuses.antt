@@ -1,15 +1,34 @@
--- The exit statuses of faults.
-use Rattle.std.specs.Prelude.{ℕ}
+-- The exit statuses.
+use Rattle.std.specs.Prelude.{ℕ, Bool, false, Result, Ok, Err}
 use Rattle.lynx_jobs.specs.declared.fault.Fault.{Fault}
-use Rattle.lynx_jobs.specs.declared.fault.Fault.TheVariants.{Words, NoSeparator, Unread, Run}
+use Rattle.lynx_jobs.specs.declared.fault.Fault.TheVariants.{Command, NoSeparator, Unread, Run}
 use Rattle.lynx_run.specs.declared.run.RunFault.TheVariants.{Set as SetFault, Script as ScriptFault, Write, Memory}
+use Rattle.lynx_run.specs.declared.run.Ending.{Ending}
+use Rattle.lynx_run.specs.declared.run.Ending.TheVariants.{Ordered, Cyclic}
+use Rattle.lynx_run.specs.declared.verdict.Finding.{Finding}
+use Rattle.lynx_run.specs.declared.verdict.Finding.TheVariants.{Accepted, Offending}
 
 -- 2: the words or a text. 3: want of memory. 4: what can't be read or written
 abbrev pub status_of : Fault → ℕ
-status_of (Words fault) = 2
+status_of (Command fault) = 2
 status_of NoSeparator = 2
 status_of (Unread name) = 4
 status_of (Run (SetFault fault)) = 2
 status_of (Run (ScriptFault fault)) = 2
 status_of (Run Write) = 4
 status_of (Run Memory) = 3
+
+-- of a check: 0 where the set is accepted, 1 where it offends
+abbrev pub status_of_finding : Finding → ℕ
+status_of_finding Accepted = 0
+status_of_finding Offending = 1
+
+-- of a run: 0 where an order explains it, 1 where it ends with a cycle
+abbrev pub status_of_ending : Ending → ℕ
+status_of_ending Ordered = 0
+status_of_ending Cyclic = 1
+
+-- what a job ends with, after its output was written to its end, or could not be
+abbrev pub finished_as : Result ℕ Fault → Bool → Result ℕ Fault
+finished_as (Ok status) false = Err (Run Write)
+finished_as done flushed = done

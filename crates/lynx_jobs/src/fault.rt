@@ -2,9 +2,10 @@
 ghost use Rattle.std.specs.Prelude.{◌≡◌};
 ghost use Rattle.lynx_jobs.specs.Statuses.{status_of};
 
-use crate::job::WordsFault;
+use crate::shown::Shown;
+use lynx_command::CommandFault;
+use lynx_input::InputFault;
 use lynx_run::RunFault;
-use lynx_script::InputFault;
 use thiserror::Error;
 
 /// Why the program did not end with status 0 or 1.
@@ -12,13 +13,13 @@ use thiserror::Error;
 pub enum Fault<'a> {
     /// The words ask for nothing that there is.
     #[error("{0}")]
-    Words(WordsFault),
+    Command(CommandFault),
     /// No line of the input is `--`.
     #[error("no line -- found")]
     NoSeparator,
     /// A file that can't be read, or `-` for standard input.
     #[error("cannot read {0}")]
-    Unread(&'a str),
+    Unread(Shown<'a>),
     #[error("{0}")]
     Run(RunFault),
 }
@@ -26,11 +27,12 @@ pub enum Fault<'a> {
 impl<'a> Fault<'a> {
     /// The fault of reading this file.
     pub fn of_reading(name: &'a str, fault: InputFault) -> Fault<'a>
-        ensures read { fault ≡ InputFault.Read → result ≡ Fault.Unread name.entry }
+        ensures read { fault ≡ InputFault.Read → result ≡ Fault.Unread
+            (record { name = name.entry }) }
         ensures memory { fault ≡ InputFault.Memory → result ≡ Fault.Run RunFault.Memory }
     {
         match fault {
-            InputFault::Read => Fault::Unread(name),
+            InputFault::Read => Fault::Unread(Shown { name }),
             InputFault::Memory => Fault::Run(RunFault::Memory),
         }
     }
@@ -40,7 +42,7 @@ impl<'a> Fault<'a> {
         ensures { result ≡ status_of self.now }
     {
         match self {
-            Fault::Words(_) | Fault::NoSeparator => 2,
+            Fault::Command(_) | Fault::NoSeparator => 2,
             Fault::Run(RunFault::Set(_) | RunFault::Script(_)) => 2,
             Fault::Run(RunFault::Memory) => 3,
             Fault::Unread(_) | Fault::Run(RunFault::Write) => 4,

@@ -1,94 +1,77 @@
-//! The jobs of the program: files and standard input are read whole, and then judged and run.
-ghost use Rattle.std.specs.Prelude.{◌≤◌, IfOk};
+//! The jobs of the program: files and standard input are opened, and standard output is written.
+ghost use Rattle.std.specs.Prelude.{◌≡◌, Ok, Err};
+ghost use Rattle.lynx_jobs.specs.Statuses.{finished_as};
 
 use crate::fault::Fault;
-use crate::job::Job;
-use lynx_run::{Finding, RunFault, check_text, run_texts};
-use lynx_script::{InputFault, MAX_FILE_BYTES, MAX_INPUT_BYTES, read_all, split_input};
+use crate::texts::{check_source, read_text, run_input, run_sources};
+use lynx_command::{INPUT, Job};
+use lynx_input::InputFault;
+use lynx_run::RunFault;
+use std::io::{BufWriter, Write};
 use std::rt::Files;
 use std::{fs, io};
 
-/// The status of an accepted set, and of a run that came to its end.
-const DONE: u8 = 0;
-
-/// The status of an offending set.
-const OFFENDING: u8 = 1;
-
-/// Does what the words ask for, and gives the status. Files are read in the order of the words.
+/// Does what the words ask for, and gives the status. Files are read in the order of the words. Output is
+/// written as it fills a buffer, and at the end, also where a fault stops the job.
 pub fn do_job<'a, R: Input + Files + Print + AllocGlobal>(
     rt: &R,
     job: Job<'a>,
-) -> Result<u8, Fault<'a>>
-    ensures { IfOk result (λ status. status ≤ 1) }
-{
-    match job {
-        Job::Check { set } => check_file(rt, set),
-        Job::Run { set, script } => run_files(rt, set, script),
-        Job::RunInput => run_input(rt),
-    }
+) -> Result<u8, Fault<'a>> {
+    let Ok(mut writer) = BufWriter::new(rt.alloc(), io::writer(rt)) else {
+        return Err(Fault::Run(RunFault::Memory));
+    };
+    let done = match job {
+        Job::Check { set } => check_file(rt, set, &mut writer),
+        Job::Run { set, script } => run_files(rt, set, script, &mut writer),
+        Job::RunInput => run_input(rt.alloc(), INPUT, &mut rt.reader(), &mut writer),
+    };
+    let flushed = writer.flush().is_ok();
+    finished(done, flushed)
 }
 
-/// Reads a file to its end, or as far as the limit.
-fn read_file<'a, R: Files + AllocGlobal>(rt: &R, path: &'a str) -> Result<Vec<u8>, Fault<'a>> {
-    let Ok(mut file) = fs::open(rt, path) else {
-        return Err(Fault::of_reading(path, InputFault::Read));
-    };
-    match read_all(rt.alloc(), &mut file, MAX_FILE_BYTES) {
-        Ok(text) => Ok(text),
-        Err(fault) => Err(Fault::of_reading(path, fault)),
+/// What a job ends with, whose output was written to its end or not. An earlier fault is the one that is told.
+fn finished<'a>(done: Result<u8, Fault<'a>>, flushed: bool) -> Result<u8, Fault<'a>>
+    ensures { result ≡ finished_as done.entry flushed }
+{
+    match done {
+        Ok(_) if !flushed => Err(Fault::Run(RunFault::Write)),
+        done => done,
     }
 }
 
 /// Judges the set of a file.
-fn check_file<'a, R: Files + Print + AllocGlobal>(rt: &R, set: &'a str) -> Result<u8, Fault<'a>>
-    ensures { IfOk result (λ status. status ≤ 1) }
-{
-    let set = read_file(rt, set)?;
-    let mut writer = io::writer(rt);
-    match check_text(rt.alloc(), set.as_slice(), &mut writer) {
-        Ok(Finding::Accepted) => Ok(DONE),
-        Ok(Finding::Offending) => Ok(OFFENDING),
-        Err(fault) => Err(Fault::Run(fault)),
-    }
+fn check_file<'a, R: Files + AllocGlobal, W: Write>(
+    rt: &R,
+    set: &'a str,
+    writer: &mut W,
+) -> Result<u8, Fault<'a>> {
+    let Ok(mut file) = fs::open(rt, set) else {
+        return Err(Fault::of_reading(set, InputFault::Read));
+    };
+    check_source(rt.alloc(), set, &mut file, writer)
 }
 
 /// Runs the script of a file over the set of another.
-fn run_files<'a, R: Files + Print + AllocGlobal>(
+fn run_files<'a, R: Files + AllocGlobal, W: Write>(
     rt: &R,
     set: &'a str,
     script: &'a str,
-) -> Result<u8, Fault<'a>>
-    ensures { IfOk result (λ status. status ≤ 1) }
-{
-    let set = read_file(rt, set)?;
-    let script = read_file(rt, script)?;
-    let mut writer = io::writer(rt);
-    ended(run_texts(rt.alloc(), set.as_slice(), script.as_slice(), &mut writer))
-}
-
-/// Runs the script of standard input over the set that stands before it.
-fn run_input<'a, R: Input + Print + AllocGlobal>(rt: &R) -> Result<u8, Fault<'a>>
-    ensures { IfOk result (λ status. status ≤ 1) }
-{
-    let alloc = rt.alloc();
-    let mut reader = rt.reader();
-    let input = match read_all(alloc, &mut reader, MAX_INPUT_BYTES) {
-        Ok(input) => input,
-        Err(fault) => return Err(Fault::of_reading("-", fault)),
+    writer: &mut W,
+) -> Result<u8, Fault<'a>> {
+    let Ok(mut set_file) = fs::open(rt, set) else {
+        return Err(Fault::of_reading(set, InputFault::Read));
     };
-    let Some((set, script)) = split_input(input.as_slice()) else {
-        return Err(Fault::NoSeparator);
+    let Ok(mut script_file) = fs::open(rt, script) else {
+        // A set that can't be read is told before a script that can't.
+        read_text(rt.alloc(), set, &mut set_file)?;
+        return Err(Fault::of_reading(script, InputFault::Read));
     };
-    let mut writer = io::writer(rt);
-    ended(run_texts(alloc, set, script, &mut writer))
-}
-
-/// The status of a run.
-fn ended<'a>(run: Result<(), RunFault>) -> Result<u8, Fault<'a>>
-    ensures { IfOk result (λ status. status ≤ 1) }
-{
-    match run {
-        Ok(()) => Ok(DONE),
-        Err(fault) => Err(Fault::Run(fault)),
-    }
+    run_sources(
+        rt.alloc(),
+        set,
+        &mut set_file,
+        script,
+        &mut script_file,
+        writer,
+    )
 }

@@ -2,9 +2,10 @@
 #![tactic(auto)]
 
 pub use fault::Fault;
-pub use job::{Job, WordsFault};
 pub use jobs::do_job;
+pub use texts::{check_source, run_input, run_sources};
 
 pub mod fault;
-pub mod job;
 pub mod jobs;
+pub mod shown;
+pub mod texts;

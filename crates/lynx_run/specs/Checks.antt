@@ -1,5 +1,5 @@
 -- What the verdict on a set prints.
-use Rattle.std.specs.Prelude.{◌≡◌, ℕ, List, [], ◌∷◌, ◌++◌, codes, slice_get, unwrap_or, option_map, take, drop}
+use Rattle.std.specs.Prelude.{◌≡◌, ◌≢◌, ℕ, List, [], ◌∷◌, ◌++◌, codes, slice_get, unwrap_or, option_map, take, drop}
 use Rattle.std.specs.List.{flat_map, zip}
 use Rattle.std.specs.Fmt.{decimal}
 use Rattle.lynx_graph.specs.declared.visit.Visit.{Visit}
@@ -11,17 +11,15 @@ use Rattle.lynx_run.specs.declared.run.RunFault.{RunFault}
 use Rattle.lynx_run.specs.declared.run.RunFault.TheVariants.{Set as SetFault, Script as ScriptFault, Write, Memory}
 use Rattle.lynx_run.specs.declared.verdict.Finding.{Finding}
 use Rattle.lynx_run.specs.declared.verdict.Finding.TheVariants.{Accepted, Offending}
-use Rattle.lynx_print.specs.Printed.{line}
+use Rattle.lynx_words.specs.declared.fault.FaultKind.TheVariants.{Memory as NoMemory}
+use Rattle.lynx_words.specs.Lines.{with_feed}
 use Rattle.lynx_run.specs.Runs.{IsNoSet}
-
--- the name of a program of the set
-abbrev pub program_name : Set → ℕ → List ℕ
-program_name chains program = unwrap_or (option_map (λ named. named.0) (slice_get chains.programs program)) []
+use Rattle.lynx_set.specs.Lookups.{program_name}
 
 -- the line of the conflict edge from one visit to the next: the hop left, and the hop entered
 abbrev pub edge_line : Set → Visit × Visit → List ℕ
 edge_line chains edge =
-    line (codes "conflict " ++ program_name chains edge.0.program ++ 32 ∷ decimal edge.0.left ++ 32 ∷ program_name chains edge.1.program ++ 32 ∷ decimal edge.1.entered)
+    with_feed (codes "conflict " ++ program_name chains edge.0.program ++ 32 ∷ decimal edge.0.left ++ 32 ∷ program_name chains edge.1.program ++ 32 ∷ decimal edge.1.entered)
 
 -- each visit with the next, and the last with the first
 abbrev pub edges : List Visit → List (Visit × Visit)
@@ -33,9 +31,9 @@ edge_lines chains walk = flat_map (edge_line chains) (edges walk)
 
 -- accepted: no closed walk offends, of whatever length. Offending: the lines are those of a walk that offends
 abbrev pub IsVerdict : Set → Finding → List ℕ → Type 0
-IsVerdict chains Accepted printed = IsAccepted chains × (printed ≡ line (codes "accepted"))
+IsVerdict chains Accepted printed = IsAccepted chains × (printed ≡ with_feed (codes "accepted"))
 IsVerdict chains Offending printed =
-    (walk : List Visit) × IsOffending chains walk × (printed ≡ line (codes "offending") ++ edge_lines chains walk)
+    (walk : List Visit) × IsOffending chains walk × (printed ≡ with_feed (codes "offending") ++ edge_lines chains walk)
 
 -- what is found of a set text, and printed
 pub record Finds (text : List ℕ) (finding : Finding) (printed : List ℕ) : Type 0 where
@@ -44,9 +42,9 @@ pub record Finds (text : List ℕ) (finding : Finding) (printed : List ℕ) : Ty
   pub spelled : text ≡ text_of chains
   pub verdict : IsVerdict chains finding printed
 
--- why no verdict comes, and that a faulty text is told before anything is written
+-- why no verdict comes, that a faulty text is told before anything is written, and that its fault is never want of memory
 abbrev pub NoVerdictFor : List ℕ → Type 0 → RunFault → Type 0
-NoVerdictFor set unwritten (SetFault fault) = IsNoSet set × unwritten
+NoVerdictFor set unwritten (SetFault fault) = IsNoSet set × unwritten × (fault.kind ≢ NoMemory)
 NoVerdictFor set unwritten (ScriptFault fault) = ⊥
 NoVerdictFor set unwritten Write = Unit {0}
 NoVerdictFor set unwritten Memory = Unit {0}

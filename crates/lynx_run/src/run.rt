@@ -1,17 +1,22 @@
 //! A run: a set text and a script in, lines out.
-ghost use Rattle.std.specs.Prelude.{◌≡◌, ◌⊎◌, ℕ, List, [], ◌++◌, OnOk, IfOk, IfErr, slice_get, unwrap_or};
+ghost use Rattle.std.specs.Prelude.{◌≡◌, ◌≢◌, ◌⊎◌, ℕ, List, [], ◌++◌, OnOk, IfOk, IfErr, slice_get, unwrap_or};
 ghost use Rattle.std.specs.List.Sorted.{IsPermutation, IsSorted};
 ghost use Rattle.lynx_world.specs.Tables.{cells_of, triple_cmp};
 ghost use Rattle.lynx_world.specs.Steps.{step};
-ghost use Rattle.lynx_print.specs.Printed.{line, outcome_text};
+ghost use Rattle.lynx_print.specs.Printed.{outcome_text};
+ghost use Rattle.lynx_words.specs.Lines.{with_feed};
 ghost use Rattle.lynx_set.specs.Rules.{IsSet};
 ghost use Rattle.lynx_set.specs.Text.{text_of};
-ghost use Rattle.lynx_run.specs.Runs.{new_world, world_after, outcome_lines, cell_lines, Prints, IsNoSet, IsNoScript, IsLate, StopsFor};
+ghost use Rattle.lynx_world.specs.declared.world.TheConstants.{HELD_ROOM};
+ghost use Rattle.lynx_world.specs.Worlds.{new_world};
+ghost use Rattle.std.specs.String.{string_bytes};
+ghost use Rattle.lynx_run.specs.Runs.{world_after, outcome_lines, cell_lines, ending_of, explained_line, EndPrints, Explains, IsNoSet, IsNoScript, IsLate, Prints, RunPrints, StopsFor};
 ghost use Rattle.lynx_script.specs.Scripts.{IsScript, script_of};
 ghost use Rattle.std.specs.Io.KnownBytes.{Appends, Keeps};
 
 use lynx_names::{Memory, TableId};
-use lynx_print::{cell_line, outcome_line};
+use lynx_order::{Explained, explain};
+use lynx_print::{cell_line, chains_line, outcome_line};
 use lynx_script::parse_script;
 use lynx_set::ChainSet;
 use lynx_text::parse;
@@ -34,6 +39,15 @@ pub enum RunFault {
     Write,
     #[error("out of memory")]
     Memory,
+}
+
+/// How a run that came to its end is explained.
+#[derive(Clone, Copy, Debug, PartialEq, Eq)]
+pub enum Ending {
+    /// By an order of the chains that began.
+    Ordered,
+    /// It is not: chains precede one another around a cycle.
+    Cyclic,
 }
 
 impl From<Memory> for RunFault {
@@ -61,7 +75,8 @@ impl From<AllocError> for RunFault {
 /// The set that a text spells.
 pub(crate) fn read_set(alloc: Global, text: &[u8]) -> Result<ChainSet, RunFault>
     ensures found { IfOk result (λ set. IsSet set × (text.now ≡ text_of set)) }
-    ensures only { IfErr result (λ fault. (fault ≡ RunFault.Memory) ⊎ ((found : TextFault) × (fault ≡ RunFault.Set found) × IsNoSet text.now)) }
+    ensures only { IfErr result (λ fault. (fault ≡ RunFault.Memory) ⊎ ((found : TextFault)
+        × (fault ≡ RunFault.Set found) × IsNoSet text.now × (found.kind ≢ FaultKind.Memory))) }
 {
     match parse(alloc, text) {
         Ok(set) => Ok(set),
@@ -74,8 +89,11 @@ pub(crate) fn read_set(alloc: Global, text: &[u8]) -> Result<ChainSet, RunFault>
 
 /// The events that a script spells.
 fn read_script(alloc: Global, set: &ChainSet, text: &[u8]) -> Result<Vec<Event>, RunFault>
-    ensures found { IfOk result (λ events. IsScript set.now events.items × (text.now ≡ script_of set.now events.items)) }
-    ensures only { IfErr result (λ fault. (fault ≡ RunFault.Memory) ⊎ ((found : TextFault) × (fault ≡ RunFault.Script found) × IsNoScript set.now text.now)) }
+    ensures found { IfOk result (λ events. IsScript set.now events.items
+        × (text.now ≡ script_of set.now events.items)) }
+    ensures only { IfErr result (λ fault. (fault ≡ RunFault.Memory) ⊎ ((found : TextFault)
+        × (fault ≡ RunFault.Script found) × IsNoScript set.now text.now
+        × (found.kind ≢ FaultKind.Memory))) }
 {
     match parse_script(alloc, set, text) {
         Ok(events) => Ok(events),
@@ -93,11 +111,16 @@ pub(crate) fn write_line<W: Write>(writer: &mut W, line: &[u8]) -> Result<(), Ru
     writer.write_all(line).map_err(|_| RunFault::Write)
 }
 
-/// Writes the line of what an event came to.
+/// Writes the line of what an event came to, unless memory was wanting.
 fn write_outcome<W: Write>(alloc: Global, outcome: &Outcome, writer: &mut W) -> Result<(), RunFault>
-    ensures line { OnOk result (Appends (W.contents writer.old) (W.contents writer.new) (line (outcome_text outcome.now))) }
+    ensures line { OnOk result (Appends (W.contents writer.old) (W.contents writer.new)
+        (with_feed (outcome_text outcome.now))) }
+    ensures came { OnOk result (outcome.now ≢ Outcome.Memory) }
     ensures late { IfErr result IsLate }
 {
+    if let Outcome::Memory = outcome {
+        return Err(RunFault::Memory);
+    }
     let line = outcome_line(alloc, outcome)?;
     write_line(writer, line.as_bytes())
 }
@@ -109,14 +132,12 @@ fn run_event<W: Write>(
     event: Event,
     writer: &mut W,
 ) -> Result<(), RunFault>
-    ensures worlds { OnOk result (world.new ≡ (step 0 world.old event).world) }
-    ensures lines { OnOk result (Appends (W.contents writer.old) (W.contents writer.new) (line (outcome_text (step 0 world.old event).outcome))) }
+    ensures worlds { OnOk result (world.new ≡ (step HELD_ROOM world.old event).world) }
+    ensures lines { OnOk result (Appends (W.contents writer.old) (W.contents writer.new)
+        (with_feed (outcome_text (step HELD_ROOM world.old event).outcome))) }
     ensures late { IfErr result IsLate }
 {
     let outcome = world.apply(alloc, event);
-    if let Outcome::Memory = outcome {
-        return Err(RunFault::Memory);
-    }
     write_outcome(alloc, &outcome, writer)
 }
 
@@ -128,7 +149,8 @@ pub fn run_events<W: Write>(
     writer: &mut W,
 ) -> Result<(), RunFault>
     ensures worlds { OnOk result (world.new ≡ world_after world.old events.items) }
-    ensures lines { OnOk result (Appends (W.contents writer.old) (W.contents writer.new) (outcome_lines world.old events.items)) }
+    ensures lines { OnOk result (Appends (W.contents writer.old) (W.contents writer.new)
+        (outcome_lines world.old events.items)) }
     ensures late { IfErr result IsLate }
 {
     for event in events {
@@ -139,7 +161,8 @@ pub fn run_events<W: Write>(
 
 /// Writes a line for each nonzero cell, tables in order of declaration, keys rising.
 pub fn write_cells<W: Write>(alloc: Global, world: &World, writer: &mut W) -> Result<(), RunFault>
-    ensures cells { OnOk result ((cells : List (ℕ × ℕ × ℕ)) × IsPermutation (cells_of world.now) cells × IsSorted triple_cmp cells
+    ensures cells { OnOk result ((cells : List (ℕ × ℕ × ℕ)) × IsPermutation
+        (cells_of world.now) cells × IsSorted triple_cmp cells
         × Appends (W.contents writer.old) (W.contents writer.new) (cell_lines world.now.set.tables cells)) }
     ensures late { IfErr result IsLate }
 {
@@ -154,53 +177,97 @@ fn write_each_cell<W: Write>(
     cells: &[(TableId, u64, u64)],
     writer: &mut W,
 ) -> Result<(), RunFault>
-    ensures lines { OnOk result (Appends (W.contents writer.old) (W.contents writer.new) (cell_lines set.now.tables cells.now)) }
+    ensures lines { OnOk result (Appends (W.contents writer.old) (W.contents writer.new)
+        (cell_lines set.now.tables cells.now)) }
     ensures late { IfErr result IsLate }
 {
     for (table, key, value) in cells {
-        let line = cell_line(alloc, table_name(set, *table), *key, *value)?;
+        let line = cell_line(alloc, set.table_name(*table), *key, *value)?;
         write_line(writer, line.as_slice())?;
     }
     Ok(())
 }
 
-/// The name of a table of the set.
-fn table_name(set: &ChainSet, table: TableId) -> &[u8]
-    ensures { result.now ≡ unwrap_or (slice_get set.now.tables table) [] }
+/// How the run ends that is explained so.
+fn ending_of(explained: &Explained) -> Ending
+    ensures { result ≡ ending_of explained.now }
 {
-    match set.tables().get_index(table.index()) {
-        Some(name) => name.as_bytes(),
-        None => &[],
+    match explained {
+        Explained::Order(_) => Ending::Ordered,
+        Explained::Cycle(_) => Ending::Cyclic,
     }
 }
 
-/// Runs the events in a new world, and writes the line of each and then those of the cells.
+/// The line of an order or a cycle.
+fn explained_line(alloc: Global, explained: &Explained) -> Result<String, AllocError>
+    ensures { IfOk result (λ text. string_bytes text ≡ explained_line explained.now) }
+{
+    match explained {
+        Explained::Order(chains) => chains_line(alloc, "order", chains.as_slice()),
+        Explained::Cycle(chains) => chains_line(alloc, "cycle", chains.as_slice()),
+    }
+}
+
+/// Writes the line of an order that explains what the servers did, or of a cycle.
+fn write_explained<W: Write>(
+    alloc: Global,
+    world: &World,
+    writer: &mut W,
+) -> Result<Ending, RunFault>
+    ensures ok { IfOk result (λ ending. (explained : Explained)
+        × Explains world.now.set world.now.list explained × (ending ≡ ending_of explained)
+        × Appends (W.contents writer.old) (W.contents writer.new) (explained_line explained)) }
+    ensures late { IfErr result IsLate }
+{
+    let explained = explain(alloc, world)?;
+    let line = explained_line(alloc, &explained)?;
+    write_line(writer, line.as_bytes())?;
+    Ok(ending_of(&explained))
+}
+
+/// Writes the lines of the nonzero cells, and the one that explains what the servers did.
+fn write_end<W: Write>(alloc: Global, world: &World, writer: &mut W) -> Result<Ending, RunFault>
+    ensures ok { IfOk result (λ ending. (printed : List ℕ)
+        × EndPrints world.now.set world.now ending printed
+        × Appends (W.contents writer.old) (W.contents writer.new) printed) }
+    ensures late { IfErr result IsLate }
+{
+    write_cells(alloc, world, writer)?;
+    write_explained(alloc, world, writer)
+}
+
+/// Runs the events in a new world, and writes the line of each, then those of the cells and the one that explains
+/// the run.
 fn run_script<W: Write>(
     alloc: Global,
     set: ChainSet,
     events: Vec<Event>,
     writer: &mut W,
-) -> Result<(), RunFault>
-    ensures ok { OnOk result ((cells : List (ℕ × ℕ × ℕ)) × IsPermutation (cells_of (world_after (new_world set) events.items)) cells × IsSorted triple_cmp cells
-        × Appends (W.contents writer.old) (W.contents writer.new)
-        (outcome_lines (new_world set) events.items ++ cell_lines (world_after (new_world set) events.items).set.tables cells)) }
+) -> Result<Ending, RunFault>
+    ensures ok { IfOk result (λ ending. (printed : List ℕ)
+        × RunPrints set events.items ending printed
+        × Appends (W.contents writer.old) (W.contents writer.new) printed) }
     ensures late { IfErr result IsLate }
 {
     let mut world = World::new(alloc, set)?;
     run_events(alloc, &mut world, events, writer)?;
-    write_cells(alloc, &world, writer)
+    write_end(alloc, &world, writer)
 }
 
-/// Judges the set text and then the script, runs the script in a new world, and writes a line for each event and
-/// then a line for each nonzero cell.
+/// Judges the set text and then the script, runs the script in a new world, and writes a line for each event, a
+/// line for each nonzero cell, and the line of an order that explains the run, or of a cycle. Where the set is
+/// accepted it is an order. The last line costs the square of the entries, in steps and in bytes.
 pub fn run_texts<W: Write>(
     alloc: Global,
     set: &[u8],
     script: &[u8],
     writer: &mut W,
-) -> Result<(), RunFault>
-    ensures ok { OnOk result ((printed : List ℕ) × Prints set.now script.now printed × Appends (W.contents writer.old) (W.contents writer.new) printed) }
-    ensures err { IfErr result (λ fault. StopsFor set.now script.now (Keeps (W.contents writer.old) (W.contents writer.new)) fault) }
+) -> Result<Ending, RunFault>
+    ensures ok { IfOk result (λ ending. (printed : List ℕ)
+        × Prints set.now script.now ending printed
+        × Appends (W.contents writer.old) (W.contents writer.new) printed) }
+    ensures err { IfErr result (λ fault.
+        StopsFor set.now script.now (Keeps (W.contents writer.old) (W.contents writer.new)) fault) }
 {
     let set = read_set(alloc, set)?;
     let events = read_script(alloc, &set, script)?;

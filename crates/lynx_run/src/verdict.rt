@@ -2,15 +2,15 @@
 ghost use Rattle.std.specs.Prelude.{◌≡◌, ◌⊎◌, ℕ, List, [], ◌++◌, OnOk, IfOk, IfErr, codes, take};
 ghost use Rattle.std.specs.List.{flat_map};
 ghost use Rattle.std.specs.Io.KnownBytes.{Appends, Keeps};
+ghost use Rattle.lynx_graph.specs.Verdicts.{Judges};
 ghost use Rattle.lynx_graph.specs.Walks.{IsAccepted, IsOffending};
 ghost use Rattle.lynx_set.specs.Rules.{IsSet};
-ghost use Rattle.lynx_print.specs.Printed.{line};
+ghost use Rattle.lynx_words.specs.Lines.{with_feed};
 ghost use Rattle.lynx_run.specs.Runs.{IsLate};
-ghost use Rattle.lynx_run.specs.Checks.{edge_line, edge_lines, edges, program_name, IsVerdict, Finds, NoVerdictFor};
+ghost use Rattle.lynx_run.specs.Checks.{edge_line, edge_lines, edges, IsVerdict, Finds, NoVerdictFor};
 
 use crate::run::{RunFault, read_set, write_line};
 use lynx_graph::{Verdict, Visit, check};
-use lynx_names::ProgramId;
 use lynx_print::conflict_line;
 use lynx_set::ChainSet;
 use std::alloc::{AllocError, Global};
@@ -26,8 +26,10 @@ pub enum Finding {
 /// Judges a set text, and writes `accepted`, or `offending` and a line for each conflict edge of a walk that
 /// offends. `RunFault::Script` is never its fault.
 pub fn check_text<W: Write>(alloc: Global, set: &[u8], writer: &mut W) -> Result<Finding, RunFault>
-    ensures ok { IfOk result (λ finding. (printed : List ℕ) × Finds set.now finding printed × Appends (W.contents writer.old) (W.contents writer.new) printed) }
-    ensures err { IfErr result (λ fault. NoVerdictFor set.now (Keeps (W.contents writer.old) (W.contents writer.new)) fault) }
+    ensures ok { IfOk result (λ finding. (printed : List ℕ) × Finds set.now finding printed
+        × Appends (W.contents writer.old) (W.contents writer.new) printed) }
+    ensures err { IfErr result (λ fault. NoVerdictFor set.now (Keeps (W.contents writer.old)
+        (W.contents writer.new)) fault) }
 {
     let set = read_set(alloc, set)?;
     check_set(alloc, &set, writer)
@@ -35,10 +37,27 @@ pub fn check_text<W: Write>(alloc: Global, set: &[u8], writer: &mut W) -> Result
 
 /// Judges a set, and writes its verdict.
 fn check_set<W: Write>(alloc: Global, set: &ChainSet, writer: &mut W) -> Result<Finding, RunFault>
-    ensures ok { IfOk result (λ finding. (printed : List ℕ) × IsVerdict set.now finding printed × Appends (W.contents writer.old) (W.contents writer.new) printed) }
+    ensures ok { IfOk result (λ finding. (printed : List ℕ) × IsVerdict set.now finding printed
+        × Appends (W.contents writer.old) (W.contents writer.new) printed) }
     ensures late { IfErr result IsLate }
 {
-    match check(alloc, set)? {
+    let verdict = check(alloc, set)?;
+    write_verdict(alloc, set, &verdict, writer)
+}
+
+/// Writes the verdict on a set.
+fn write_verdict<W: Write>(
+    alloc: Global,
+    set: &ChainSet,
+    verdict: &Verdict,
+    writer: &mut W,
+) -> Result<Finding, RunFault>
+    requires { Judges set.now verdict.now }
+    ensures ok { IfOk result (λ finding. (printed : List ℕ) × IsVerdict set.now finding printed
+        × Appends (W.contents writer.old) (W.contents writer.new) printed) }
+    ensures late { IfErr result IsLate }
+{
+    match verdict {
         Verdict::Accepted(_) => {
             write_line(writer, b"accepted\n")?;
             Ok(Finding::Accepted)
@@ -57,7 +76,8 @@ fn write_offending<W: Write>(
     walk: &[Visit],
     writer: &mut W,
 ) -> Result<(), RunFault>
-    ensures lines { OnOk result (Appends (W.contents writer.old) (W.contents writer.new) (line (codes "offending") ++ edge_lines set.now walk.now)) }
+    ensures lines { OnOk result (Appends (W.contents writer.old) (W.contents writer.new)
+        (with_feed (codes "offending") ++ edge_lines set.now walk.now)) }
     ensures late { IfErr result IsLate }
 {
     write_line(writer, b"offending\n")?;
@@ -82,7 +102,8 @@ fn write_walk<W: Write>(
     walk: &[Visit],
     writer: &mut W,
 ) -> Result<(), RunFault>
-    ensures lines { OnOk result (Appends (W.contents writer.old) (W.contents writer.new) (edge_lines set.now walk.now)) }
+    ensures lines { OnOk result (Appends (W.contents writer.old) (W.contents writer.new)
+        (edge_lines set.now walk.now)) }
     ensures late { IfErr result IsLate }
 {
     let edges = edges_of(alloc, walk)?;
@@ -96,7 +117,8 @@ fn write_edges<W: Write>(
     edges: &[(Visit, Visit)],
     writer: &mut W,
 ) -> Result<(), RunFault>
-    ensures lines { OnOk result (Appends (W.contents writer.old) (W.contents writer.new) (flat_map (edge_line set.now) edges.now)) }
+    ensures lines { OnOk result (Appends (W.contents writer.old) (W.contents writer.new)
+        (flat_map (edge_line set.now) edges.now)) }
     ensures late { IfErr result IsLate }
 {
     for (visit, next) in edges {
@@ -115,17 +137,7 @@ fn edge_line(
 ) -> Result<Vec<u8>, AllocError>
     ensures { IfOk result (λ text. text.items ≡ edge_line set.now (visit, next)) }
 {
-    let program = program_name(set, visit.program);
-    let next_program = program_name(set, next.program);
+    let program = set.program_name(visit.program);
+    let next_program = set.program_name(next.program);
     conflict_line(alloc, program, visit.left, next_program, next.entered)
-}
-
-/// The name of a program of the set.
-fn program_name(set: &ChainSet, program: ProgramId) -> &[u8]
-    ensures { result.now ≡ program_name set.now program }
-{
-    match set.programs().get_index(program.index()) {
-        Some((name, _)) => name.as_bytes(),
-        None => &[],
-    }
 }

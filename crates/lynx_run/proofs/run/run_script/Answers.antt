@@ -3,4 +3,5 @@ use Rattle.lynx_run.proofs.run.run_script.Goals as goal
 
 pub returns-clause-ok : goal.returns-clause-ok
 returns-clause-ok g c =
-    whole_run _ _ _ c.args.set c.args.events.items c.in_ok-world.world c.run_events.new.world c.write_cells.result c.in_ok-world.ensures c.in_ok-run_events.ensures.worlds c.in_ok-run_events.ensures.lines c.write_cells.ensures.cells
+    whole_run _ _ _ c.args.set c.args.events.items c.in_ok-world.world c.run_events.new.world c.write_end.result
+    c.in_ok-world.ensures c.in_ok-run_events.ensures.worlds c.in_ok-run_events.ensures.lines c.write_end.ensures.ok

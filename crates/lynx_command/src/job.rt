@@ -1,6 +1,6 @@
 //! What the words of the command line ask for.
 ghost use Rattle.std.specs.Prelude.{option_map};
-ghost use Rattle.lynx_jobs.specs.Words.{RunsAs};
+ghost use Rattle.lynx_command.specs.Jobs.{RunsAs};
 
 use thiserror::Error;
 
@@ -15,26 +15,32 @@ pub enum Job<'a> {
     RunInput,
 }
 
-/// Words that the parser takes, and that ask for nothing.
+/// Words that ask for nothing, though the parser takes them or never sees them.
 #[derive(Clone, Copy, Debug, PartialEq, Eq, Error)]
-pub enum WordsFault {
+pub enum CommandFault {
     #[error("a script is missing")]
     NoScript,
     #[error("one script too many")]
     ScriptTooMany,
+    /// The first word is a command that the program hasn't. The parser refuses it first.
+    #[error("no such command")]
+    NoCommand,
+    /// Some word isn't a text.
+    #[error("a word is not UTF-8")]
+    NotUtf8,
 }
 
-/// Standard input in the place of a file.
+/// Standard input in the place of the files of a run.
 pub const INPUT: &str = "-";
 
 /// What `run` and its words ask for: `-` alone is standard input, and any other set wants a script.
-pub fn run_job<'a>(set: &'a str, script: Option<&'a str>) -> Result<Job<'a>, WordsFault>
+pub fn job_of_run<'a>(set: &'a str, script: Option<&'a str>) -> Result<Job<'a>, CommandFault>
     ensures { RunsAs set.now (option_map (λ own. own.now) script.entry) result }
 {
     match script {
         None if set == INPUT => Ok(Job::RunInput),
-        None => Err(WordsFault::NoScript),
-        Some(_) if set == INPUT => Err(WordsFault::ScriptTooMany),
+        None => Err(CommandFault::NoScript),
+        Some(_) if set == INPUT => Err(CommandFault::ScriptTooMany),
         Some(script) => Ok(Job::Run { set, script }),
     }
 }

@@ -1,0 +1,77 @@
+//! The words of the command line.
+ghost use Rattle.std.specs.Prelude.{◌≡◌, Ok, None};
+ghost use Rattle.clap.specs.Matches.{subcommand_name_of};
+ghost use Rattle.lynx_command.specs.Jobs.{AskedBy};
+
+use crate::job::{CommandFault, INPUT, Job, job_of_run};
+use clap::{Arg, ArgMatches, Command};
+use std::alloc::{AllocError, Global};
+
+/// The statuses that the program ends with, and the words of faults, as the help tells them.
+const STATUSES: &str =
+    "Statuses:\n  0  done: the set is accepted, the script ran\n  1  the set offends\n  2  faulty words or a faulty text\n  3  out of memory\n  4  something can't be read or written";
+
+const FAULTS: &str =
+    "A faulty text is told with its line and one of these words: too-long, bad-version, bad-line,\nbad-name, bad-number, repeated, unknown, need-not-first, limit-passed, literal-elsewhere,\nshard-gap, shard-overlap, shard-server.";
+
+fn check_command<'a>(alloc: Global) -> Result<Command<'a>, AllocError> {
+    let set = Arg::new(alloc, "SET")
+        .required(true)
+        .help("The file of the set's text; - is a file of that name");
+    Command::new(alloc, "check")
+        .about("Judge a set of chain programs")
+        .after_help(
+            "Status 0 where the set is accepted, 1 where it offends.\nExample: lynx check payment.set",
+        )
+        .arg(set)
+}
+
+fn run_command<'a>(alloc: Global) -> Result<Command<'a>, AllocError> {
+    let set = Arg::new(alloc, "SET").required(true).help(
+        "The file of the set's text, or - alone for standard input: a set text, a line --, a script",
+    );
+    let script = Arg::new(alloc, "SCRIPT").help("The file of the script; - is a file of that name");
+    Command::new(alloc, "run")
+        .about("Run a script over a set of chain programs, the set unchecked")
+        .after_help("Example: lynx run payment.set payment.script")
+        .arg(set)?
+        .arg(script)
+}
+
+/// The program without its commands.
+fn bare_command<'a>(alloc: Global) -> Command<'a> {
+    Command::new(alloc, "lynx")
+        .version("0.1.0")
+        .about("Judges sets of chain programs, and runs scripts over them")
+        .before_help(FAULTS)
+        .after_help(STATUSES)
+}
+
+fn with_check<'a>(alloc: Global, command: Command<'a>) -> Result<Command<'a>, AllocError> {
+    command.subcommand(check_command(alloc)?)
+}
+
+fn with_run<'a>(alloc: Global, command: Command<'a>) -> Result<Command<'a>, AllocError> {
+    command.subcommand(run_command(alloc)?)
+}
+
+/// The program's command line. No words at all are read as `run -`.
+pub fn command<'a>(alloc: Global) -> Result<Command<'a>, AllocError> {
+    with_run(alloc, with_check(alloc, bare_command(alloc))?)
+}
+
+/// What the words ask for.
+pub fn job_of<'a>(matches: &ArgMatches<'a>) -> Result<Job<'a>, CommandFault>
+    ensures no_words { subcommand_name_of matches.now ≡ None → result ≡ Ok Job.RunInput }
+    ensures asked { AskedBy (subcommand_name_of matches.now) result }
+{
+    let Some((name, words)) = matches.subcommand() else {
+        return Ok(Job::RunInput);
+    };
+    let set = words.get_str("SET").unwrap_or(INPUT);
+    match name {
+        "check" => Ok(Job::Check { set }),
+        "run" => job_of_run(set, words.get_str("SCRIPT")),
+        _ => Err(CommandFault::NoCommand),
+    }
+}

@@ -1,0 +1,37 @@
+-- What a job that is done has written, where the bytes of its sources are known.
+use Rattle.std.specs.Prelude.{◌≡◌, ℕ, List, Option, take}
+use Rattle.std.specs.Io.KnownBytes.{Appends}
+use Rattle.lynx_input.specs.declared.source.TheConstants.{MAX_FILE_BYTES, MAX_INPUT_BYTES}
+use Rattle.lynx_input.specs.Inputs.{IsCut}
+use Rattle.lynx_run.specs.declared.run.Ending.{Ending}
+use Rattle.lynx_run.specs.declared.verdict.Finding.{Finding}
+use Rattle.lynx_run.specs.Checks.{Finds}
+use Rattle.lynx_run.specs.Runs.{Prints}
+use Rattle.lynx_jobs.specs.Statuses.{status_of_finding, status_of_ending}
+
+-- the verdict on the set that the source begins with is written, and the status is the verdict's
+pub record HasChecked (source : List ℕ) (old new : Option (List ℕ)) (status : ℕ) : Type 0 where
+  pub finding : Finding
+  pub printed : List ℕ
+  pub finds : Finds (take MAX_FILE_BYTES source) finding printed
+  pub written : Appends old new printed
+  pub status_is : status ≡ status_of_finding finding
+
+-- the lines of a run of this script over this set are written, and the status is that of its ending
+pub record HasRunTexts (set script : List ℕ) (old new : Option (List ℕ)) (status : ℕ) : Type 0 where
+  pub ending : Ending
+  pub printed : List ℕ
+  pub prints : Prints set script ending printed
+  pub written : Appends old new printed
+  pub status_is : status ≡ status_of_ending ending
+
+-- the same of the texts that two sources begin with
+abbrev pub HasRun : List ℕ → List ℕ → Option (List ℕ) → Option (List ℕ) → ℕ → Type 0
+HasRun set script old new status = HasRunTexts (take MAX_FILE_BYTES set) (take MAX_FILE_BYTES script) old new status
+
+-- the same of the two parts of an input
+pub record HasRunInput (input : List ℕ) (old new : Option (List ℕ)) (status : ℕ) : Type 0 where
+  pub set : List ℕ
+  pub script : List ℕ
+  pub cut : IsCut (take MAX_INPUT_BYTES input) set script
+  pub run : HasRunTexts set script old new status

@@ -1,0 +1,123 @@
+//! The work of each job, from any source to any writer.
+ghost use Rattle.std.specs.Prelude.{◌≡◌, IfOk, IfErr, IfSome, Ok, Err, take};
+ghost use Rattle.lynx_input.specs.declared.source.TheConstants.{MAX_FILE_BYTES};
+ghost use Rattle.lynx_jobs.specs.Statuses.{status_of_ending, status_of_finding};
+ghost use Rattle.lynx_jobs.specs.Done.{HasChecked, HasRun, HasRunInput, HasRunTexts};
+
+use crate::fault::Fault;
+use lynx_input::{MAX_FILE_BYTES, MAX_INPUT_BYTES, read_all, split_input};
+use lynx_run::{Ending, Finding, check_text, run_texts};
+use std::alloc::Global;
+use std::io::{Read, Write};
+
+/// The status of an accepted set, and of a run that an order explains.
+const DONE: u8 = 0;
+
+/// The status of an offending set, and of a run that ends with a cycle.
+const OFFENDING: u8 = 1;
+
+/// The status of a check.
+fn status_of_finding(finding: Finding) -> u8
+    ensures { result ≡ status_of_finding finding }
+{
+    match finding {
+        Finding::Accepted => DONE,
+        Finding::Offending => OFFENDING,
+    }
+}
+
+/// The status of a run.
+fn status_of_ending(ending: Ending) -> u8
+    ensures { result ≡ status_of_ending ending }
+{
+    match ending {
+        Ending::Ordered => DONE,
+        Ending::Cyclic => OFFENDING,
+    }
+}
+
+/// Reads the source of this name, as far as a text may reach.
+pub(crate) fn read_text<'a, R: Read>(
+    alloc: Global,
+    name: &'a str,
+    source: &mut R,
+) -> Result<Vec<u8>, Fault<'a>>
+    ensures { IfOk result (λ text. IfSome (R.remaining source.old) (λ bytes.
+        text.items ≡ take MAX_FILE_BYTES bytes)) }
+{
+    match read_all(alloc, source, MAX_FILE_BYTES) {
+        Ok(text) => Ok(text),
+        Err(fault) => Err(Fault::of_reading(name, fault)),
+    }
+}
+
+/// Judges the set of a source, writes the verdict and gives its status.
+pub fn check_source<'a, R: Read, W: Write>(
+    alloc: Global,
+    name: &'a str,
+    source: &mut R,
+    writer: &mut W,
+) -> Result<u8, Fault<'a>>
+    ensures { IfOk result (λ status. IfSome (R.remaining source.old) (λ bytes.
+        HasChecked bytes (W.contents writer.old) (W.contents writer.new) status)) }
+{
+    let text = read_text(alloc, name, source)?;
+    match check_text(alloc, text.as_slice(), writer) {
+        Ok(finding) => Ok(status_of_finding(finding)),
+        Err(fault) => Err(Fault::Run(fault)),
+    }
+}
+
+/// Runs a script over a set, writes its lines and gives the status.
+fn run_both<'a, W: Write>(
+    alloc: Global,
+    set: &[u8],
+    script: &[u8],
+    writer: &mut W,
+) -> Result<u8, Fault<'a>>
+    ensures { IfOk result (λ status.
+        HasRunTexts set.now script.now (W.contents writer.old) (W.contents writer.new) status) }
+{
+    match run_texts(alloc, set, script, writer) {
+        Ok(ending) => Ok(status_of_ending(ending)),
+        Err(fault) => Err(Fault::Run(fault)),
+    }
+}
+
+/// Runs the script of a source over the set of another, which is read first.
+pub fn run_sources<'a, R: Read, S: Read, W: Write>(
+    alloc: Global,
+    set_name: &'a str,
+    set: &mut R,
+    script_name: &'a str,
+    script: &mut S,
+    writer: &mut W,
+) -> Result<u8, Fault<'a>>
+    ensures { IfOk result (λ status. IfSome (R.remaining set.old) (λ set_bytes.
+        IfSome (S.remaining script.old) (λ script_bytes.
+        HasRun set_bytes script_bytes (W.contents writer.old) (W.contents writer.new) status))) }
+{
+    let set = read_text(alloc, set_name, set)?;
+    let script = read_text(alloc, script_name, script)?;
+    run_both(alloc, set.as_slice(), script.as_slice(), writer)
+}
+
+/// Runs the script of an input over the set that stands before it.
+pub fn run_input<'a, R: Read, W: Write>(
+    alloc: Global,
+    name: &'a str,
+    source: &mut R,
+    writer: &mut W,
+) -> Result<u8, Fault<'a>>
+    ensures { IfOk result (λ status. IfSome (R.remaining source.old) (λ bytes.
+        HasRunInput bytes (W.contents writer.old) (W.contents writer.new) status)) }
+{
+    let input = match read_all(alloc, source, MAX_INPUT_BYTES) {
+        Ok(input) => input,
+        Err(fault) => return Err(Fault::of_reading(name, fault)),
+    };
+    let Some((set, script)) = split_input(input.as_slice()) else {
+        return Err(Fault::NoSeparator);
+    };
+    run_both(alloc, set, script, writer)
+}

@@ -1,0 +1,60 @@
+//! Each job from sources in memory, with ample memory.
+use lynx_command::{Job, command, job_of};
+use lynx_jobs::{check_source, run_input, run_sources};
+use lynx_samples::rows::PAYMENT;
+use lynx_samples::texts::PAY_AND_NOTE;
+use std::alloc::Global;
+use std::test::Fail;
+
+/// The status of a check of the text.
+fn status_of_check(alloc: Global, text: &str) -> Option<u8> {
+    let mut printed = Vec::new(alloc);
+    check_source(alloc, "set", &mut text.as_bytes(), &mut printed).ok()
+}
+
+#[test]
+fn a_check_has_the_status_of_its_verdict(rt: HostRuntime) {
+    assert_eq!(rt; status_of_check(rt.alloc(), PAYMENT.set), Some(0));
+    assert_eq!(rt; status_of_check(rt.alloc(), PAY_AND_NOTE), Some(1));
+}
+
+/// Whether the payment runs, and prints its lines.
+fn is_run(alloc: Global) -> bool {
+    let mut printed = Vec::new(alloc);
+    let (mut set, mut script) = (PAYMENT.set.as_bytes(), PAYMENT.script.as_bytes());
+    let status = run_sources(alloc, "set", &mut set, "script", &mut script, &mut printed);
+    status.ok() == Some(0) && printed.as_slice() == PAYMENT.printed.as_bytes()
+}
+
+#[test]
+fn two_sources_are_run(rt: HostRuntime) {
+    assert!(rt; is_run(rt.alloc()));
+}
+
+/// Whether an input is run that has a set without programs, and no event.
+fn is_input_run(alloc: Global) -> bool {
+    let mut printed = Vec::new(alloc);
+    let mut input = b"lynx 1\nservers 1\n--\n".as_slice();
+    run_input(alloc, "-", &mut input, &mut printed).ok() == Some(0)
+        && printed.as_slice() == b"order -\n".as_slice()
+}
+
+#[test]
+fn an_input_is_run(rt: HostRuntime) {
+    assert!(rt; is_input_run(rt.alloc()));
+}
+
+/// Whether these words ask for that.
+fn ask_for(alloc: Global, words: &[&str], want: Job) -> Result<bool, Fail> {
+    match command(alloc)?.try_get_matches_from(words) {
+        Ok(matches) => Ok(job_of(&matches) == Ok(want)),
+        Err(_) => Ok(false),
+    }
+}
+
+#[test]
+fn words_ask_for_jobs(rt: HostRuntime) -> Result<(), Fail> {
+    assert!(rt; ask_for(rt.alloc(), &["lynx"], Job::RunInput)?);
+    assert!(rt; ask_for(rt.alloc(), &["lynx", "check", "a"], Job::Check { set: "a" })?);
+    Ok(())
+}

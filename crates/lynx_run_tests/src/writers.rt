@@ -1,0 +1,53 @@
+//! Writers that fail, at each line of a run and of a verdict.
+use lynx_run::{Ending, Finding, RunFault, check_text, run_texts};
+use lynx_samples::full::Full;
+use lynx_samples::rows::PAYMENT;
+use lynx_samples::texts::PAY_AND_NOTE;
+use std::alloc::Global;
+
+/// How a run ends where so many lines can be written, of six.
+fn ended_in(alloc: Global, left: usize) -> Result<Ending, RunFault> {
+    let mut writer = Full { left };
+    run_texts(
+        alloc,
+        PAYMENT.set.as_bytes(),
+        PAYMENT.script.as_bytes(),
+        &mut writer,
+    )
+}
+
+#[test]
+fn a_write_that_fails_ends_the_run(rt: HostRuntime) {
+    for left in 0..6 {
+        assert!(rt;
+            ended_in(rt.alloc(), left) == Err(RunFault::Write),
+            "after {left} lines"
+        );
+    }
+}
+
+#[test]
+fn a_whole_run_is_written(rt: HostRuntime) {
+    assert!(rt; ended_in(rt.alloc(), 6) == Ok(Ending::Ordered));
+}
+
+/// What is found where so many lines can be written, of four.
+fn found_in(alloc: Global, left: usize) -> Result<Finding, RunFault> {
+    let mut writer = Full { left };
+    check_text(alloc, PAY_AND_NOTE.as_bytes(), &mut writer)
+}
+
+#[test]
+fn a_broken_pipe_ends_the_verdict(rt: HostRuntime) {
+    for left in 0..4 {
+        assert!(rt;
+            found_in(rt.alloc(), left) == Err(RunFault::Write),
+            "after {left} lines"
+        );
+    }
+}
+
+#[test]
+fn a_whole_verdict_is_written(rt: HostRuntime) {
+    assert!(rt; found_in(rt.alloc(), 4) == Ok(Finding::Offending));
+}

@@ -4,7 +4,7 @@ use lynx_names::{Memory, TableId};
 use std::alloc::Global;
 
 /// The number of a table, a key and a value.
-pub type Cell = (u8, u64, u64);
+type Cell = (u8, u64, u64);
 
 /// The table of a number that is known to be in range.
 fn table(number: u8) -> Result<TableId, Memory> {
@@ -20,7 +20,7 @@ fn changes_of(alloc: Global, writes: &[Cell]) -> Result<Changes, Memory> {
 }
 
 /// Whether these are the cells, in that order.
-pub fn are_cells(cells: &[(TableId, u64, u64)], want: &[Cell]) -> bool {
+fn are_cells(cells: &[(TableId, u64, u64)], want: &[Cell]) -> bool {
     for (&(table, key, value), want) in cells.iter().zip(want) {
         if (table.number(), key, value) != *want {
             return false;

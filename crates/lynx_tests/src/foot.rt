@@ -1,7 +1,8 @@
 use crate::asks::holds;
-use crate::texts::{PAYMENT_AND_PUT, set_of};
+use crate::sets::set_of;
 use lynx_foot::{Foot, Kind, Touch, conflict, footprint, may_conflict, touches};
 use lynx_names::{Memory, ProgramId};
+use lynx_samples::texts::PAYMENT_AND_PUT;
 use lynx_set::{ChainSet, Key};
 use std::alloc::Global;
 

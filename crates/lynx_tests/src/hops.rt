@@ -1,4 +1,4 @@
-use crate::texts::set_of;
+use crate::sets::set_of;
 use lynx_cells::{Cells, Changes};
 use lynx_hops::{HopFault, run_hop};
 use lynx_names::{Memory, ProgramId, TableId, Values};

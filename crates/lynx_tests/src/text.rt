@@ -1,36 +1,135 @@
-//! Set texts: their faults, their limits, and how they are printed again.
-mod faults;
-mod limits;
-mod printed;
-
-use lynx_names::Memory;
-use lynx_text::parse;
-use lynx_words::{FaultKind, TextFault};
+//! Set texts: which fronts of one are sets, and how sets are printed as they are read. Their faults and limits are
+//! shown by the cases under tests/cases.
+use crate::asks::{holds, holds_of};
+use crate::sets::set_of;
+use lynx_names::limits::MAX_TEXT_BYTES;
+use lynx_names::{Memory, TryCopy};
+use lynx_samples::texts::{
+    CALC, CROSSING, EMPTY_SET, LATE_AND_MARK, ONE_ORIGIN_JOINS, ONE_ORIGIN_ONLY, ONE_ORIGIN_SETS,
+    PAY_AND_NOTE, PAYMENT, PUT, TRIP,
+};
+use lynx_set::ChainSet;
+use lynx_text::{parse, print};
 use std::alloc::Global;
 
 /// Two servers and one table, on five lines.
 const HEAD: &str = "lynx 1\nservers 2\ntable t\nshard 0 99 0\nshard 100 18446744073709551615 1\n";
 
-/// A text or its end, its fault and the fault's line.
-type Case = (&'static str, FaultKind, usize);
-
-/// The first fault of the text, if it has one.
-fn fault_of(alloc: Global, text: &[u8]) -> Option<TextFault> {
-    parse(alloc, text).err()
+/// Whether the front of a payment ends with the servers, the table or a program.
+fn ends_a_part(front: &[u8]) -> bool {
+    let lines = front.iter().filter(|byte| **byte == b'\n').count();
+    front.ends_with(b"\n".as_slice()) && (lines == 2 || lines == 5 || lines == 9)
 }
 
-/// Whether the text is a set.
-fn is_set(alloc: Global, text: &[u8]) -> bool {
-    fault_of(alloc, text).is_none()
+/// Whether the front of a payment is a set just where it ends a part.
+fn is_set_of_parts(alloc: Global, front: &[u8]) -> bool {
+    parse(alloc, front).is_ok() == ends_a_part(front)
 }
 
-/// Whether the text has that fault on that line.
-fn is_fault(alloc: Global, text: &[u8], kind: FaultKind, line: usize) -> bool {
-    fault_of(alloc, text) == Some(TextFault { kind, line })
+#[test]
+fn fronts_of_a_set_are_sets_after_whole_parts(rt: HostRuntime) {
+    let text = PAYMENT.as_bytes();
+    for length in 0..text.len() {
+        assert!(rt; is_set_of_parts(rt.alloc(), &text[..length]), "{length}");
+    }
 }
 
-/// Whether the front has the case's fault with the case's end.
-fn is_fault_after(alloc: Global, front: &str, (end, kind, line): Case) -> Result<bool, Memory> {
-    let text = format!(in alloc; "{front}{end}")?;
-    Ok(is_fault(alloc, text.as_bytes(), kind, line))
+/// A program that stays at its second server.
+const DOUBLE: &str =
+    "lynx 1\nservers 2\ntable t\nshard 0 9 0\nshard 10 18446744073709551615 1\nprogram double\nhop 0\nadd t 0 1\nhop 1\nadd t 10 1\nhop 1\nadd t 11 1\nend\n";
+
+const SETS: &[&str] = &[
+    CROSSING,
+    EMPTY_SET,
+    LATE_AND_MARK,
+    ONE_ORIGIN_JOINS,
+    ONE_ORIGIN_ONLY,
+    ONE_ORIGIN_SETS,
+    PAY_AND_NOTE,
+    TRIP,
+    PAYMENT,
+    CALC,
+    PUT,
+    DOUBLE,
+];
+
+/// A copy of the text's set.
+fn copy_of(alloc: Global, text: &str) -> Result<Box<ChainSet>, Memory> {
+    let copy = set_of(alloc, text)?.copy(alloc)?;
+    Ok(Box::new(alloc, copy)?)
+}
+
+/// Whether the set is printed so.
+fn is_printed(alloc: Global, set: &ChainSet, text: &str) -> Result<bool, Memory> {
+    let printed = print(alloc, set)?;
+    Ok(printed.as_slice() == text.as_bytes())
+}
+
+/// Whether the copy of the text's set is printed as the text is.
+fn copy_is_printed(alloc: Global, text: &str) -> Result<bool, Memory> {
+    let set = copy_of(alloc, text)?;
+    is_printed(alloc, &set, text)
+}
+
+#[test]
+fn sets_are_printed_as_they_are_read(rt: HostRuntime) {
+    for &text in SETS {
+        holds_of(&rt, copy_is_printed(rt.alloc(), text), text);
+    }
+}
+
+/// A hop with as many actions as one may have.
+#[rattlefmt::skip]
+const FULL_HOP: &str = "hop 0\nadd t 0 1\nadd t 0 1\nadd t 0 1\nadd t 0 1\nadd t 0 1\nadd t 0 1\nadd t 0 1\nadd t 0 1\nadd t 0 1\nadd t 0 1\nadd t 0 1\nadd t 0 1\nadd t 0 1\nadd t 0 1\nadd t 0 1\nadd t 0 1\n";
+
+/// The last hop of the longest text, and the end of its program.
+#[rattlefmt::skip]
+const LAST_HOP: &str = "hop 0\nadd t 0 1\nadd t 0 1\nadd t 0 1\nadd t 0 1\nadd t 0 1\nadd t 0 1\nadd t 0 1\nadd t 0 1\nadd t 0 1\nadd t 0 1234\nend\n";
+
+fn push_hops(text: &mut String, count: usize) -> Result<(), Memory> {
+    for _ in 0..count {
+        text.push_str(FULL_HOP)?;
+    }
+    Ok(())
+}
+
+fn push_programs(text: &mut String) -> Result<(), Memory> {
+    for i in 10..58 {
+        write!(text, "program p{i}\n")?;
+        push_hops(text, 8)?;
+        text.push_str("end\n")?;
+    }
+    Ok(())
+}
+
+fn push_last_program(text: &mut String) -> Result<(), Memory> {
+    text.push_str("program a\n")?;
+    push_hops(text, 5)?;
+    text.push_str(LAST_HOP)?;
+    Ok(())
+}
+
+/// A set text of just as many bytes as one may have.
+fn longest_text(alloc: Global) -> Result<String, Memory> {
+    let mut text = String::from_str(alloc, HEAD)?;
+    push_programs(&mut text)?;
+    push_last_program(&mut text)?;
+    Ok(text)
+}
+
+/// Whether the text is read and printed again as it was.
+fn is_printed_again(alloc: Global, text: &str) -> Result<bool, Memory> {
+    let set = set_of(alloc, text)?;
+    is_printed(alloc, &set, text)
+}
+
+/// Whether it has just as many bytes as a text may have, and is printed again.
+fn longest_is_printed(alloc: Global) -> Result<bool, Memory> {
+    let text = longest_text(alloc)?;
+    Ok(text.len() == MAX_TEXT_BYTES && is_printed_again(alloc, text.as_str())?)
+}
+
+#[test]
+fn the_longest_text_is_a_set(rt: HostRuntime) {
+    holds(&rt, longest_is_printed(rt.alloc()));
 }

@@ -1,0 +1,38 @@
+-- Programs as clusters of nodes.
+use Rattle.std.specs.Prelude.{Bool, true, false, ℕ, List, [], ◌++◌, codes, take, length, if◌then◌else◌}
+use Rattle.std.specs.List.{flat_map, range_with_len}
+use Rattle.std.specs.Option.{option_map_or}
+use Rattle.lynx_words.specs.Lines.{spaced}
+use Rattle.lynx_set.specs.Set.{Set}
+use Rattle.lynx_set.specs.Lookups.{program_at, program_name}
+use Rattle.lynx_draw.specs.declared.edges.Edge.{Edge}
+use Rattle.lynx_draw.specs.Spots.{again_word, is_drawn_twice}
+use Rattle.lynx_draw.specs.Nodes.{drawn_hops}
+
+-- the parameters of a program
+abbrev pub parameters_of : Set → ℕ → List (List ℕ)
+parameters_of set program = option_map_or (λ found. take found.parameters found.names) (program_at set program) []
+
+-- what stands over it: its name and its parameters, or that it is drawn again
+abbrev pub first_label : Set → ℕ → List ℕ
+first_label set program = codes "    label=\"" ++ program_name set program ++ spaced (parameters_of set program) ++ codes "\";\n"
+
+abbrev pub second_label : Set → ℕ → List ℕ
+second_label set program = codes "    style=\"dashed,rounded\"; label=\"" ++ program_name set program ++ codes " (again)\";\n"
+
+abbrev pub cluster_label : Set → ℕ → Bool → List ℕ
+cluster_label set program again = if again then second_label set program else first_label set program
+
+abbrev pub cluster_name : Set → ℕ → Bool → List ℕ
+cluster_name set program again = codes "  subgraph \"cluster " ++ program_name set program ++ again_word again ++ codes "\" {\n"
+
+abbrev pub cluster_text : Set → ℕ → Bool → List ℕ
+cluster_text set program again = cluster_name set program again ++ cluster_label set program again ++ drawn_hops set program again ++ codes "  }\n"
+
+-- a program, and once more where it is drawn twice
+abbrev pub program_text : Set → List Edge → ℕ → List ℕ
+program_text set edges program = cluster_text set program false ++ (if is_drawn_twice edges program then cluster_text set program true else [])
+
+-- all programs
+abbrev pub clusters_text : Set → List Edge → List ℕ
+clusters_text set edges = flat_map (program_text set edges) (range_with_len 0 (length set.programs))

@@ -1,0 +1,47 @@
+-- The hops of a set, and which two of them may conflict.
+use Rattle.std.specs.Prelude.{◌≡◌, ◌≤◌, Bool, ◌&&◌, ℕ, List, [], ◌∷◌, ◌++◌, Contains, Some, map, filter, length, slice_get}
+use Rattle.std.specs.List.{flat_map, range_with_len}
+use Rattle.lynx_set.specs.Set.{Set}
+use Rattle.lynx_set.specs.Lookups.{hops_of, server_at}
+use Rattle.lynx_foot.specs.Feet.{footprint_of}
+use Rattle.lynx_foot.specs.Conflicts.{MayConflict}
+use Rattle.lynx_foot.specs.Tests.{some_may_collide}
+use Rattle.lynx_graph.specs.Tests.{same_server}
+use Rattle.lynx_draw.specs.declared.edges.Place.{Place}
+use Rattle.lynx_draw.specs.declared.edges.Edge.{Edge}
+
+-- whether the hops may conflict
+abbrev pub joins : Set → Place → Place → Bool
+joins set left right =
+    same_server (server_at set left.program left.hop) (server_at set right.program right.hop)
+    && some_may_collide (footprint_of set left.program left.hop) (footprint_of set right.program right.hop)
+
+-- the hops of a program
+abbrev pub places_in : Set → ℕ → List Place
+places_in set program = map (λ hop. record { program = program; hop = hop }) (range_with_len 0 (length (hops_of set program)))
+
+-- all hops, by program and then by number
+abbrev pub places_of : Set → List Place
+places_of set = flat_map (places_in set) (range_with_len 0 (length set.programs))
+
+-- a hop with each of the others that it may conflict with
+abbrev pub edges_from : Set → Place → List Place → List Edge
+edges_from set left others = map (λ right. record { left = left; right = right }) (filter (joins set left) others)
+
+-- of these hops each with itself and with those after it, where the two may conflict
+abbrev pub edges_among : Set → List Place → List Edge
+edges_among set [] = []
+edges_among set (place ∷ places) = edges_from set place (place ∷ places) ++ edges_among set places
+
+-- the pairs of hops of the set that may conflict, the first not after the second, in order
+abbrev pub edges_of : Set → List Edge
+edges_of set = edges_among set (places_of set)
+
+-- the ends of an edge may conflict
+abbrev pub IsConflict : Set → Edge → Type 0
+IsConflict set edge = MayConflict set edge.left.program edge.left.hop edge.right.program edge.right.hop
+
+-- of all hops of the set one and one not before it, where the two may conflict, make an edge of these
+abbrev pub HasConflicts : Set → List Edge → Type 0
+HasConflicts set edges =
+    (i j : ℕ) (edge : Edge) → i ≤ j → slice_get (places_of set) i ≡ Some edge.left → slice_get (places_of set) j ≡ Some edge.right → IsConflict set edge → Contains edges edge

@@ -1,0 +1,9 @@
+pub mod Edges
+pub mod Tables
+pub mod Spots
+pub mod Steps
+pub mod Colours
+pub mod Nodes
+pub mod Clusters
+pub mod Lines
+pub mod Picture

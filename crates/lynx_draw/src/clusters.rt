@@ -1,0 +1,151 @@
+//! Programs as clusters of nodes.
+
+ghost use Rattle.std.specs.Prelude.{◌≡◌, ◌++◌, OnOk};
+ghost use Rattle.lynx_words.specs.Lines.{spaced};
+ghost use Rattle.lynx_set.specs.Lookups.{program_name};
+ghost use Rattle.lynx_draw.specs.Clusters.{cluster_label, cluster_name, cluster_text, clusters_text, first_label, parameters_of, program_text, second_label};
+
+use crate::actions::put_word;
+use crate::edges::{Edge, program_of};
+use crate::nodes::put_hops;
+use crate::spot::is_drawn_twice;
+use lynx_names::{Memory, ProgramId};
+use lynx_set::ChainSet;
+use lynx_words::Name;
+use std::alloc::Global;
+
+/// Writes a space before each name.
+fn put_words(out: &mut Vec<u8>, words: &[Name]) -> Result<(), Memory>
+    ensures { OnOk result (out.new.items ≡ out.old.items ++ spaced words.now) }
+{
+    for word in words {
+        put_word(out, word.as_bytes())?;
+    }
+    Ok(())
+}
+
+/// Writes the names of the program's parameters.
+fn put_parameters(out: &mut Vec<u8>, set: &ChainSet, program: ProgramId) -> Result<(), Memory>
+    ensures { OnOk result (out.new.items ≡ out.old.items
+        ++ spaced (parameters_of set.now program)) }
+{
+    let Some(found) = set.program(program) else {
+        return Ok(());
+    };
+    let names = found.names.as_slice();
+    put_words(out, &names[..found.parameters.min(names.len())])
+}
+
+fn put_program_name(out: &mut Vec<u8>, set: &ChainSet, program: ProgramId) -> Result<(), Memory>
+    ensures { OnOk result (out.new.items ≡ out.old.items ++ program_name set.now program) }
+{
+    out.extend_from_slice(set.program_name(program))?;
+    Ok(())
+}
+
+/// Writes what stands over a program: its name and its parameters.
+fn put_first_label(out: &mut Vec<u8>, set: &ChainSet, program: ProgramId) -> Result<(), Memory>
+    ensures { OnOk result (out.new.items ≡ out.old.items ++ first_label set.now program) }
+{
+    out.extend_from_slice(b"    label=\"".as_slice())?;
+    put_program_name(out, set, program)?;
+    put_parameters(out, set, program)?;
+    out.extend_from_slice(b"\";\n".as_slice())?;
+    Ok(())
+}
+
+/// Writes what stands over a program that is drawn again.
+fn put_second_label(out: &mut Vec<u8>, set: &ChainSet, program: ProgramId) -> Result<(), Memory>
+    ensures { OnOk result (out.new.items ≡ out.old.items ++ second_label set.now program) }
+{
+    out.extend_from_slice(b"    style=\"dashed,rounded\"; label=\"".as_slice())?;
+    put_program_name(out, set, program)?;
+    out.extend_from_slice(b" (again)\";\n".as_slice())?;
+    Ok(())
+}
+
+fn put_cluster_label(
+    out: &mut Vec<u8>,
+    set: &ChainSet,
+    program: ProgramId,
+    again: bool,
+) -> Result<(), Memory>
+    ensures { OnOk result (out.new.items ≡ out.old.items
+        ++ cluster_label set.now program again) }
+{
+    if again {
+        put_second_label(out, set, program)
+    } else {
+        put_first_label(out, set, program)
+    }
+}
+
+/// Writes the first line of a cluster.
+fn put_cluster_name(
+    out: &mut Vec<u8>,
+    set: &ChainSet,
+    program: ProgramId,
+    again: bool,
+) -> Result<(), Memory>
+    ensures { OnOk result (out.new.items ≡ out.old.items
+        ++ cluster_name set.now program again) }
+{
+    out.extend_from_slice(b"  subgraph \"cluster ".as_slice())?;
+    put_program_name(out, set, program)?;
+    if again {
+        put_word(out, b"again")?;
+    }
+    out.extend_from_slice(b"\" {\n".as_slice())?;
+    Ok(())
+}
+
+fn put_cluster(
+    alloc: Global,
+    out: &mut Vec<u8>,
+    set: &ChainSet,
+    program: ProgramId,
+    again: bool,
+) -> Result<(), Memory>
+    ensures { OnOk result (out.new.items ≡ out.old.items
+        ++ cluster_text set.now program again) }
+{
+    put_cluster_name(out, set, program, again)?;
+    put_cluster_label(out, set, program, again)?;
+    put_hops(alloc, out, set, program, again)?;
+    out.extend_from_slice(b"  }\n".as_slice())?;
+    Ok(())
+}
+
+/// Writes a program once or twice.
+fn put_program(
+    alloc: Global,
+    out: &mut Vec<u8>,
+    set: &ChainSet,
+    edges: &[Edge],
+    program: ProgramId,
+) -> Result<(), Memory>
+    ensures { OnOk result (out.new.items ≡ out.old.items
+        ++ program_text set.now edges.now program) }
+{
+    put_cluster(alloc, out, set, program, false)?;
+    if is_drawn_twice(edges, program) {
+        put_cluster(alloc, out, set, program, true)?;
+    }
+    Ok(())
+}
+
+/// Writes the programs of a set of which these hops may conflict.
+pub(crate) fn put_clusters(
+    alloc: Global,
+    out: &mut Vec<u8>,
+    set: &ChainSet,
+    edges: &[Edge],
+) -> Result<(), Memory>
+    ensures { OnOk result (out.new.items ≡ out.old.items
+        ++ clusters_text set.now edges.now) }
+{
+    for number in 0..set.programs().len() {
+        put_program(alloc, out, set, edges, program_of(number))?;
+    }
+    Ok(())
+}

@@ -1,0 +1,16 @@
+//! A picture of a set of chain programs, as a graph that Graphviz draws.
+#![tactic(auto)]
+
+pub use edges::{Edge, Place, conflict_edges};
+pub use picture::draw;
+
+mod actions;
+mod clusters;
+mod colours;
+pub mod edges;
+mod lines;
+mod nodes;
+pub mod picture;
+mod spot;
+mod steps;
+mod tables;

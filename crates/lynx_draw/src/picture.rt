@@ -1,0 +1,73 @@
+//! The whole picture.
+
+ghost use Rattle.std.specs.Prelude.{◌≡◌, ◌++◌, IfOk, OnOk};
+ghost use Rattle.lynx_draw.specs.Picture.{caption, picture_of, steps_in};
+
+use crate::clusters::put_clusters;
+use crate::edges::{Edge, conflict_edges};
+use crate::lines::{put_conflicts, put_steps};
+use crate::steps::{Step, steps_of};
+use lynx_graph::Verdict;
+use lynx_names::{Items, Memory};
+use lynx_set::ChainSet;
+use std::alloc::Global;
+
+/// How all of it is drawn.
+const HEAD: &[u8] =
+    b"digraph lynx {\n  graph [fontname=\"Helvetica\", fontsize=12, style=rounded, labeljust=l, newrank=true, nodesep=0.4, ranksep=0.6];\n  node [shape=box, style=filled, fontname=\"Helvetica\", fontsize=11];\n  edge [fontname=\"Helvetica\", fontsize=10];\n";
+
+/// The verdict, at the beginning of what stands below the picture.
+const ACCEPTED: &[u8] = b"  label=\"accepted\\l";
+
+const OFFENDING: &[u8] =
+    b"  label=\"offending: by the red steps in their order, each chain may come before the next, all the way round.\\l";
+
+/// The rest of what stands below: how to read the picture.
+const LEGEND: &[u8] =
+    b"Solid arrows lead to the next hop. Dashed lines join hops that may conflict, in the tables named.\\lWhere two chains of one program may conflict, it is drawn again. Each server has its colour.\\l\";\n";
+
+/// How conflicts are drawn.
+const CONFLICTS: &[u8] = b"  edge [style=dashed, dir=none];\n";
+
+/// How the steps of a walk are drawn.
+const STEPS: &[u8] =
+    b"  edge [dir=forward, penwidth=2, color=\"#cc0000\", fontcolor=\"#cc0000\", fontsize=12];\n";
+
+fn caption(verdict: &Verdict) -> &'static [u8]
+    ensures { result.now ≡ caption verdict.now }
+{
+    match verdict {
+        Verdict::Accepted(_) => ACCEPTED,
+        Verdict::Offending(_) => OFFENDING,
+    }
+}
+
+/// The steps of the walk that is given, none of an accepted set.
+fn steps_in(alloc: Global, edges: &[Edge], verdict: &Verdict) -> Result<Items<Step>, Memory>
+    ensures { IfOk result (λ steps. steps ≡ steps_in edges.now verdict.now) }
+{
+    match verdict {
+        Verdict::Accepted(_) => Ok(Items::new(alloc)),
+        Verdict::Offending(walk) => steps_of(alloc, edges, walk.as_slice()),
+    }
+}
+
+/// The picture of a set and of the verdict on it, as a text that Graphviz's `dot` reads. Its length grows with the
+/// square of the count of hops. The only error is that a growth was refused.
+pub fn draw(alloc: Global, set: &ChainSet, verdict: &Verdict) -> Result<Vec<u8>, Memory>
+    ensures { IfOk result (λ text. text.items ≡ picture_of set.now verdict.now) }
+{
+    let edges = conflict_edges(alloc, set)?;
+    let steps = steps_in(alloc, edges.as_slice(), verdict)?;
+    let mut out = Vec::new(alloc);
+    out.extend_from_slice(HEAD)?;
+    out.extend_from_slice(caption(verdict))?;
+    out.extend_from_slice(LEGEND)?;
+    put_clusters(alloc, &mut out, set, edges.as_slice())?;
+    out.extend_from_slice(CONFLICTS)?;
+    put_conflicts(alloc, &mut out, set, edges.as_slice(), steps.as_slice())?;
+    out.extend_from_slice(STEPS)?;
+    put_steps(alloc, &mut out, set, steps.as_slice())?;
+    out.extend_from_slice(b"}\n".as_slice())?;
+    Ok(out)
+}

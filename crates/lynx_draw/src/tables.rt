@@ -1,0 +1,96 @@
+//! The tables at which two hops may conflict.
+
+ghost use Rattle.std.specs.Prelude.{◌≡◌, ◌++◌, ◌==◌, ◌&&◌, IfOk, OnOk};
+ghost use Rattle.std.specs.List.{list_any};
+ghost use Rattle.lynx_foot.specs.Tests.{may_collide, may_meet};
+ghost use Rattle.lynx_draw.specs.Tables.{listed, met_at, listed_after, tables_met};
+
+use crate::edges::Place;
+use lynx_foot::{Foot, footprint};
+use lynx_names::Memory;
+use lynx_set::{ChainSet, Key, Name};
+use std::alloc::Global;
+
+/// Whether the keys aren't two different literals.
+fn keys_may_meet(left: Key, right: Key) -> bool
+    ensures { result ≡ may_meet left right }
+{
+    match (left, right) {
+        (Key::Literal(left), Key::Literal(right)) => left == right,
+        _ => true,
+    }
+}
+
+/// Whether the feet collide with some arguments.
+fn feet_may_collide(left: Foot, right: Foot) -> bool
+    ensures { result ≡ may_collide left right }
+{
+    left.table == right.table
+        && keys_may_meet(left.key, right.key)
+        && !left.kind.commutes(right.kind)
+}
+
+/// Whether the foot may collide with one of the others.
+fn collides_with_any(left: Foot, rights: &[Foot]) -> bool
+    ensures { result ≡ list_any (may_collide left) rights.now }
+{
+    rights.iter().any(|right| feet_may_collide(left, *right))
+}
+
+/// Whether the foot is of the table of that number, and may collide with one of the others.
+fn collides_at(left: Foot, rights: &[Foot], table: usize) -> bool
+    ensures { result ≡ (left.table == table && list_any (may_collide left) rights.now) }
+{
+    left.table.index() == table && collides_with_any(left, rights)
+}
+
+/// Whether two feet may collide in the table of that number.
+fn met_at(lefts: &[Foot], rights: &[Foot], table: usize) -> bool
+    ensures { result ≡ met_at lefts.now rights.now table }
+{
+    lefts.iter().any(|left| collides_at(*left, rights, table))
+}
+
+/// The names of the tables in which the hops may collide, in the order of the set.
+pub(crate) fn tables_met(
+    alloc: Global,
+    set: &ChainSet,
+    left: &Place,
+    right: &Place,
+) -> Result<Vec<Name>, Memory>
+    ensures { IfOk result (λ names. names.items ≡ tables_met set.now left.now right.now) }
+{
+    let lefts = footprint(alloc, set, left.program, left.hop)?;
+    let rights = footprint(alloc, set, right.program, right.hop)?;
+    let names = set
+        .tables()
+        .as_slice()
+        .iter()
+        .enumerate()
+        .filter(|(table, _)| met_at(lefts.as_slice(), rights.as_slice(), *table))
+        .map(|(_, name)| *name)
+        .collect(alloc)?;
+    Ok(names)
+}
+
+/// Writes each name after a comma.
+fn put_listed_after(out: &mut Vec<u8>, names: &[Name]) -> Result<(), Memory>
+    ensures { OnOk result (out.new.items ≡ out.old.items ++ listed_after names.now) }
+{
+    for name in names {
+        out.extend_from_slice(b", ".as_slice())?;
+        out.extend_from_slice(name.as_bytes())?;
+    }
+    Ok(())
+}
+
+/// Writes the names with commas between them.
+pub(crate) fn put_listed(out: &mut Vec<u8>, names: &[Name]) -> Result<(), Memory>
+    ensures { OnOk result (out.new.items ≡ out.old.items ++ listed names.now) }
+{
+    let [first, rest @ ..] = names else {
+        return Ok(());
+    };
+    out.extend_from_slice(first.as_bytes())?;
+    put_listed_after(out, rest)
+}

@@ -9,6 +9,8 @@ use thiserror::Error;
 pub enum Job<'a> {
     /// Judge the set of a file.
     Check { set: &'a str },
+    /// Draw the set of a file, with the verdict on it.
+    Draw { set: &'a str },
     /// Run the script of the second file over the set of the first.
     Run { set: &'a str, script: &'a str },
     /// Run the script of standard input over the set that stands before it.

@@ -14,16 +14,29 @@ const STATUSES: &str =
 const FAULTS: &str =
     "A faulty text is told with its line and one of these words: too-long, bad-version, bad-line,\nbad-name, bad-number, repeated, unknown, need-not-first, limit-passed, literal-elsewhere,\nshard-gap, shard-overlap, shard-server.";
 
-fn check_command<'a>(alloc: Global) -> Result<Command<'a>, AllocError> {
-    let set = Arg::new(alloc, "SET")
+/// The set of a command that reads files alone.
+fn set_file<'a>(alloc: Global) -> Arg<'a> {
+    Arg::new(alloc, "SET")
         .required(true)
-        .help("The file of the set's text; - is a file of that name");
+        .help("The file of the set's text; - is a file of that name")
+}
+
+fn check_command<'a>(alloc: Global) -> Result<Command<'a>, AllocError> {
     Command::new(alloc, "check")
         .about("Judge a set of chain programs")
         .after_help(
             "Status 0 where the set is accepted, 1 where it offends.\nExample: lynx check payment.set",
         )
-        .arg(set)
+        .arg(set_file(alloc))
+}
+
+fn draw_command<'a>(alloc: Global) -> Result<Command<'a>, AllocError> {
+    Command::new(alloc, "draw")
+        .about("Draw a set of chain programs, in the DOT language of Graphviz")
+        .after_help(
+            "Dashed lines join hops that may conflict, red steps are those by which the set offends.\nStatus 0 where the set is accepted, 1 where it offends: it is drawn all the same.\nExample: lynx draw payment.set | dot -Tsvg > payment.svg",
+        )
+        .arg(set_file(alloc))
 }
 
 fn run_command<'a>(alloc: Global) -> Result<Command<'a>, AllocError> {
@@ -42,7 +55,7 @@ fn run_command<'a>(alloc: Global) -> Result<Command<'a>, AllocError> {
 fn bare_command<'a>(alloc: Global) -> Command<'a> {
     Command::new(alloc, "lynx")
         .version("0.1.0")
-        .about("Judges sets of chain programs, and runs scripts over them")
+        .about("Judges and draws sets of chain programs, and runs scripts over them")
         .before_help(FAULTS)
         .after_help(STATUSES)
 }
@@ -51,13 +64,18 @@ fn with_check<'a>(alloc: Global, command: Command<'a>) -> Result<Command<'a>, Al
     command.subcommand(check_command(alloc)?)
 }
 
+fn with_draw<'a>(alloc: Global, command: Command<'a>) -> Result<Command<'a>, AllocError> {
+    command.subcommand(draw_command(alloc)?)
+}
+
 fn with_run<'a>(alloc: Global, command: Command<'a>) -> Result<Command<'a>, AllocError> {
     command.subcommand(run_command(alloc)?)
 }
 
 /// The program's command line. No words at all are read as `run -`.
 pub fn command<'a>(alloc: Global) -> Result<Command<'a>, AllocError> {
-    with_run(alloc, with_check(alloc, bare_command(alloc))?)
+    let command = with_check(alloc, bare_command(alloc))?;
+    with_run(alloc, with_draw(alloc, command)?)
 }
 
 /// What the words ask for.
@@ -71,6 +89,7 @@ pub fn job_of<'a>(matches: &ArgMatches<'a>) -> Result<Job<'a>, CommandFault>
     let set = words.get_str("SET").unwrap_or(INPUT);
     match name {
         "check" => Ok(Job::Check { set }),
+        "draw" => Ok(Job::Draw { set }),
         "run" => job_of_run(set, words.get_str("SCRIPT")),
         _ => Err(CommandFault::NoCommand),
     }

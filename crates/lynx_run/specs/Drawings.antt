@@ -1,0 +1,40 @@
+-- What the picture of a set is, as it is written.
+use Rattle.std.specs.Prelude.{◌≡◌, ◌≢◌, ℕ, List}
+use Rattle.lynx_graph.specs.declared.verdict.Verdict.{Verdict}
+use Rattle.lynx_graph.specs.declared.verdict.Verdict.TheVariants.{Accepted as AcceptedVerdict, Offending as OffendingVerdict}
+use Rattle.lynx_graph.specs.Verdicts.{Judges}
+use Rattle.lynx_set.specs.Rules.{IsSet}
+use Rattle.lynx_set.specs.Set.{Set}
+use Rattle.lynx_set.specs.Text.{text_of}
+use Rattle.lynx_draw.specs.Picture.{picture_of}
+use Rattle.lynx_run.specs.declared.run.RunFault.{RunFault}
+use Rattle.lynx_run.specs.declared.run.RunFault.TheVariants.{Set as SetFault, Script as ScriptFault, Write, Memory}
+use Rattle.lynx_run.specs.declared.verdict.Finding.{Finding}
+use Rattle.lynx_run.specs.declared.verdict.Finding.TheVariants.{Accepted, Offending}
+use Rattle.lynx_words.specs.declared.fault.FaultKind.TheVariants.{Memory as NoMemory}
+use Rattle.lynx_run.specs.Runs.{IsNoSet}
+
+-- what a verdict finds
+abbrev pub finding_of : Verdict → Finding
+finding_of (AcceptedVerdict own) = Accepted
+finding_of (OffendingVerdict walk) = Offending
+
+-- the picture shows the set and a verdict on it, and the finding is the verdict's
+abbrev pub IsDrawing : Set → Finding → List ℕ → Type 0
+IsDrawing chains finding picture =
+    (verdict : Verdict) × Judges chains verdict × (finding ≡ finding_of verdict) × (picture ≡ picture_of chains verdict)
+
+-- what is found of a set text, and its picture
+pub record Draws (text : List ℕ) (finding : Finding) (picture : List ℕ) : Type 0 where
+  pub chains : Set
+  pub is_set : IsSet chains
+  pub spelled : text ≡ text_of chains
+  pub drawing : IsDrawing chains finding picture
+
+-- why no picture comes: a faulty text, and want of memory, are told before anything is written, and a text's fault is
+-- never want of memory
+abbrev pub NoPictureFor : List ℕ → Type 0 → RunFault → Type 0
+NoPictureFor set unwritten (SetFault fault) = IsNoSet set × unwritten × (fault.kind ≢ NoMemory)
+NoPictureFor set unwritten (ScriptFault fault) = ⊥
+NoPictureFor set unwritten Write = Unit {0}
+NoPictureFor set unwritten Memory = unwritten

@@ -1,0 +1,54 @@
+//! The picture of a set, as it is written: docs/FORMATS.md has its lines.
+ghost use Rattle.std.specs.Prelude.{◌≡◌, ℕ, List, OnOk, IfOk, IfErr};
+ghost use Rattle.std.specs.Io.KnownBytes.{Appends, Keeps};
+ghost use Rattle.lynx_run.specs.Drawings.{finding_of, Draws, IsDrawing, NoPictureFor};
+
+use crate::run::{RunFault, read_set};
+use crate::verdict::Finding;
+use lynx_draw::draw;
+use lynx_graph::{Verdict, check};
+use lynx_names::Memory;
+use lynx_set::ChainSet;
+use std::alloc::Global;
+use std::io::Write;
+
+/// Judges a set text, and writes the picture of the set and of its verdict. `RunFault::Script` is never its fault.
+/// The whole picture is made before any of it is written: in memory it takes the square of the count of hops.
+pub fn draw_text<W: Write>(alloc: Global, set: &[u8], writer: &mut W) -> Result<Finding, RunFault>
+    ensures ok { IfOk result (λ finding. (picture : List ℕ) × Draws set.now finding picture
+        × Appends (W.contents writer.old) (W.contents writer.new) picture) }
+    ensures err { IfErr result (λ fault. NoPictureFor set.now (Keeps (W.contents writer.old)
+        (W.contents writer.new)) fault) }
+{
+    let set = read_set(alloc, set)?;
+    let (finding, picture) = drawing_of(alloc, &set)?;
+    write_picture(writer, picture.as_slice())?;
+    Ok(finding)
+}
+
+/// What is found of a set, and its picture.
+fn drawing_of(alloc: Global, set: &ChainSet) -> Result<(Finding, Vec<u8>), Memory>
+    ensures { IfOk result (λ drawn. IsDrawing set.now drawn.0 drawn.1.items) }
+{
+    let verdict = check(alloc, set)?;
+    let picture = draw(alloc, set, &verdict)?;
+    Ok((finding_of(&verdict), picture))
+}
+
+/// Writes all of a picture.
+fn write_picture<W: Write>(writer: &mut W, picture: &[u8]) -> Result<(), RunFault>
+    ensures written { OnOk result (Appends (W.contents writer.old) (W.contents writer.new)
+        picture.now) }
+    ensures failed { IfErr result (λ fault. fault ≡ RunFault.Write) }
+{
+    writer.write_all(picture).map_err(|_| RunFault::Write)
+}
+
+fn finding_of(verdict: &Verdict) -> Finding
+    ensures { result ≡ finding_of verdict.now }
+{
+    match verdict {
+        Verdict::Accepted(_) => Finding::Accepted,
+        Verdict::Offending(_) => Finding::Offending,
+    }
+}

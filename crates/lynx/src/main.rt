@@ -1,4 +1,4 @@
-//! `lynx`: judges sets of chain programs, and runs scripts over them.
+//! `lynx`: judges and draws sets of chain programs, and runs scripts over them.
 #![tactic(auto)]
 
 use clap::error::ErrorKind;

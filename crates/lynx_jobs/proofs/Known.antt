@@ -1,13 +1,32 @@
--- A run of two sources, where the bytes of both are known.
-use Rattle.std.proofs.Common.{◌≡◌, ℕ, List, Option, Some, None, sym, ◌∙◌, subst}
+-- What is done with sources whose bytes are known.
+use Rattle.std.proofs.Common.{◌≡◌, ℕ, List, Option, Some, None, ◌∙◌, subst}
 use Rattle.std.specs.Prelude.{Result, Ok, Err, IfOk, IfSome, take}
 use Rattle.lynx_input.specs.declared.source.TheConstants.{MAX_FILE_BYTES}
-use Rattle.lynx_jobs.specs.Done.{HasRun, HasRunTexts}
+use Rattle.std.specs.Io.KnownBytes.{Appends}
+use Rattle.lynx_run.specs.declared.verdict.Finding.{Finding}
+use Rattle.lynx_run.specs.Drawings.{Draws}
+use Rattle.lynx_jobs.specs.Done.{HasDrawn, HasRun, HasRunTexts}
+use Rattle.lynx_jobs.specs.Statuses.{status_of_finding}
 
 -- the front of a source, as far as a text may reach
 abbrev pub IsFront : List ℕ → Option (List ℕ) → Type 0
 IsFront text known = IfSome known (λ bytes. text ≡ take MAX_FILE_BYTES bytes)
 
+-- a picture of one source
+pub drawn_known : (known : Option (List ℕ)) (text slice : List ℕ) (old new : Option (List ℕ)) (finding : Finding) (status : ℕ) →
+    IsFront text known → slice ≡ text → status ≡ status_of_finding finding →
+    (picture : List ℕ) × Draws slice finding picture × Appends old new picture →
+    IfSome known (λ bytes. HasDrawn bytes old new status)
+drawn_known None text slice old new finding status front same status_is drawn = front
+drawn_known (Some bytes) text slice old new finding status front same status_is drawn = record {
+  finding = finding;
+  picture = drawn.0;
+  draws = subst (λ (read : List ℕ). Draws read finding drawn.0) (same ∙ front) drawn.1;
+  written = drawn.2;
+  status_is = status_is;
+}
+
+-- a run of two
 both_known : (set script set_source script_source : List ℕ) (old new : Option (List ℕ)) (status : ℕ) →
     set ≡ take MAX_FILE_BYTES set_source → script ≡ take MAX_FILE_BYTES script_source → HasRunTexts set script old new status →
     HasRun set_source script_source old new status

@@ -6,6 +6,7 @@ use Rattle.lynx_input.specs.Inputs.{IsCut}
 use Rattle.lynx_run.specs.declared.run.Ending.{Ending}
 use Rattle.lynx_run.specs.declared.verdict.Finding.{Finding}
 use Rattle.lynx_run.specs.Checks.{Finds}
+use Rattle.lynx_run.specs.Drawings.{Draws}
 use Rattle.lynx_run.specs.Runs.{Prints}
 use Rattle.lynx_jobs.specs.Statuses.{status_of_finding, status_of_ending}
 
@@ -15,6 +16,14 @@ pub record HasChecked (source : List ℕ) (old new : Option (List ℕ)) (status 
   pub printed : List ℕ
   pub finds : Finds (take MAX_FILE_BYTES source) finding printed
   pub written : Appends old new printed
+  pub status_is : status ≡ status_of_finding finding
+
+-- the picture of the set that the source begins with is written, and the status is that of the verdict drawn in it
+pub record HasDrawn (source : List ℕ) (old new : Option (List ℕ)) (status : ℕ) : Type 0 where
+  pub finding : Finding
+  pub picture : List ℕ
+  pub draws : Draws (take MAX_FILE_BYTES source) finding picture
+  pub written : Appends old new picture
   pub status_is : status ≡ status_of_finding finding
 
 -- the lines of a run of this script over this set are written, and the status is that of its ending

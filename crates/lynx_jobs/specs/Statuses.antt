@@ -18,7 +18,7 @@ status_of (Run (ScriptFault fault)) = 2
 status_of (Run Write) = 4
 status_of (Run Memory) = 3
 
--- of a check: 0 where the set is accepted, 1 where it offends
+-- of a check and of a picture: 0 where the set is accepted, 1 where it offends
 abbrev pub status_of_finding : Finding → ℕ
 status_of_finding Accepted = 0
 status_of_finding Offending = 1

@@ -3,7 +3,7 @@ ghost use Rattle.std.specs.Prelude.{◌≡◌, Ok, Err};
 ghost use Rattle.lynx_jobs.specs.Statuses.{finished_as};
 
 use crate::fault::Fault;
-use crate::texts::{check_source, read_text, run_input, run_sources};
+use crate::texts::{check_source, draw_source, read_text, run_input, run_sources};
 use lynx_command::{INPUT, Job};
 use lynx_input::InputFault;
 use lynx_run::RunFault;
@@ -22,6 +22,7 @@ pub fn do_job<'a, R: Input + Files + Print + AllocGlobal>(
     };
     let done = match job {
         Job::Check { set } => check_file(rt, set, &mut writer),
+        Job::Draw { set } => draw_file(rt, set, &mut writer),
         Job::Run { set, script } => run_files(rt, set, script, &mut writer),
         Job::RunInput => run_input(rt.alloc(), INPUT, &mut rt.reader(), &mut writer),
     };
@@ -49,6 +50,18 @@ fn check_file<'a, R: Files + AllocGlobal, W: Write>(
         return Err(Fault::of_reading(set, InputFault::Read));
     };
     check_source(rt.alloc(), set, &mut file, writer)
+}
+
+/// Draws the set of a file.
+fn draw_file<'a, R: Files + AllocGlobal, W: Write>(
+    rt: &R,
+    set: &'a str,
+    writer: &mut W,
+) -> Result<u8, Fault<'a>> {
+    let Ok(mut file) = fs::open(rt, set) else {
+        return Err(Fault::of_reading(set, InputFault::Read));
+    };
+    draw_source(rt.alloc(), set, &mut file, writer)
 }
 
 /// Runs the script of a file over the set of another.

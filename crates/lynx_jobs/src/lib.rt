@@ -3,7 +3,7 @@
 
 pub use fault::Fault;
 pub use jobs::do_job;
-pub use texts::{check_source, run_input, run_sources};
+pub use texts::{check_source, draw_source, run_input, run_sources};
 
 pub mod fault;
 pub mod jobs;

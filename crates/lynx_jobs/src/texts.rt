@@ -2,11 +2,11 @@
 ghost use Rattle.std.specs.Prelude.{◌≡◌, IfOk, IfErr, IfSome, Ok, Err, take};
 ghost use Rattle.lynx_input.specs.declared.source.TheConstants.{MAX_FILE_BYTES};
 ghost use Rattle.lynx_jobs.specs.Statuses.{status_of_ending, status_of_finding};
-ghost use Rattle.lynx_jobs.specs.Done.{HasChecked, HasRun, HasRunInput, HasRunTexts};
+ghost use Rattle.lynx_jobs.specs.Done.{HasChecked, HasDrawn, HasRun, HasRunInput, HasRunTexts};
 
 use crate::fault::Fault;
 use lynx_input::{MAX_FILE_BYTES, MAX_INPUT_BYTES, read_all, split_input};
-use lynx_run::{Ending, Finding, check_text, run_texts};
+use lynx_run::{Ending, Finding, check_text, draw_text, run_texts};
 use std::alloc::Global;
 use std::io::{Read, Write};
 
@@ -16,7 +16,7 @@ const DONE: u8 = 0;
 /// The status of an offending set, and of a run that ends with a cycle.
 const OFFENDING: u8 = 1;
 
-/// The status of a check.
+/// The status of a check and of a picture.
 fn status_of_finding(finding: Finding) -> u8
     ensures { result ≡ status_of_finding finding }
 {
@@ -63,6 +63,23 @@ pub fn check_source<'a, R: Read, W: Write>(
 {
     let text = read_text(alloc, name, source)?;
     match check_text(alloc, text.as_slice(), writer) {
+        Ok(finding) => Ok(status_of_finding(finding)),
+        Err(fault) => Err(Fault::Run(fault)),
+    }
+}
+
+/// Judges the set of a source, writes its picture and gives the status of the verdict.
+pub fn draw_source<'a, R: Read, W: Write>(
+    alloc: Global,
+    name: &'a str,
+    source: &mut R,
+    writer: &mut W,
+) -> Result<u8, Fault<'a>>
+    ensures { IfOk result (λ status. IfSome (R.remaining source.old) (λ bytes.
+        HasDrawn bytes (W.contents writer.old) (W.contents writer.new) status)) }
+{
+    let text = read_text(alloc, name, source)?;
+    match draw_text(alloc, text.as_slice(), writer) {
         Ok(finding) => Ok(status_of_finding(finding)),
         Err(fault) => Err(Fault::Run(fault)),
     }

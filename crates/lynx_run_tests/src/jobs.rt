@@ -1,6 +1,6 @@
 //! Each job from sources in memory, with ample memory.
 use lynx_command::{Job, command, job_of};
-use lynx_jobs::{check_source, run_input, run_sources};
+use lynx_jobs::{check_source, draw_source, run_input, run_sources};
 use lynx_samples::rows::PAYMENT;
 use lynx_samples::texts::PAY_AND_NOTE;
 use std::alloc::Global;
@@ -16,6 +16,18 @@ fn status_of_check(alloc: Global, text: &str) -> Option<u8> {
 fn a_check_has_the_status_of_its_verdict(rt: HostRuntime) {
     assert_eq!(rt; status_of_check(rt.alloc(), PAYMENT.set), Some(0));
     assert_eq!(rt; status_of_check(rt.alloc(), PAY_AND_NOTE), Some(1));
+}
+
+/// The status of a picture of the text.
+fn status_of_picture(alloc: Global, text: &str) -> Option<u8> {
+    let mut picture = Vec::new(alloc);
+    draw_source(alloc, "set", &mut text.as_bytes(), &mut picture).ok()
+}
+
+#[test]
+fn a_picture_has_the_status_of_its_verdict(rt: HostRuntime) {
+    assert_eq!(rt; status_of_picture(rt.alloc(), PAYMENT.set), Some(0));
+    assert_eq!(rt; status_of_picture(rt.alloc(), PAY_AND_NOTE), Some(1));
 }
 
 /// Whether the payment runs, and prints its lines.
@@ -56,5 +68,6 @@ fn ask_for(alloc: Global, words: &[&str], want: Job) -> Result<bool, Fail> {
 fn words_ask_for_jobs(rt: HostRuntime) -> Result<(), Fail> {
     assert!(rt; ask_for(rt.alloc(), &["lynx"], Job::RunInput)?);
     assert!(rt; ask_for(rt.alloc(), &["lynx", "check", "a"], Job::Check { set: "a" })?);
+    assert!(rt; ask_for(rt.alloc(), &["lynx", "draw", "a"], Job::Draw { set: "a" })?);
     Ok(())
 }

@@ -1,5 +1,5 @@
-//! Writers that fail, at each line of a run and of a verdict.
-use lynx_run::{Ending, Finding, RunFault, check_text, run_texts};
+//! Writers that fail, at each line of a run and of a verdict, and at a picture.
+use lynx_run::{Ending, Finding, RunFault, check_text, draw_text, run_texts};
 use lynx_samples::full::Full;
 use lynx_samples::rows::PAYMENT;
 use lynx_samples::texts::PAY_AND_NOTE;
@@ -50,4 +50,20 @@ fn a_broken_pipe_ends_the_verdict(rt: HostRuntime) {
 #[test]
 fn a_whole_verdict_is_written(rt: HostRuntime) {
     assert!(rt; found_in(rt.alloc(), 4) == Ok(Finding::Offending));
+}
+
+/// What is found where so many pictures can be written.
+fn drawn_in(alloc: Global, left: usize) -> Result<Finding, RunFault> {
+    let mut writer = Full { left };
+    draw_text(alloc, PAY_AND_NOTE.as_bytes(), &mut writer)
+}
+
+#[test]
+fn a_broken_pipe_ends_the_picture(rt: HostRuntime) {
+    assert!(rt; drawn_in(rt.alloc(), 0) == Err(RunFault::Write));
+}
+
+#[test]
+fn a_whole_picture_is_written(rt: HostRuntime) {
+    assert!(rt; drawn_in(rt.alloc(), 1) == Ok(Finding::Offending));
 }

@@ -1,0 +1,124 @@
+#!/usr/bin/env python3
+"""tests/reference_picture.py SET: the picture of the set text in a file, by a plain reading of docs/FORMATS.md that was
+written apart from the program; the verdict on the set is that of tests/reference.py. What it prints for a set is what
+a case of `lynx draw` expects, and tests/random compares the program with it."""
+import os
+import sys
+
+sys.path.insert(0, os.path.dirname(os.path.abspath(__file__)))
+sys.dont_write_bytecode = True
+import reference
+
+COLOURS = ["#99ddff", "#eedd88", "#bbcc33", "#ffaabb", "#77aadd", "#ee8866", "#44bb99", "#dddddd",
+           "#cceeff", "#eeeebb", "#ccddaa", "#ffcccc", "#bbccee", "#e8cdef", "#aaaa00", "#ffffff"]
+HEAD = """digraph lynx {
+  graph [fontname="Helvetica", fontsize=12, style=rounded, labeljust=l, newrank=true, nodesep=0.4, ranksep=0.6];
+  node [shape=box, style=filled, fontname="Helvetica", fontsize=11];
+  edge [fontname="Helvetica", fontsize=10];
+"""
+ACCEPTED = "accepted\\l"
+OFFENDING = "offending: by the red steps in their order, each chain may come before the next, all the way round.\\l"
+LEGEND = ("Solid arrows lead to the next hop. Dashed lines join hops that may conflict, in the tables named.\\l"
+          "Where two chains of one program may conflict, it is drawn again. Each server has its colour.\\l")
+CONFLICTS = "  edge [style=dashed, dir=none];\n"
+STEPS = '  edge [dir=forward, penwidth=2, color="#cc0000", fontcolor="#cc0000", fontsize=12];\n'
+
+
+def places(chains):
+    """Each hop of the set, as a pair of its program and its number."""
+    return [(program, hop) for program in chains.programs for hop in range(len(chains.hops(program)))]
+
+
+def touches_of(chains, place):
+    """The table, the key word and the kind of each touch of a hop."""
+    return list(filter(None, (reference.touch_of(action) for action in chains.hops(place[0])[place[1]][1])))
+
+
+def may_meet(left, right):
+    """Whether two touches may be of one cell, and don't commute."""
+    are_apart = left[1][0].isdigit() and right[1][0].isdigit() and left[1] != right[1]
+    return left[0] == right[0] and not are_apart and not reference.commute(left[2], right[2])
+
+
+def tables_met(chains, left, right):
+    """The tables at which two hops may conflict, in the order of the set."""
+    if chains.hops(left[0])[left[1]][0] != chains.hops(right[0])[right[1]][0]:
+        return []
+    pairs = [(a, b) for a in touches_of(chains, left) for b in touches_of(chains, right)]
+    return [table for table in chains.tables if any(a[0] == table and may_meet(a, b) for a, b in pairs)]
+
+
+def conflicts(chains):
+    """The pairs of hops that may conflict, the one that comes first in the set first."""
+    found = places(chains)
+    return [(left, right) for number, left in enumerate(found) for right in found[number:]
+            if tables_met(chains, left, right)]
+
+
+def node(place, again):
+    return f'"{place[0]} {place[1]}{" again" if again else ""}"'
+
+
+def cluster(chains, program, again):
+    """A program, or the program drawn again."""
+    label = f'style="dashed,rounded"; label="{program} (again)"' if again else \
+        f'label="{" ".join([program] + chains.programs[program]["parameters"])}"'
+    lines = [f'  subgraph "cluster {program}{" again" if again else ""}" {{', f"    {label};"]
+    for hop, (server, actions) in enumerate(chains.hops(program)):
+        words = "".join(" ".join(action) + "\\l" for action in actions)
+        lines.append(f'    {node((program, hop), again)} [label="hop {hop} at server {server}\\n{words}", '
+                     f'fillcolor="{COLOURS[server]}"];')
+        if hop:
+            lines.append(f"    {node((program, hop - 1), again)} -> {node((program, hop), again)};")
+    return lines + ["  }"]
+
+
+def steps(walk, drawn_twice):
+    """The steps of a walk of conflict edges: from where, to where, and whether by a conflict. A visit is left by the
+    beginning of an edge, and was entered by the end of the edge before."""
+    visits = []
+    for number, (left, _) in enumerate(walk):
+        again = left[0] in drawn_twice and any(earlier[0] == left[0] for earlier, _ in walk[:number])
+        visits.append(((walk[number - 1][1], again), (left, again)))
+    found = []
+    for number, (_, left) in enumerate(visits):
+        entered, left_next = visits[(number + 1) % len(visits)]
+        found.append((left, entered, True))
+        if entered != left_next:
+            found.append((entered, left_next, False))
+    return found
+
+
+def step_line(chains, number, step):
+    (source, target, is_conflict) = step
+    words = f' {number} {", ".join(tables_met(chains, source[0], target[0]))}"' if is_conflict \
+        else f' {number}", style=solid, constraint=false'
+    return f'  {node(*source)} -> {node(*target)} [label="{words}];'
+
+
+def picture(text):
+    """What `lynx draw` prints of a set text without fault, and its status."""
+    chains, (verdict, status) = reference.Set(text), reference.check(text)
+    edges = conflicts(chains)
+    drawn_twice = {left[0] for left, right in edges if left[0] == right[0]}
+    words = [line.split() for line in verdict.splitlines() if line.startswith("conflict ")]
+    walk = [((line[1], int(line[2])), (line[3], int(line[4]))) for line in words]
+    walked = steps(walk, drawn_twice)
+    lines = []
+    for program in chains.programs:
+        lines += cluster(chains, program, False) + (cluster(chains, program, True) if program in drawn_twice else [])
+    dashed = []
+    for left, right in edges:
+        ends = {(left, False), (right, left[0] == right[0])}
+        if not any(is_conflict and {source, target} == ends for source, target, is_conflict in walked):
+            dashed.append(f'  {node(left, False)} -> {node(right, left[0] == right[0])} '
+                          f'[label=" {", ".join(tables_met(chains, left, right))}"];')
+    red = [step_line(chains, number, step) for number, step in enumerate(walked, 1)]
+    put = lambda some: "".join(line + "\n" for line in some)
+    label = f'  label="{OFFENDING if status else ACCEPTED}{LEGEND}";\n'
+    return HEAD + label + put(lines) + CONFLICTS + put(dashed) + STEPS + put(red) + "}\n", status
+
+
+if __name__ == "__main__":
+    with open(sys.argv[1], encoding="ascii") as file:
+        sys.stdout.write(picture(file.read())[0])

@@ -5,12 +5,12 @@ ghost use Rattle.lynx_words.specs.Lines.{spaced};
 ghost use Rattle.lynx_set.specs.Lookups.{program_name};
 ghost use Rattle.lynx_draw.specs.Clusters.{cluster_label, cluster_name, cluster_text, clusters_text, first_label, parameters_of, program_text, second_label};
 
-use crate::actions::put_word;
 use crate::edges::{Edge, program_of};
 use crate::nodes::put_hops;
 use crate::spot::is_drawn_twice;
 use lynx_names::{Memory, ProgramId};
 use lynx_set::ChainSet;
+use lynx_text::printing::put_word;
 use lynx_words::Name;
 use std::alloc::Global;
 

@@ -4,7 +4,6 @@
 pub use edges::{Edge, Place, conflict_edges};
 pub use picture::draw;
 
-mod actions;
 mod clusters;
 mod colours;
 pub mod edges;

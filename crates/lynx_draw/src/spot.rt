@@ -3,10 +3,10 @@
 ghost use Rattle.std.specs.Prelude.{◌≡◌, ◌++◌, OnOk};
 ghost use Rattle.lynx_draw.specs.Spots.{is_drawn_twice, left_spot, right_spot, spot_text, spot_word};
 
-use crate::actions::{put_number, put_word};
 use crate::edges::{Edge, Place};
 use lynx_names::{Memory, ProgramId};
 use lynx_set::ChainSet;
+use lynx_text::printing::{put_number, put_word};
 use std::alloc::Global;
 
 /// A hop of the first chain of its program that is drawn, or of another one, drawn again.

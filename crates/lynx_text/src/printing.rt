@@ -177,8 +177,8 @@ fn put_hop(
     Ok(next)
 }
 
-/// How many names the action binds.
-fn bound_names(action: &Action) -> usize
+/// How many names the action binds, 0 or 1.
+pub fn bound_names(action: &Action) -> usize
     ensures { result ≡ bound_names action.now }
 {
     match action {
@@ -203,8 +203,10 @@ fn put_action(
     end_line(out)
 }
 
-/// Writes the words of an action.
-fn put_action_words(
+/// Writes the words of an action, with a space between two and none at either end. `tables` are the set's, `names` the
+/// program's, and `place` is that of the name which the action binds if it binds one; a table or a name that stands in
+/// neither is written as an empty word. Where memory is wanting a part of the words may be written.
+pub fn put_action_words(
     alloc: Global,
     out: &mut Vec<u8>,
     tables: &[Name],
@@ -381,8 +383,8 @@ fn put_name(out: &mut Vec<u8>, names: &[Name], place: usize) -> Result<(), Memor
     Ok(())
 }
 
-/// Writes a space and the word.
-fn put_word(out: &mut Vec<u8>, word: &[u8]) -> Result<(), Memory>
+/// Writes a space and the word. Where memory is wanting the space may be written.
+pub fn put_word(out: &mut Vec<u8>, word: &[u8]) -> Result<(), Memory>
     ensures { OnOk result (out.new.items ≡ out.old.items ++ 32 ∷ word.now) }
 {
     out.push(b' ')?;
@@ -390,7 +392,8 @@ fn put_word(out: &mut Vec<u8>, word: &[u8]) -> Result<(), Memory>
     Ok(())
 }
 
-fn put_number(alloc: Global, out: &mut Vec<u8>, number: u64) -> Result<(), Memory>
+/// Writes a number in decimal, without leading zeros.
+pub fn put_number(alloc: Global, out: &mut Vec<u8>, number: u64) -> Result<(), Memory>
     ensures { OnOk result (out.new.items ≡ out.old.items ++ decimal number) }
 {
     let digits = number.to_string(alloc)?;

@@ -9,7 +9,7 @@ use std::alloc::{AllocError, Global};
 
 /// The statuses that the program ends with, and the words of faults, as the help tells them.
 const STATUSES: &str =
-    "Statuses:\n  0  done: the set is accepted, the script ran\n  1  the set offends\n  2  faulty words or a faulty text\n  3  out of memory\n  4  something can't be read or written";
+    "Statuses:\n  0  done: the set is accepted, an order explains the run\n  1  the set offends, or the run ends with a cycle\n  2  faulty words or a faulty text\n  3  out of memory\n  4  something can't be read or written";
 
 const FAULTS: &str =
     "A faulty text is told with its line and one of these words: too-long, bad-version, bad-line,\nbad-name, bad-number, repeated, unknown, need-not-first, limit-passed, literal-elsewhere,\nshard-gap, shard-overlap, shard-server.";

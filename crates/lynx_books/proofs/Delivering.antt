@@ -21,7 +21,7 @@ use Rattle.lynx_server.specs.Deliveries.{same_hop, same_message, repeated, early
 use Rattle.lynx_books.specs.Serving.{Serving, Delivers, IsDelivered, delivery_of, is_done}
 
 -- an answer that a definition gives
-abbrev IsPlain : Delivered → Type 0
+abbrev pub IsPlain : Delivered → Type 0
 IsPlain Stopped = ⊥
 IsPlain Memory = ⊥
 IsPlain given = Unit {0}
@@ -60,7 +60,7 @@ new-plain set server room history held message (Some entry) = repeated-plain set
 new-plain set server room history held message None =
     by_turn-plain set server room history held message (unwrap_or (number_at message.numbers server) 0) (turn_of set server history message.chain.origin)
 
-delivery-plain : (set : Set) (server room : ℕ) (history : History) (held : List Message) (message : Message) →
+pub delivery-plain : (set : Set) (server room : ℕ) (history : History) (held : List Message) (message : Message) →
     IsPlain (delivery set server room history held message).delivered
 delivery-plain set server room history held message =
     cond_both (is_well_formed set server history message) _ _ (λ (delivers : spec.Delivers). IsPlain delivers.delivered)

@@ -1,9 +1,13 @@
 pub mod Delivering
+pub mod Acting
 pub mod Answering
 pub mod Chains
 pub mod Due
 pub mod Growing
 pub mod Indexing
 pub mod Numbers
+pub mod Opened
+pub mod Same
+pub mod Repeating
 pub mod Turning
 pub mod Waking

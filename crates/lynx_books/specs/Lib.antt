@@ -1,8 +1,11 @@
+pub mod Acts
 pub mod Begins
 pub mod Books
 pub mod History
 pub mod Hops
 pub mod Indexes
 pub mod Keeping
+pub mod Opening
+pub mod Repeating
 pub mod Serving
 pub mod Sorting

@@ -7,11 +7,13 @@ ghost use Rattle.lynx_server.specs.Lawful.{number_at};
 ghost use Rattle.lynx_server.specs.Tables.{clock_of, tables_of};
 ghost use Rattle.lynx_server.specs.Turns.{begun_count, number_for, turn_of};
 ghost use Rattle.lynx_turn.specs.Turns.{stand};
+ghost use Rattle.lynx_books.specs.Acts.{act_of};
 ghost use Rattle.lynx_books.specs.Books.{begins_as};
+ghost use Rattle.lynx_books.specs.History.{IsLawfulHistory};
 
 use lynx_cells::Cells;
 use lynx_entry::{Entry, Message};
-use lynx_names::{ServerId, Stamp};
+use lynx_names::{ChainId, ServerId, Stamp};
 use lynx_seq::Sequencer;
 use lynx_server::answers::next_stamp;
 use lynx_server::checks::begins;
@@ -76,8 +78,10 @@ impl Books {
         self.server
     }
 
+    /// All that the server did, each entry lawful after those before it.
     pub fn history(&self) -> &[Entry]
-        ensures { result.now ≡ self.now.history }
+        ensures value { result.now ≡ self.now.history }
+        ensures lawful { IsLawfulHistory self.now.set self.now.server self.now.history }
     {
         self.history.as_slice()
     }
@@ -126,6 +130,17 @@ impl Books {
                 None => None,
             },
             Err(_) => None,
+        }
+    }
+
+    /// The entry in which the chain began, if it began here.
+    pub(crate) fn first_entry_of(&self, chain: ChainId) -> Option<&Entry>
+        ensures { option_copied result ≡ act_of chain 0 self.now.history }
+    {
+        if chain.origin == self.server {
+            self.begun_entry(chain.index)
+        } else {
+            None
         }
     }
 

@@ -3,16 +3,21 @@
 #![tactic(auto)]
 
 pub use books::Books;
+pub use fault::OpenFault;
 pub use hop_steps::{KeptHop, RanMessage, TakenMessage};
+pub use opening::first_unlawful;
 pub use register::Register;
 pub use server::{Server, Woken};
 pub use steps::{Kept, RanStep, RefusedStep, Stepped, Taken};
 
 pub mod books;
 mod counting;
+pub mod fault;
 pub mod hop_steps;
 mod keeping;
+pub mod opening;
 pub mod register;
+pub mod replay;
 pub mod server;
 mod sorting;
 pub mod steps;

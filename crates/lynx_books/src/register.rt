@@ -3,6 +3,7 @@ ghost use Rattle.std.specs.Prelude.{◌≡◌, ◌+◌, ◌<◌, None, IfOk, OnE
 ghost use Rattle.lynx_names.specs.declared.limits.TheConstants.{MAX_ENTRIES};
 ghost use Rattle.lynx_server.specs.Lawful.{hop_entry_of, record_of};
 ghost use Rattle.lynx_server.specs.Tables.{clock_of};
+ghost use Rattle.lynx_books.specs.Acts.{act_of};
 ghost use Rattle.lynx_books.specs.Hops as hops;
 ghost use Rattle.lynx_books.specs.Hops.{came};
 ghost use Rattle.lynx_books.specs.Begins.{IsDue, books_with, due};
@@ -76,6 +77,17 @@ impl Register {
         match self.hops.get(&((chain.origin, chain.index), hop)) {
             Some(place) => self.books.entry(*place),
             None => None,
+        }
+    }
+
+    /// The entry of that hop of the chain, of the first as of later ones.
+    pub fn entry_of(&self, chain: ChainId, hop: u8) -> Option<&Entry>
+        ensures { option_copied result ≡ act_of chain hop self.now.history }
+    {
+        if hop > 0 {
+            self.hop_entry_of(chain, hop)
+        } else {
+            self.books.first_entry_of(chain)
         }
     }
 

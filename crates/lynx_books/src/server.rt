@@ -1,6 +1,8 @@
 //! A server over its keeper.
-ghost use Rattle.std.specs.Prelude.{[], IfOk, ◌≡◌, ◌≤◌, false, filter, if◌then◌else◌, not};
+ghost use Rattle.std.specs.Prelude.{[], IfOk, ◌≡◌, ◌≤◌, false, filter, if◌then◌else◌, not, option_copied, slice_get};
 ghost use Rattle.lynx_server.specs.Tables.{tables_of};
+ghost use Rattle.lynx_books.specs.Acts.{GivesResults, act_of};
+ghost use Rattle.lynx_books.specs.History.{IsLawfulHistory};
 ghost use Rattle.lynx_books.specs.Keeping.{kept_of};
 ghost use Rattle.lynx_keep.specs.Kept.{nothing_kept};
 ghost use Rattle.lynx_books.specs.Serving.{Begins, Delivers, Wakes, WakesSo, is_put_off, IsDueHere, RanHere, TriedBegin, TriedDelivery, is_done};
@@ -97,11 +99,37 @@ impl<K: Keeper> Server<K> {
         self.register.books().server()
     }
 
-    /// All that the server did, in order.
+    /// All that the server did, each entry lawful after those before it.
     pub fn history(&self) -> &[Entry]
-        ensures { result.now ≡ self.now.history }
+        ensures value { result.now ≡ self.now.history }
+        ensures lawful { IsLawfulHistory self.now.set self.now.server self.now.history }
     {
         self.register.books().history()
+    }
+
+    /// The entry at the place of the history, counted from 0.
+    pub fn entry(&self, place: usize) -> Option<&Entry>
+        ensures { option_copied result ≡ slice_get self.now.history place }
+    {
+        self.register.books().entry(place)
+    }
+
+    /// The entry of that hop of the chain, if it ran here: two look-ups at most. Takes no memory.
+    pub fn entry_of(&self, chain: ChainId, hop: u8) -> Option<&Entry>
+        ensures { option_copied result ≡ act_of chain hop self.now.history }
+    {
+        self.register.entry_of(chain, hop)
+    }
+
+    /// The stamp and the results of that hop of the chain, if it ran here: two look-ups at most. Takes no memory.
+    pub fn results(&self, chain: ChainId, hop: u8) -> Option<(Stamp, &[u64])>
+        ensures { GivesResults (act_of chain hop self.now.history) result }
+    {
+        match self.entry_of(chain, hop)? {
+            Entry::Begun(begun) => Some((begun.stamp, begun.results.as_slice())),
+            Entry::Refused(_) => None,
+            Entry::Hop(ran) => Some((ran.stamp, ran.results.as_slice())),
+        }
     }
 
     /// The cells that the history leaves.
@@ -118,8 +146,11 @@ impl<K: Keeper> Server<K> {
         self.held.as_slice()
     }
 
+    /// The keeper, which keeps the history and its tables unless the server stopped.
     pub fn keeper(&self) -> &K
-        ensures { result.now ≡ self.now.keeper }
+        ensures value { result.now ≡ self.now.keeper }
+        ensures kept { self.now.is_stopped ≡ false → K.sound result.now
+            → K.keeps result.now (kept_of self.now.set self.now.history) }
     {
         &self.keeper
     }
@@ -131,6 +162,24 @@ impl<K: Keeper> Server<K> {
             → K.keeps result (kept_of self.set self.history) }
     {
         self.keeper
+    }
+
+    /// The same server over another keeper, which keeps as much. Its earlier faults don't count.
+    pub(crate) fn over<L: Keeper>(self, keeper: L) -> Server<L>
+    where
+        K: Drop,
+        requires runs { self.is_stopped ≡ false }
+        requires kept { L.sound keeper → L.keeps keeper (kept_of self.set self.history) }
+        ensures { result ≡ record { set = self.set; server = self.server; history = self.history; held = self.held; is_stopped = false; opened = L.counted keeper; keeper = keeper } }
+    {
+        let opened = keeper.faults();
+        Server {
+            register: self.register,
+            held: self.held,
+            keeper,
+            is_stopped: false,
+            opened,
+        }
     }
 
     /// A begin of a server that runs.

@@ -1,0 +1,17 @@
+use Rattle.std.proofs.Common.{◌∙◌, sym}
+use Rattle.std.proofs.lemmas.Bool.{eqb-true}
+use Rattle.lynx_books.proofs.Acting.{first_here, first_elsewhere}
+use Rattle.lynx_books.proofs.books.Books.first_entry_of.Goals as goal
+
+pub returns-then-eq : goal.returns-then-eq
+returns-then-eq c =
+    let books = c.self.inside in
+    rw (← c.self.view_is)
+    ((rw (← c.self.view_is) at c.begun_entry.ensures)
+    ∙ first_here books.set books.server books.history.items c.args.chain c.self.invariant.lawful (eqb-true _ _ (sym c.if-eq.ensures)))
+
+pub returns-else-eq : goal.returns-else-eq
+returns-else-eq c =
+    let books = c.self.inside in
+    rw (← c.self.view_is)
+    (sym (first_elsewhere books.set books.server books.history.items c.args.chain c.self.invariant.lawful (sym c.if-eq.ensures)))

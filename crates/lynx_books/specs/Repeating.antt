@@ -1,0 +1,78 @@
+-- A server that is asked for what entries did.
+use Rattle.std.specs.Prelude.{◌≡◌, ℕ, Bool, true, false, [], ◌∷◌, ◌++◌, List, Option}
+use Rattle.lynx_set.specs.Set.{Set}
+use Rattle.lynx_entry.specs.declared.answer.Answer.{Answer}
+use Rattle.lynx_entry.specs.declared.answer.Answer.TheVariants as answers
+use Rattle.lynx_entry.specs.declared.answer.Delivered.{Delivered}
+use Rattle.lynx_entry.specs.declared.answer.Delivered.TheVariants as deliveries
+use Rattle.lynx_entry.specs.declared.entry.Entry.{Entry}
+use Rattle.lynx_entry.specs.declared.entry.Entry.TheVariants.{Begun, Refused, Hop}
+use Rattle.lynx_entry.specs.declared.message.Message.{Message}
+use Rattle.lynx_entry.specs.Entry.{History}
+use Rattle.lynx_server.specs.Answers.{answer}
+use Rattle.lynx_server.specs.Lawful.{IsLawful}
+use Rattle.lynx_books.specs.History.{grown, IsLawfulHistory}
+use Rattle.lynx_books.specs.Serving.{Serving, delivery_of}
+use Rattle.lynx_books.specs.Opening.{IsFirstUnlawful}
+use Rattle.lynx_books.specs.declared.replay.Replayed.{Replayed}
+use Rattle.lynx_books.specs.declared.replay.Replayed.TheVariants.{Done, Differs}
+
+-- it answers for want of memory
+abbrev pub is_unserved : Answer → Bool
+is_unserved answers.Memory = true
+is_unserved given = false
+
+abbrev pub is_undelivered : Delivered → Bool
+is_undelivered deliveries.Memory = true
+is_undelivered given = false
+
+-- what a server adds when it is asked for what the entry did
+abbrev pub again : {K : Type 0} → Serving K → Entry → Option Entry
+again old (Begun begun) = (answer old.set old.server old.history begun.request begun.seen).added
+again old (Refused refused) = (answer old.set old.server old.history refused.request refused.seen).added
+again old (Hop ran) = (delivery_of old ran.message).added
+
+-- what it holds then
+abbrev pub held_again : {K : Type 0} → Serving K → Entry → List Message
+held_again old (Begun begun) = old.held
+held_again old (Refused refused) = old.held
+held_again old (Hop ran) = (delivery_of old ran.message).held
+
+-- it runs, and holds nothing
+pub record IsIdle {K : Type 0} (old : Serving K) : Type 0 where
+  pub runs : old.is_stopped ≡ false
+  pub held_is : old.held ≡ []
+
+-- it runs on, with what was added, and holds these messages
+pub record GoesOn {K : Type 0} (old : Serving K) (added : Option Entry) (held : List Message) (new : Serving K) : Type 0 where
+  pub set_is : new.set ≡ old.set
+  pub server_is : new.server ≡ old.server
+  pub history_is : new.history ≡ grown old.history added
+  pub held_is : new.held ≡ held
+  pub runs : new.is_stopped ≡ false
+
+-- it did what the entry did, which is lawful
+pub record HasRepeated {K : Type 0} (old : Serving K) (entry : Entry) (new : Serving K) : Type 0 where
+  pub lawful : IsLawful old.set old.server old.history entry
+  pub set_is : new.set ≡ old.set
+  pub server_is : new.server ≡ old.server
+  pub history_is : new.history ≡ old.history ++ entry ∷ []
+  pub idle : IsIdle new
+
+-- whether it did what the entry did, which it does where the entry is lawful
+abbrev pub Repeats : {K : Type 0} → Serving K → Entry → Serving K → Bool → Type 0
+Repeats old entry new true = HasRepeated old entry new
+Repeats old entry new false = IsLawful old.set old.server old.history entry → ⊥
+
+-- it did these entries
+pub record IsReplayed {K : Type 0} (set : Set) (server : ℕ) (entries : History) (replayed : Serving K) : Type 0 where
+  pub set_is : replayed.set ≡ set
+  pub server_is : replayed.server ≡ server
+  pub history_is : replayed.history ≡ entries
+  pub idle : IsIdle replayed
+  pub lawful : IsLawfulHistory set server entries
+
+-- a server that did all of it, or the first place at which it doesn't
+abbrev pub IsReplay : Set → ℕ → History → Replayed → Type 0
+IsReplay set server entries (Done replayed) = IsReplayed set server entries replayed
+IsReplay set server entries (Differs place) = IsFirstUnlawful set server entries place

@@ -10,6 +10,10 @@ mod held;
 #[cfg(test)]
 mod payments;
 #[cfg(test)]
+mod random;
+#[cfg(test)]
+mod reopened;
+#[cfg(test)]
 mod stamps;
 #[cfg(test)]
 mod trips;

@@ -4,7 +4,7 @@ fast. tests/random compares the program with it."""
 
 MASK = (1 << 64) - 1
 GETTING, SETTING, ADDING = "getting", "setting", "adding"
-HELD_ROOM = 0
+HELD_ROOM = 64
 
 
 class Set:

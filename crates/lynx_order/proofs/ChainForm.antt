@@ -16,7 +16,7 @@ use Rattle.lynx_entry.specs.declared.request.Request.{Request}
 use Rattle.lynx_server.specs.Deliveries.{same_chain}
 use Rattle.lynx_server.specs.Messages.{next_message}
 use Rattle.lynx_server.proofs.Ranges.{range_more}
-use Rattle.lynx_world.specs.declared.placed.Placed.{Placed}
+use Rattle.lynx_world.specs.Placed.{Placed}
 use Rattle.lynx_world.specs.Legal.{IsSent, MayFollow, IsLegal}
 use Rattle.lynx_world.proofs.LegalSteps.{legal-push}
 use Rattle.lynx_world.specs.Order.{hop_in, done_hops}

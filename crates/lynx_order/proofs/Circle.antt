@@ -18,7 +18,7 @@ use Rattle.lynx_commute.specs.Acts.{touched}
 use Rattle.lynx_entry.specs.declared.entry.Entry.{Entry}
 use Rattle.lynx_entry.specs.declared.entry.Entry.TheVariants.{Begun, Refused, Hop as HopRan}
 use Rattle.lynx_server.specs.Deliveries.{same_chain}
-use Rattle.lynx_world.specs.declared.placed.Placed.{Placed}
+use Rattle.lynx_world.specs.Placed.{Placed}
 use Rattle.lynx_world.specs.Legal.{IsLegal}
 use Rattle.lynx_world.specs.Order.{hop_in, done_hops}
 use Rattle.lynx_world.proofs.Members.{above_range}

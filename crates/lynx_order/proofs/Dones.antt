@@ -22,7 +22,7 @@ use Rattle.lynx_server.specs.Visits.{is_origin, starts_at}
 use Rattle.lynx_server.specs.Tables.{tables_of}
 use Rattle.lynx_server.specs.Checks.{are_keys_placed, request_fault_in, fits_hop, fits_program, has_begun}
 use Rattle.lynx_server.specs.Lawful.{IsLawfulBegun, IsLawfulHop}
-use Rattle.lynx_world.specs.declared.placed.Placed.{Placed}
+use Rattle.lynx_world.specs.Placed.{Placed}
 use Rattle.lynx_world.specs.Worlds.{history_of}
 use Rattle.lynx_world.specs.Legal.{MayFollow}
 use Rattle.lynx_world.specs.Order.{hop_in}

@@ -17,7 +17,7 @@ use Rattle.lynx_entry.specs.declared.entry.Entry.{Entry}
 use Rattle.lynx_entry.specs.declared.entry.Entry.TheVariants.{Begun, Refused, Hop as HopRan}
 use Rattle.lynx_entry.specs.declared.request.Request.{Request}
 use Rattle.lynx_server.specs.Deliveries.{same_chain}
-use Rattle.lynx_world.specs.declared.placed.Placed.{Placed}
+use Rattle.lynx_world.specs.Placed.{Placed}
 use Rattle.lynx_world.specs.Legal.{IsLegal}
 use Rattle.lynx_world.specs.Order.{hop_in, done_hops}
 use Rattle.lynx_world.proofs.Once.{both, once_and_in_order, same_chain-self, same_name}

@@ -9,7 +9,7 @@ use Rattle.lynx_foot.specs.declared.touch.Touch.{Touch}
 use Rattle.lynx_foot.specs.Conflicts.{Conflicts}
 use Rattle.lynx_foot.proofs.ConflictLaws.{Conflicts-swapped}
 use Rattle.lynx_graph.specs.Walks.{IsAccepted}
-use Rattle.lynx_world.specs.declared.placed.Placed.{Placed}
+use Rattle.lynx_world.specs.Placed.{Placed}
 use Rattle.lynx_world.specs.Legal.{IsLegal}
 use Rattle.lynx_order.specs.declared.explained.Explained.{Explained}
 use Rattle.lynx_order.specs.declared.explained.Explained.TheVariants.{Order, Cycle}

@@ -20,7 +20,7 @@ use Rattle.lynx_commute.proofs.Framing.{Agree-after, answer-agree, value_at-afte
 use Rattle.lynx_entry.specs.declared.entry.Entry.{Entry}
 use Rattle.lynx_entry.specs.declared.entry.Entry.TheVariants.{Begun, Refused, Hop as HopRan}
 use Rattle.lynx_server.specs.Tables.{after_entry, database_after, tables_of}
-use Rattle.lynx_world.specs.declared.placed.Placed.{Placed}
+use Rattle.lynx_world.specs.Placed.{Placed}
 use Rattle.lynx_world.specs.Worlds.{history_of}
 use Rattle.lynx_world.specs.Legal.{MayFollow, IsLegal}
 use Rattle.lynx_world.proofs.Histories.{history_of-push}

@@ -11,7 +11,7 @@ use Rattle.lynx_entry.specs.declared.entry.Entry.TheVariants.{Begun, Refused, Ho
 use Rattle.lynx_entry.specs.declared.request.Request.{Request}
 use Rattle.lynx_server.specs.Deliveries.{same_chain}
 use Rattle.lynx_server.specs.Tables.{tables_of}
-use Rattle.lynx_world.specs.declared.placed.Placed.{Placed}
+use Rattle.lynx_world.specs.Placed.{Placed}
 use Rattle.lynx_world.specs.Worlds.{history_of}
 use Rattle.lynx_world.specs.Order.{done_hops}
 use Rattle.lynx_order.specs.Lists.{IsIn, AreDifferent}

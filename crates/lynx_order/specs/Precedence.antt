@@ -8,7 +8,7 @@ use Rattle.lynx_foot.specs.Conflicts.{Conflicts}
 use Rattle.lynx_entry.specs.declared.entry.Entry.{Entry}
 use Rattle.lynx_entry.specs.declared.entry.Entry.TheVariants.{Begun, Refused, Hop}
 use Rattle.lynx_server.specs.Deliveries.{same_chain}
-use Rattle.lynx_world.specs.declared.placed.Placed.{Placed}
+use Rattle.lynx_world.specs.Placed.{Placed}
 use Rattle.lynx_order.specs.Lists.{AreDifferent, StandsBefore}
 
 -- what the chain's hop touched in an entry: nothing, if the entry isn't one of the chain's hops

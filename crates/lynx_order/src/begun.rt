@@ -1,25 +1,33 @@
-//! The chains that began in a list.
-ghost use Rattle.std.specs.Prelude.{◌≡◌, IfOk};
-ghost use Rattle.lynx_order.specs.Begun.{begun_chains, begun_in};
+//! The chains that began in a world.
+ghost use Rattle.std.specs.Prelude.{◌≡◌, ◌++◌, [], IfOk, OnOk};
+ghost use Rattle.std.specs.List.{cons_option};
+ghost use Rattle.lynx_order.specs.Begun.{begun_chains, chain_begun};
 
+use crate::listed::entry_at;
 use lynx_entry::Entry;
 use lynx_names::{ChainId, Memory};
-use lynx_world::Placed;
+use lynx_world::World;
 use std::alloc::Global;
 
-fn begun_in(placed: &Placed) -> Option<ChainId>
-    ensures { result ≡ begun_in placed.now }
+/// Adds the chain that began in the entry, if one did.
+fn add_begun(chains: &mut Vec<ChainId>, entry: &Entry) -> Result<(), Memory>
+    ensures { OnOk result (chains.new.items ≡ chains.old.items
+        ++ cons_option (chain_begun entry.now) []) }
 {
-    match &placed.entry {
-        Entry::Begun(begun) => Some(begun.chain),
-        Entry::Refused(_) | Entry::Hop(_) => None,
+    match entry {
+        Entry::Begun(begun) => chains.push(begun.chain)?,
+        Entry::Refused(_) | Entry::Hop(_) => {}
     }
+    Ok(())
 }
 
-/// The chains that began, in the order of the list.
-pub(crate) fn begun_chains(alloc: Global, list: &[Placed]) -> Result<Vec<ChainId>, Memory>
-    ensures { IfOk result (λ chains. chains.items ≡ begun_chains list.now) }
+/// The chains that began, in the order of the world's list.
+pub(crate) fn begun_chains(alloc: Global, world: &World) -> Result<Vec<ChainId>, Memory>
+    ensures { IfOk result (λ chains. chains.items ≡ begun_chains world.now.list) }
 {
-    let chains = list.iter().filter_map(begun_in).collect(alloc)?;
+    let mut chains = Vec::new(alloc);
+    for place in 0..world.len() {
+        add_begun(&mut chains, entry_at(world, place))?;
+    }
     Ok(chains)
 }

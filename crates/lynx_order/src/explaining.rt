@@ -14,7 +14,7 @@ use crate::table::{all_touchings, table_of};
 use crate::taken::take_all;
 use lynx_names::{ChainId, Items, Memory};
 use lynx_set::ChainSet;
-use lynx_world::{Placed, World};
+use lynx_world::World;
 use std::alloc::Global;
 
 /// The chains of these places.
@@ -29,15 +29,15 @@ fn chains_at(alloc: Global, chains: &[ChainId], places: &[usize]) -> Result<Item
     Ok(found)
 }
 
-/// What explains a legal list, or a cycle.
-fn explain_list(alloc: Global, set: &ChainSet, list: &[Placed]) -> Result<Explained, Memory>
-    requires { IsLegal set.now list.now }
-    ensures order { IfOk result (λ explained. OrderIsRight set.now list.now explained) }
-    ensures cycle { IfOk result (λ explained. CycleIsRight set.now list.now explained) }
+/// What explains what a world's servers did, or a cycle.
+fn explain_list(alloc: Global, set: &ChainSet, world: &World) -> Result<Explained, Memory>
+    requires { IsLegal set.now world.now.list }
+    ensures order { IfOk result (λ explained. OrderIsRight set.now world.now.list explained) }
+    ensures cycle { IfOk result (λ explained. CycleIsRight set.now world.now.list explained) }
 {
-    let begun = Items::from_vec(begun_chains(alloc, list)?);
+    let begun = Items::from_vec(begun_chains(alloc, world)?);
     let chains = begun.as_slice();
-    let all = all_touchings(alloc, set, chains, list)?;
+    let all = all_touchings(alloc, set, chains, world)?;
     let rows = table_of(alloc, all.as_slice())?;
     let table = rows.as_slice();
     let taken = take_all(alloc, table)?;
@@ -71,5 +71,5 @@ pub fn explain(alloc: Global, world: &World) -> Result<Explained, Memory>
     ensures accepted { IfOk result (λ explained.
         IsSet world.now.set → IsAccepted world.now.set → GivesOrder explained) }
 {
-    explain_list(alloc, world.set(), world.list())
+    explain_list(alloc, world.set(), world)
 }

@@ -4,7 +4,7 @@ ghost use Rattle.lynx_names.specs.declared.chain.ChainId.{ChainId};
 ghost use Rattle.lynx_set.specs.Rules.{IsSet};
 ghost use Rattle.lynx_set.specs.Set.{Set};
 ghost use Rattle.lynx_graph.specs.Walks.{IsAccepted};
-ghost use Rattle.lynx_world.specs.declared.placed.Placed.{Placed};
+ghost use Rattle.lynx_world.specs.Placed.{Placed};
 ghost use Rattle.lynx_world.specs.Legal.{IsLegal};
 ghost use Rattle.lynx_order.specs.Precedence.{KeepsPrecedence, IsCycle};
 ghost use Rattle.lynx_order.specs.Explanations.{AreTheBegun, IsExplanation};

@@ -9,6 +9,7 @@ mod cycle;
 pub mod explained;
 pub mod explaining;
 pub mod laws;
+mod listed;
 mod picks;
 mod table;
 mod taken;

@@ -5,7 +5,7 @@ ghost use Rattle.lynx_order.specs.Touchings.{precede_at, row_of, table_of, touch
 use crate::touching::{Touching, meet, touchings_of};
 use lynx_names::{ChainId, Items, Memory};
 use lynx_set::ChainSet;
-use lynx_world::Placed;
+use lynx_world::World;
 use std::alloc::Global;
 
 /// The touching hops of each chain.
@@ -13,13 +13,13 @@ pub(crate) fn all_touchings(
     alloc: Global,
     set: &ChainSet,
     chains: &[ChainId],
-    list: &[Placed],
+    world: &World,
 ) -> Result<Items<Items<Touching>>, Memory>
-    ensures { IfOk result (λ all. all ≡ map (touchings_of set.now list.now) chains.now) }
+    ensures { IfOk result (λ all. all ≡ map (touchings_of set.now world.now.list) chains.now) }
 {
     let mut all = Items::new(alloc);
     for chain in chains {
-        all.push(touchings_of(alloc, set, chain, list)?)?;
+        all.push(touchings_of(alloc, set, chain, world)?)?;
     }
     Ok(all)
 }

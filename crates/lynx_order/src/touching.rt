@@ -5,11 +5,12 @@ ghost use Rattle.lynx_foot.specs.Tests.{collide, some_collide};
 ghost use Rattle.lynx_order.specs.Precedence.{touches_in};
 ghost use Rattle.lynx_order.specs.Touchings.{is_before, meet, touching, touchings_of};
 
+use crate::listed::entry_at;
 use lynx_entry::Entry;
 use lynx_foot::{Touch, touches};
 use lynx_names::{ChainId, Items, Memory};
 use lynx_set::ChainSet;
-use lynx_world::Placed;
+use lynx_world::World;
 use std::alloc::Global;
 
 /// A hop that touched something: its place in the list, and its touches.
@@ -73,13 +74,14 @@ pub(crate) fn touchings_of(
     alloc: Global,
     set: &ChainSet,
     chain: &ChainId,
-    list: &[Placed],
+    world: &World,
 ) -> Result<Items<Touching>, Memory>
-    ensures { IfOk result (λ touchings. touchings ≡ touchings_of set.now list.now chain.now) }
+    ensures { IfOk result (λ touchings. touchings ≡ touchings_of set.now world.now.list chain.now) }
 {
     let mut touchings = Items::new(alloc);
-    for (place, placed) in list.iter().enumerate() {
-        let touches = Items::from_vec(touches_in(alloc, set, chain, &placed.entry)?);
+    for place in 0..world.len() {
+        let entry = entry_at(world, place);
+        let touches = Items::from_vec(touches_in(alloc, set, chain, entry)?);
         add_touching(&mut touchings, place, touches)?;
     }
     Ok(touchings)

@@ -10,7 +10,7 @@ use lynx_samples::rows::{
 use lynx_samples::texts::{self, read};
 use lynx_script::parse_script;
 use lynx_set::ChainSet;
-use lynx_world::{Event, World};
+use lynx_world::{Event, World, empty_keepers};
 use std::alloc::Global;
 
 /// The events of a script that has no fault.
@@ -25,7 +25,8 @@ fn events_of(alloc: Global, set: &ChainSet, script: &str) -> Result<Vec<Event>, 
 fn world_after(alloc: Global, set: &str, script: &str) -> Result<Box<World>, Memory> {
     let set = read(alloc, set)?;
     let events = events_of(alloc, &set, script)?;
-    let mut world = Box::new(alloc, World::new(alloc, set)?)?;
+    let keepers = empty_keepers(alloc, &set)?;
+    let mut world = Box::new(alloc, World::new(alloc, set, keepers)?)?;
     for event in events {
         let _ = world.apply(alloc, event);
     }

@@ -62,9 +62,11 @@ fn is_in_conflict(set: &ChainSet, first: &Entry, entry: &Entry, other: &ChainId)
 
 /// Whether a hop of the chain stands behind that place, and conflicts with the entry there.
 fn is_followed(world: &World, place: usize, first: &Entry, other: &ChainId) -> bool {
-    for (later, second) in world.list().iter().enumerate() {
-        if place < later && is_in_conflict(world.set(), first, &second.entry, other) {
-            return true;
+    for later in place + 1..world.len() {
+        if let Some(second) = world.entry(later) {
+            if is_in_conflict(world.set(), first, second.entry, other) {
+                return true;
+            }
         }
     }
     false
@@ -74,9 +76,11 @@ fn precedes(world: &World, one: &ChainId, other: &ChainId) -> bool {
     if *one == *other {
         return false;
     }
-    for (place, first) in world.list().iter().enumerate() {
-        if is_of(&first.entry, one) && is_followed(world, place, &first.entry, other) {
-            return true;
+    for place in 0..world.len() {
+        if let Some(first) = world.entry(place) {
+            if is_of(first.entry, one) && is_followed(world, place, first.entry, other) {
+                return true;
+            }
         }
     }
     false
@@ -102,9 +106,11 @@ fn free(world: &World, remaining: &[ChainId]) -> Option<ChainId> {
 
 fn begun(alloc: Global, world: &World) -> Result<Vec<ChainId>, Memory> {
     let mut chains = Vec::new(alloc);
-    for placed in world.list() {
-        if let Entry::Begun(entry) = &placed.entry {
-            chains.push(entry.chain)?;
+    for place in 0..world.len() {
+        if let Some(listed) = world.entry(place) {
+            if let Entry::Begun(entry) = listed.entry {
+                chains.push(entry.chain)?;
+            }
         }
     }
     Ok(chains)

@@ -8,7 +8,7 @@ use lynx_samples::texts::{
     CROSSING, LATE_AND_MARK, ONE_ORIGIN_JOINS, ONE_ORIGIN_SETS, PAY_AND_NOTE, read,
 };
 use lynx_set::ChainSet;
-use lynx_world::{Event, World};
+use lynx_world::{Event, World, empty_keepers};
 use std::alloc::Global;
 
 /// The next number of the sequence of a seed.
@@ -56,17 +56,25 @@ fn deliver(state: &mut u64) -> Result<Event, Memory> {
     })
 }
 
+/// A server wakes.
+fn wake(state: &mut u64) -> Result<Event, Memory> {
+    let server = ServerId::new((draw(state) % 3) as u8).ok_or(Memory)?;
+    Ok(Event::Wake { server })
+}
+
 fn event(alloc: Global, set: &ChainSet, state: &mut u64, number: u64) -> Result<Event, Memory> {
-    if draw(state) % 2 == 0 {
-        begin(alloc, set, state, number)
-    } else {
-        deliver(state)
+    match draw(state) % 5 {
+        0 | 1 => begin(alloc, set, state, number),
+        2 | 3 => deliver(state),
+        _ => wake(state),
     }
 }
 
 fn world_of(alloc: Global, text: &str, seed: u64) -> Result<Box<World>, Memory> {
     let mut state = seed;
-    let mut world = Box::new(alloc, World::new(alloc, read(alloc, text)?)?)?;
+    let set = read(alloc, text)?;
+    let keepers = empty_keepers(alloc, &set)?;
+    let mut world = Box::new(alloc, World::new(alloc, set, keepers)?)?;
     for number in 0..40 {
         let next = event(alloc, world.set(), &mut state, number)?;
         let _ = world.apply(alloc, next);

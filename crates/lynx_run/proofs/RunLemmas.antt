@@ -11,7 +11,7 @@ use Rattle.lynx_set.specs.Set.{Set}
 use Rattle.lynx_set.specs.Text.{text_of}
 use Rattle.lynx_world.specs.Tables.{cells_of, triple_cmp}
 use Rattle.lynx_entry.specs.declared.event.Event.{Event}
-use Rattle.lynx_world.specs.declared.world.TheConstants.{HELD_ROOM}
+use Rattle.lynx_names.specs.declared.limits.TheConstants.{MAX_HELD}
 use Rattle.lynx_world.specs.Worlds.{WorldState, new_world}
 use Rattle.lynx_world.specs.Steps.{step}
 use Rattle.lynx_run.specs.declared.run.RunFault.{RunFault}
@@ -25,22 +25,22 @@ use Rattle.lynx_run.specs.Runs.{world_after, outcomes_of, outcome_lines, cell_li
 use Rattle.lynx_script.specs.Scripts.{IsScript, script_of}
 
 pub world_after-push : (world : WorldState) (events : List Event) (event : Event) →
-    world_after world (events ++ event ∷ []) ≡ (step HELD_ROOM (world_after world events) event).world
+    world_after world (events ++ event ∷ []) ≡ (step MAX_HELD (world_after world events) event).world
 world_after-push world [] event = refl
-world_after-push world (first ∷ events) event = world_after-push (step HELD_ROOM world first).world events event
+world_after-push world (first ∷ events) event = world_after-push (step MAX_HELD world first).world events event
 
 outcomes_of-push : (world : WorldState) (events : List Event) (event : Event) →
-    outcomes_of world (events ++ event ∷ []) ≡ outcomes_of world events ++ (step HELD_ROOM (world_after world events) event).outcome ∷ []
+    outcomes_of world (events ++ event ∷ []) ≡ outcomes_of world events ++ (step MAX_HELD (world_after world events) event).outcome ∷ []
 outcomes_of-push world [] event = refl
 outcomes_of-push world (first ∷ events) event =
-    ap (λ outcomes. (step HELD_ROOM world first).outcome ∷ outcomes) (outcomes_of-push (step HELD_ROOM world first).world events event)
+    ap (λ outcomes. (step MAX_HELD world first).outcome ∷ outcomes) (outcomes_of-push (step MAX_HELD world first).world events event)
 
 outcome_lines-push : (world : WorldState) (events : List Event) (event : Event) →
-    outcome_lines world (events ++ event ∷ []) ≡ outcome_lines world events ++ with_feed (outcome_text (step HELD_ROOM (world_after world events) event).outcome)
+    outcome_lines world (events ++ event ∷ []) ≡ outcome_lines world events ++ with_feed (outcome_text (step MAX_HELD (world_after world events) event).outcome)
 outcome_lines-push world events event =
     ap (flat_map (λ outcome. with_feed (outcome_text outcome))) (outcomes_of-push world events event)
-    ∙ flat_map-append (λ outcome. with_feed (outcome_text outcome)) (outcomes_of world events) ((step HELD_ROOM (world_after world events) event).outcome ∷ [])
-    ∙ ap (λ bytes. outcome_lines world events ++ bytes) (append-nil (with_feed (outcome_text (step HELD_ROOM (world_after world events) event).outcome)))
+    ∙ flat_map-append (λ outcome. with_feed (outcome_text outcome)) (outcomes_of world events) ((step MAX_HELD (world_after world events) event).outcome ∷ [])
+    ∙ ap (λ bytes. outcome_lines world events ++ bytes) (append-nil (with_feed (outcome_text (step MAX_HELD (world_after world events) event).outcome)))
 
 -- what is written in two steps
 pub appends_both : (first second third : Option (List ℕ)) (xs ys : List ℕ) → Appends first second xs → Appends second third ys → Appends first third (xs ++ ys)
@@ -58,17 +58,17 @@ appends_on first second third xs ys (Err fault) a b = tt
 -- the lines of one more event
 pub lines_on : (first second third : Option (List ℕ)) (start world : WorldState) (events : List Event) (event : Event) →
     world ≡ world_after start events → Appends first second (outcome_lines start events) →
-    Appends second third (with_feed (outcome_text (step HELD_ROOM world event).outcome)) → Appends first third (outcome_lines start (events ++ event ∷ []))
+    Appends second third (with_feed (outcome_text (step MAX_HELD world event).outcome)) → Appends first third (outcome_lines start (events ++ event ∷ []))
 lines_on first second third start world events event same before now =
     subst (Appends first third)
-    (ap (λ w. outcome_lines start events ++ with_feed (outcome_text (step HELD_ROOM w event).outcome)) same ∙ sym (outcome_lines-push start events event))
+    (ap (λ w. outcome_lines start events ++ with_feed (outcome_text (step MAX_HELD w event).outcome)) same ∙ sym (outcome_lines-push start events event))
     (appends_both first second third _ _ before now)
 
 -- the world after one more event
 pub world_on : (start world after : WorldState) (events : List Event) (event : Event) →
-    world ≡ world_after start events → after ≡ (step HELD_ROOM world event).world → after ≡ world_after start (events ++ event ∷ [])
+    world ≡ world_after start events → after ≡ (step MAX_HELD world event).world → after ≡ world_after start (events ++ event ∷ [])
 world_on start world after events event same now =
-    now ∙ ap (λ w. (step HELD_ROOM w event).world) same ∙ sym (world_after-push start events event)
+    now ∙ ap (λ w. (step MAX_HELD w event).world) same ∙ sym (world_after-push start events event)
 
 -- the lines of the cells, and then the one that explains the list
 pub end_prints : (first second third : Option (List ℕ)) (world : WorldState) (r : Result Ending RunFault) →
@@ -93,7 +93,7 @@ end_prints first second third world (Err fault) cells explained = tt
 -- events leave the set as it was
 pub world_after-set : (world : WorldState) (events : List Event) → (world_after world events).set ≡ world.set
 world_after-set world [] = refl
-world_after-set world (event ∷ events) = world_after-set (step HELD_ROOM world event).world events ∙ step-set HELD_ROOM world event
+world_after-set world (event ∷ events) = world_after-set (step MAX_HELD world event).world events ∙ step-set MAX_HELD world event
 
 -- the lines of a whole run in a new world
 pub whole_run : (first second third : Option (List ℕ)) (set : Set) (events : List Event) (start world : WorldState) (r : Result Ending RunFault) →

@@ -8,8 +8,8 @@ use Rattle.lynx_set.specs.Set.{Set}
 use Rattle.lynx_set.specs.Text.{text_of}
 use Rattle.lynx_entry.specs.declared.event.Event.{Event}
 use Rattle.lynx_entry.specs.declared.event.Outcome.{Outcome}
-use Rattle.lynx_world.specs.declared.world.TheConstants.{HELD_ROOM}
-use Rattle.lynx_world.specs.declared.placed.Placed.{Placed}
+use Rattle.lynx_names.specs.declared.limits.TheConstants.{MAX_HELD}
+use Rattle.lynx_world.specs.Placed.{Placed}
 use Rattle.lynx_world.specs.Worlds.{WorldState, new_world}
 use Rattle.lynx_world.specs.Steps.{step}
 use Rattle.lynx_world.specs.Tables.{cells_of, triple_cmp}
@@ -29,12 +29,12 @@ use Rattle.lynx_script.specs.Scripts.{IsScript, script_of}
 -- the world after these events
 abbrev pub world_after : WorldState → List Event → WorldState
 world_after world [] = world
-world_after world (event ∷ events) = world_after (step HELD_ROOM world event).world events
+world_after world (event ∷ events) = world_after (step MAX_HELD world event).world events
 
 -- what the events come to, one after another
 abbrev pub outcomes_of : WorldState → List Event → List Outcome
 outcomes_of world [] = []
-outcomes_of world (event ∷ events) = (step HELD_ROOM world event).outcome ∷ outcomes_of (step HELD_ROOM world event).world events
+outcomes_of world (event ∷ events) = (step MAX_HELD world event).outcome ∷ outcomes_of (step MAX_HELD world event).world events
 
 -- a line for each outcome
 abbrev pub outcome_lines : WorldState → List Event → List ℕ

@@ -7,7 +7,7 @@ ghost use Rattle.lynx_print.specs.Printed.{outcome_text};
 ghost use Rattle.lynx_words.specs.Lines.{with_feed};
 ghost use Rattle.lynx_set.specs.Rules.{IsSet};
 ghost use Rattle.lynx_set.specs.Text.{text_of};
-ghost use Rattle.lynx_world.specs.declared.world.TheConstants.{HELD_ROOM};
+ghost use Rattle.lynx_names.specs.declared.limits.TheConstants.{MAX_HELD};
 ghost use Rattle.lynx_world.specs.Worlds.{new_world};
 ghost use Rattle.std.specs.String.{string_bytes};
 ghost use Rattle.lynx_run.specs.Runs.{world_after, outcome_lines, cell_lines, ending_of, explained_line, EndPrints, Explains, IsNoSet, IsNoScript, IsLate, Prints, RunPrints, StopsFor};
@@ -21,7 +21,7 @@ use lynx_script::parse_script;
 use lynx_set::ChainSet;
 use lynx_text::parse;
 use lynx_words::{FaultKind, TextFault};
-use lynx_world::{Event, Outcome, World};
+use lynx_world::{Event, Outcome, World, empty_keepers};
 use std::alloc::{AllocError, Global};
 use std::io::Write;
 use thiserror::Error;
@@ -132,9 +132,9 @@ fn run_event<W: Write>(
     event: Event,
     writer: &mut W,
 ) -> Result<(), RunFault>
-    ensures worlds { OnOk result (world.new ≡ (step HELD_ROOM world.old event).world) }
+    ensures worlds { OnOk result (world.new ≡ (step MAX_HELD world.old event).world) }
     ensures lines { OnOk result (Appends (W.contents writer.old) (W.contents writer.new)
-        (with_feed (outcome_text (step HELD_ROOM world.old event).outcome))) }
+        (with_feed (outcome_text (step MAX_HELD world.old event).outcome))) }
     ensures late { IfErr result IsLate }
 {
     let outcome = world.apply(alloc, event);
@@ -249,7 +249,8 @@ fn run_script<W: Write>(
         × Appends (W.contents writer.old) (W.contents writer.new) printed) }
     ensures late { IfErr result IsLate }
 {
-    let mut world = World::new(alloc, set)?;
+    let keepers = empty_keepers(alloc, &set)?;
+    let mut world = World::new(alloc, set, keepers)?;
     run_events(alloc, &mut world, events, writer)?;
     write_end(alloc, &world, writer)
 }

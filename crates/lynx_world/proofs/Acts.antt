@@ -10,7 +10,7 @@ use Rattle.lynx_entry.specs.declared.entry.Entry.TheVariants.{Begun, Refused, Ho
 use Rattle.lynx_server.specs.Visits.{visits}
 use Rattle.lynx_server.specs.Deliveries.{same_chain}
 use Rattle.lynx_server.proofs.Steps.{begins_visiting-lawful}
-use Rattle.lynx_world.specs.declared.placed.Placed.{Placed}
+use Rattle.lynx_world.specs.Placed.{Placed}
 use Rattle.lynx_world.specs.Worlds.{history_of}
 use Rattle.lynx_world.specs.Legal.{IsLegal}
 use Rattle.lynx_world.specs.Order.{hop_in}

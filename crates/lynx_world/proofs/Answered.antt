@@ -21,7 +21,7 @@ use Rattle.lynx_server.specs.Messages.{next_message}
 use Rattle.lynx_server.specs.Lawful.{is_hop_of, hop_entry_of}
 use Rattle.lynx_server.specs.Answers.{is_full}
 use Rattle.lynx_server.specs.Deliveries.{Delivers, same_chain, same_hop, same_message, repeated, early, done_by, deliver_by_turn, deliver_new, delivery}
-use Rattle.lynx_world.specs.declared.placed.Placed.{Placed}
+use Rattle.lynx_world.specs.Placed.{Placed}
 use Rattle.lynx_world.specs.Worlds.{history_of}
 use Rattle.lynx_world.specs.Legal.{IsSent, IsLegal}
 use Rattle.lynx_world.specs.Steps.{destination_of}

@@ -13,7 +13,7 @@ use Rattle.lynx_entry.specs.declared.message.Message.{Message}
 use Rattle.lynx_server.specs.Messages.{next_message}
 use Rattle.lynx_server.specs.Tables.{tables_of}
 use Rattle.lynx_server.specs.Checks.{result_count}
-use Rattle.lynx_world.specs.declared.placed.Placed.{Placed}
+use Rattle.lynx_world.specs.Placed.{Placed}
 use Rattle.lynx_world.specs.Worlds.{history_of}
 use Rattle.lynx_world.specs.Legal.{IsSent, MayFollow, IsLegal}
 use Rattle.lynx_world.proofs.HopsOf.{has_hop, hops_are, map_take_more}

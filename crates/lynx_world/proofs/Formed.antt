@@ -15,7 +15,7 @@ use Rattle.lynx_entry.specs.Entry.{History}
 use Rattle.lynx_server.specs.Visits.{is_origin, visited}
 use Rattle.lynx_server.specs.Turns.{numbered}
 use Rattle.lynx_server.specs.Checks.{are_keys_placed, request_fault_in, result_count, same_numbers, begins, fits, fits_hop, fits_program, has_begun, is_well_formed}
-use Rattle.lynx_world.specs.declared.placed.Placed.{Placed}
+use Rattle.lynx_world.specs.Placed.{Placed}
 use Rattle.lynx_world.specs.Worlds.{history_of}
 use Rattle.lynx_world.specs.Legal.{IsLegal}
 use Rattle.lynx_world.proofs.HopsOf.{HasHop, hops_are}

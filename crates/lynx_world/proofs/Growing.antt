@@ -8,7 +8,7 @@ use Rattle.lynx_entry.specs.declared.message.Message.{Message}
 use Rattle.lynx_entry.specs.declared.event.Event.{Event}
 use Rattle.lynx_entry.specs.declared.event.Event.TheVariants.{Begin, Deliver, Wake, Lost, Restart}
 use Rattle.lynx_server.specs.Answers.{answer}
-use Rattle.lynx_world.specs.declared.placed.Placed.{Placed}
+use Rattle.lynx_world.specs.Placed.{Placed}
 use Rattle.lynx_world.specs.Worlds.{WorldState, history_of}
 use Rattle.lynx_world.specs.Steps.{HasGrown, Step, step, stays, is_server, held_at, sent_message, destination_of, with_entry, deliver_sent, wake_at, least_of, stands_now}
 

@@ -16,7 +16,7 @@ use Rattle.lynx_server.specs.Answers.{answer}
 use Rattle.lynx_server.specs.Deliveries.{delivery}
 use Rattle.lynx_server.specs.Lawful.{Starts, Runs, message_of}
 use Rattle.lynx_server.proofs.Steps.{begins_visiting-lawful, answer-lawful, delivery-lawful}
-use Rattle.lynx_world.specs.declared.placed.Placed.{Placed}
+use Rattle.lynx_world.specs.Placed.{Placed}
 use Rattle.lynx_world.specs.Worlds.{history_of, messages_of}
 use Rattle.lynx_world.specs.Steps.{is_message_of, sent_message}
 use Rattle.lynx_world.specs.Legal.{IsSent, MayFollow, IsLegalAfter, IsLegal}
@@ -109,11 +109,11 @@ begun-may_follow set list server request seen begins legal there is =
     absurd_of entry message none some = cc
 
 -- the entry that the delivery of a sent message adds may follow
-pub ran-may_follow : (set : Set) (list : List Placed) (server : ℕ) (message : Message) (added : Option Entry) →
+pub ran-may_follow : (set : Set) (list : List Placed) (server room : ℕ) (held : List Message) (message : Message) (added : Option Entry) →
     IsSent set list message → server < set.servers →
-    added ≡ (delivery set server 0 (history_of server list) [] message).added →
+    added ≡ (delivery set server room (history_of server list) held message).added →
     IfSome added (λ entry. MayFollow set list (record { server = server; entry = entry }))
-ran-may_follow set list server message added sent there is =
+ran-may_follow set list server room held message added sent there is =
     subst (λ (o : Option Entry). IfSome o (λ entry. MayFollow set list (record { server = server; entry = entry }))) (sym is)
     (told_of _ (Runs set server (history_of server list) message) _
     (λ entry runs. record {
@@ -121,7 +121,7 @@ ran-may_follow set list server message added sent there is =
       lawful = runs.lawful;
       sent = λ other of_other. subst (IsSent set list) (same entry other runs.of_message of_other) sent;
     })
-    (delivery-lawful set server 0 (history_of server list) [] message))
+    (delivery-lawful set server room (history_of server list) held message))
   where
     same : (entry : Entry) (other : Message) → message_of entry ≡ Some message → message_of entry ≡ Some other → message ≡ other
     same entry other one two = cc

@@ -1,5 +1,10 @@
 pub mod Histories
-pub mod Held
+pub mod Servers
+pub mod Finding
+pub mod HeldSent
+pub mod Stepping
+pub mod Reopening
+pub mod Starting
 pub mod Growing
 pub mod Members
 pub mod Once

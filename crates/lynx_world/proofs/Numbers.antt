@@ -12,7 +12,7 @@ use Rattle.lynx_entry.specs.Entry.{History}
 use Rattle.lynx_server.specs.Visits.{visits, visited}
 use Rattle.lynx_server.specs.Turns.{number_for, numbered, numbers_of}
 use Rattle.lynx_server.specs.Lawful.{IsLawfulBegun, number_at}
-use Rattle.lynx_world.specs.declared.placed.Placed.{Placed}
+use Rattle.lynx_world.specs.Placed.{Placed}
 use Rattle.lynx_world.proofs.Members.{IsIn, in_range, in-filter}
 use Rattle.lynx_set.specs.Lookups.{hops_of}
 

@@ -22,7 +22,7 @@ use Rattle.lynx_server.specs.Messages.{next_message, message_after}
 use Rattle.lynx_server.specs.Checks.{fits, fits_hop, fits_program, has_begun, is_well_formed}
 use Rattle.lynx_server.specs.Lawful.{is_hop_of, message_of}
 use Rattle.lynx_server.specs.Deliveries.{same_chain}
-use Rattle.lynx_world.specs.declared.placed.Placed.{Placed}
+use Rattle.lynx_world.specs.Placed.{Placed}
 use Rattle.lynx_world.specs.Worlds.{history_of}
 use Rattle.lynx_world.specs.Legal.{MayFollow, IsLegalAfter, IsLegal}
 use Rattle.lynx_world.specs.Order.{hop_in, done_hops, IsOnceAndInOrder}

@@ -12,7 +12,7 @@ use Rattle.lynx_server.specs.Visits.{visits}
 use Rattle.lynx_server.specs.Turns.{turn_of}
 use Rattle.lynx_server.specs.Lawful.{is_hop_of, hop_entry_of}
 use Rattle.lynx_server.specs.Deliveries.{same_chain}
-use Rattle.lynx_world.specs.declared.placed.Placed.{Placed}
+use Rattle.lynx_world.specs.Placed.{Placed}
 use Rattle.lynx_world.specs.Worlds.{history_of}
 use Rattle.lynx_world.specs.Legal.{IsLegal}
 use Rattle.lynx_world.specs.Order.{hop_in, done_hops}

@@ -4,7 +4,7 @@ use Rattle.lynx_set.specs.Set.{Set}
 use Rattle.lynx_entry.specs.declared.message.Message.{Message}
 use Rattle.lynx_server.specs.Messages.{next_message}
 use Rattle.lynx_server.specs.Lawful.{message_of}
-use Rattle.lynx_world.specs.declared.placed.Placed.{Placed}
+use Rattle.lynx_world.specs.Placed.{Placed}
 use Rattle.lynx_world.specs.Legal.{IsSent, IsLegal}
 use Rattle.lynx_world.proofs.Members.{IsIn}
 use Rattle.lynx_world.proofs.Standing.{stands}

@@ -2,7 +2,7 @@
 use Rattle.std.proofs.Common.{◌≡◌, List, [], ◌∷◌, ◌++◌, inl, inr, ◌⊎◌, append_assoc, sym, ap, ◌∙◌, subst}
 use Rattle.std.proofs.lemmas.List.{append-nil}
 use Rattle.lynx_set.specs.Set.{Set}
-use Rattle.lynx_world.specs.declared.placed.Placed.{Placed}
+use Rattle.lynx_world.specs.Placed.{Placed}
 use Rattle.lynx_world.specs.Legal.{MayFollow, IsLegalAfter, IsLegal}
 use Rattle.lynx_world.proofs.LegalSteps.{legal-push}
 use Rattle.lynx_world.proofs.Members.{IsIn, in-push}

@@ -13,7 +13,7 @@ use Rattle.lynx_server.specs.Turns.{leaves, turn_of}
 use Rattle.lynx_server.specs.Lawful.{IsLawful}
 use Rattle.lynx_server.specs.Deliveries.{same_chain}
 use Rattle.lynx_server.proofs.Steps.{begins_visiting-lawful}
-use Rattle.lynx_world.specs.declared.placed.Placed.{Placed}
+use Rattle.lynx_world.specs.Placed.{Placed}
 use Rattle.lynx_world.specs.Worlds.{history_of}
 use Rattle.lynx_world.specs.Legal.{MayFollow, IsLegal}
 use Rattle.lynx_world.specs.Order.{hop_in}

@@ -6,7 +6,7 @@ use Rattle.lynx_names.specs.declared.chain.ChainId.{ChainId}
 use Rattle.lynx_set.specs.Set.{Set}
 use Rattle.lynx_entry.specs.declared.message.Message.{Message}
 use Rattle.lynx_server.specs.Messages.{next_message}
-use Rattle.lynx_world.specs.declared.placed.Placed.{Placed}
+use Rattle.lynx_world.specs.Placed.{Placed}
 use Rattle.lynx_world.specs.Legal.{IsSent, IsLegal}
 use Rattle.lynx_world.specs.Order.{hop_in, done_hops}
 use Rattle.lynx_world.proofs.Members.{IsIn, above_range, done_of_entry, sender_of}

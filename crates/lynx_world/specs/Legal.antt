@@ -5,8 +5,8 @@ use Rattle.lynx_entry.specs.declared.message.Message.{Message}
 use Rattle.lynx_entry.specs.Entry.{History}
 use Rattle.lynx_server.specs.Messages.{next_message}
 use Rattle.lynx_server.specs.Lawful.{IsLawful, message_of}
-use Rattle.lynx_world.specs.declared.placed.Placed.{Placed}
-use Rattle.lynx_world.specs.Worlds.{AreHistories, history_of}
+use Rattle.lynx_world.specs.Placed.{Placed}
+use Rattle.lynx_world.specs.Worlds.{history_of}
 
 -- an entry of the list sends the message
 abbrev pub IsSent : Set → List Placed → Message → Type 0
@@ -27,8 +27,3 @@ IsLegalAfter set before (placed ∷ list) = MayFollow set before placed × IsLeg
 -- Each entry may stand behind those before it.
 abbrev pub IsLegal : Set → List Placed → Type 0
 IsLegal set list = IsLegalAfter set [] list
-
--- what a world keeps: the histories are those of its list, which is legal
-pub record IsKept (set : Set) (histories : List History) (list : List Placed) : Type 0 where
-  pub each_history : AreHistories set.servers histories list
-  pub is_legal : IsLegal set list

@@ -1,4 +1,6 @@
+pub mod Placed
 pub mod Worlds
+pub mod Servers
 pub mod Steps
 pub mod Tables
 pub mod Legal

@@ -7,6 +7,7 @@ use Rattle.lynx_entry.specs.declared.answer.Delivered.TheVariants.{Done, Repeat,
 use Rattle.lynx_entry.specs.declared.entry.Entry.{Entry}
 use Rattle.lynx_entry.specs.declared.message.Message.{Message}
 use Rattle.lynx_entry.specs.Entry.{History}
+pub use Rattle.lynx_turn.specs.Held.{least_of}
 use Rattle.lynx_server.specs.declared.answers.Begins.{Begins}
 use Rattle.lynx_server.specs.Turns.{turn_of}
 use Rattle.lynx_server.specs.Lawful.{number_at}
@@ -16,7 +17,7 @@ use Rattle.lynx_entry.specs.declared.event.Event.{Event}
 use Rattle.lynx_entry.specs.declared.event.Event.TheVariants.{Begin, Deliver, Wake, Lost, Restart}
 use Rattle.lynx_entry.specs.declared.event.Outcome.{Outcome}
 use Rattle.lynx_entry.specs.declared.event.Outcome.TheVariants.{Answered, Delivered as DeliveredNow, Woken, NotSent, LostNow, Idle, Restarted, NoServer}
-use Rattle.lynx_world.specs.declared.placed.Placed.{Placed}
+use Rattle.lynx_world.specs.Placed.{Placed}
 use Rattle.lynx_world.specs.Worlds.{WorldState, history_of, messages_of}
 use Rattle.lynx_set.specs.Lookups.{hop_at}
 
@@ -81,21 +82,6 @@ deliver_sent room world chain hop (Some message) =
 abbrev pub stands_now : Set → ℕ → History → Message → Bool
 stands_now set server history message =
     unwrap_or (number_at message.numbers server) 0 == turn_of set server history message.chain.origin
-
--- by origin, then index, then hop
-abbrev pub is_before : Message → Message → Bool
-is_before left right =
-    if not (left.chain.origin == right.chain.origin) then nat_lt left.chain.origin right.chain.origin
-    else (if not (left.chain.index == right.chain.index) then nat_lt left.chain.index right.chain.index
-    else nat_lt left.hop right.hop)
-
--- the lesser of a message and the least so far
-abbrev pub lesser : Option Message → Message → Option Message
-lesser None message = Some message
-lesser (Some least) message = if is_before message least then Some message else Some least
-
-abbrev pub least_of : List Message → Option Message
-least_of messages = fold lesser None messages
 
 abbrev pub is_full_answer : Delivered → Bool
 is_full_answer (Done stamp results next) = false

@@ -6,7 +6,7 @@ use Rattle.lynx_entry.specs.declared.entry.Entry.{Entry}
 use Rattle.lynx_entry.specs.declared.message.Message.{Message}
 use Rattle.lynx_entry.specs.Entry.{History}
 use Rattle.lynx_server.specs.Messages.{next_message}
-use Rattle.lynx_world.specs.declared.placed.Placed.{Placed}
+use Rattle.lynx_world.specs.Placed.{Placed}
 
 -- A set, the entries of all its servers in one list, and what each server holds: one list of messages for each.
 pub record WorldState : Type 0 where
@@ -29,8 +29,3 @@ history_of server list = filter_map (entry_at server) list
 -- the messages that were sent
 abbrev pub messages_of : Set → List Placed → List Message
 messages_of set list = filter_map (λ placed. next_message set placed.entry) list
-
--- these are the histories of the servers, one for each
-pub record AreHistories (servers : ℕ) (histories : List History) (list : List Placed) : Type 0 where
-  pub whole : length histories ≡ servers
-  pub each : (server : ℕ) → server < servers → slice_index_or histories server [] ≡ history_of server list

@@ -1,25 +1,23 @@
 //! The cells of all servers.
 ghost use Rattle.std.specs.Prelude.{◌≡◌, IfOk};
 ghost use Rattle.std.specs.List.{flat_map};
-ghost use Rattle.lynx_world.specs.Tables.{cells_after};
+ghost use Rattle.lynx_world.specs.Servers.{cells_left};
 
-use lynx_entry::Entry;
-use lynx_names::{Items, Memory, TableId};
-use lynx_server::tables::tables_of;
-use lynx_set::ChainSet;
+use lynx_books::Server;
+use lynx_keep::MemoryKeeper;
+use lynx_names::{Memory, TableId};
 use std::alloc::Global;
 
-/// The nonzero cells that each of the histories leaves, one history after another.
-pub fn all_cells(
+/// The nonzero cells of each of the servers, one server after another.
+pub(crate) fn all_cells(
     alloc: Global,
-    set: &ChainSet,
-    histories: &[Items<Entry>],
+    servers: &[Server<MemoryKeeper>],
 ) -> Result<Vec<(TableId, u64, u64)>, Memory>
-    ensures { IfOk result (λ cells. cells.items ≡ flat_map (cells_after set.now) histories.now) }
+    ensures { IfOk result (λ cells. cells.items ≡ flat_map cells_left servers.now) }
 {
     let mut cells = Vec::new(alloc);
-    for history in histories {
-        let mut more = tables_of(alloc, set, history.as_slice())?.list(alloc)?;
+    for server in servers {
+        let mut more = server.cells().list(alloc)?;
         cells.append(&mut more)?;
     }
     Ok(cells)

@@ -6,7 +6,7 @@ ghost use Rattle.lynx_set.specs.Set.{Set};
 ghost use Rattle.lynx_entry.specs.declared.answer.Delivered.TheVariants.{Malformed};
 ghost use Rattle.lynx_entry.specs.declared.message.Message.{Message};
 ghost use Rattle.lynx_server.specs.Deliveries.{delivery};
-ghost use Rattle.lynx_world.specs.declared.placed.Placed.{Placed};
+ghost use Rattle.lynx_world.specs.Placed.{Placed};
 ghost use Rattle.lynx_world.specs.Legal.{IsLegal, IsSent};
 ghost use Rattle.lynx_world.specs.Order.{IsOnceAndInOrder, IsInOriginOrder};
 ghost use Rattle.lynx_world.specs.Steps.{destination_of};

@@ -1,13 +1,16 @@
 //! A world: servers that run one set of chain programs, and all that they did, in one order.
 #![tactic(auto)]
 
+pub use listed::Listed;
 pub use lynx_entry::{Entry, Event, Outcome};
-pub use placed::Placed;
+pub use opening::empty_keepers;
 pub use world::World;
 
-mod adding;
+mod added;
+mod among;
 mod cells;
 pub mod laws;
-pub mod placed;
-mod sending;
+pub mod listed;
+pub mod opening;
+mod serving;
 pub mod world;

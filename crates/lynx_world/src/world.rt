@@ -1,101 +1,104 @@
-ghost use Rattle.std.specs.Prelude.{◌≡◌, ◌⊎◌, ◌<◌, [], IfOk, IfSome, OnOk, OnErr};
+ghost use Rattle.std.specs.Prelude.{◌≡◌, ◌⊎◌, All, IfOk, IfSome, OnOk, OnErr, length, nat_eq, option_copied, slice_get};
+ghost use Rattle.lynx_names.specs.declared.limits.TheConstants.{MAX_HELD};
 
-use crate::adding::{add_entry, empty_histories};
+use crate::added::Added;
+use crate::among::act_among;
 use crate::cells::all_cells;
-use crate::placed::Placed;
-use crate::sending::sent_message;
+use crate::listed::{Listed, added_at, lend, server_at};
+use crate::opening::open_all;
+use crate::serving::{begin_at, deliver_at, restart_at, wake_at, waking};
+use lynx_books::Server;
 use lynx_entry::{Entry, Event, Message, Outcome, Request};
-use lynx_names::{ChainId, Items, Memory, ServerId, Stamp, TableId};
-use lynx_server::answers::answer;
-use lynx_server::deliveries::deliver;
+use lynx_keep::MemoryKeeper;
+use lynx_names::{ChainId, Memory, ServerId, Stamp, TableId};
+use lynx_server::next_of;
 use lynx_set::ChainSet;
 use std::alloc::Global;
 use std::marker::Model;
 
-/// How many messages a server holds whose turn it is not: none so far, so each of them is dropped and may be
-/// delivered again.
-pub const HELD_ROOM: usize = 0;
-
-/// Servers that run one set of chain programs, seen as the one list of all that they did. Nothing is held: a
-/// message whose turn it is not is dropped, and may be delivered again. A step goes over the whole list.
-#[derive(Debug, Drop)]
+/// Servers that run one set of chain programs, each over what it keeps in memory, and the order in which they added
+/// their entries. Contracts see the set, the one list of all that the servers did, and what each holds.
+#[derive(Drop)]
 pub struct World {
     set: ChainSet,
-    histories: Vec<Items<Entry>>,
-    list: Vec<Placed>,
+    servers: Vec<Server<MemoryKeeper>>,
+    order: Vec<Added>,
 }
 
 impl Model for World {
-    ghost use Rattle.std.specs.Prelude.{[], replicate};
     ghost use Rattle.lynx_world.specs.Worlds.{WorldState};
-    ghost use Rattle.lynx_world.specs.Legal.{IsKept};
+    ghost use Rattle.lynx_world.specs.Servers.{AreServers, held_of, list_of};
 
     ghost Value = { WorldState };
 
     ghost view = { λ world. record {
       set = world.set;
-      list = world.list.items;
-      held = replicate world.set.servers [];
+      list = list_of world.servers.items world.order.items;
+      held = held_of world.servers.items;
     } };
 
-    ghost invariant = { λ world. IsKept world.set world.histories.items world.list.items };
+    ghost invariant = { λ world. AreServers world.set world.servers.items world.order.items };
 }
 
 impl World {
+    ghost use Rattle.std.specs.Prelude.{replicate};
     ghost use Rattle.std.specs.List.Sorted.{IsPermutation, IsSorted};
-    ghost use Rattle.lynx_world.specs.Worlds.{history_of, new_world};
-    ghost use Rattle.lynx_world.specs.Legal.{IsLegal, MayFollow};
+    ghost use Rattle.lynx_keep.specs.Kept.{nothing_kept};
+    ghost use Rattle.lynx_world.specs.Worlds.{new_world};
+    ghost use Rattle.lynx_world.specs.Legal.{IsLegal, IsSent};
+    ghost use Rattle.lynx_world.specs.Servers.{act_in, placed_as};
     ghost use Rattle.lynx_world.specs.Tables.{cells_of, triple_cmp};
-    ghost use Rattle.lynx_world.specs.Steps.{HasGrown, step, with_entry, is_server, sent_message, destination_of};
+    ghost use Rattle.lynx_world.specs.Steps.{HasGrown, step, is_server, sent_message, destination_of, held_at};
 
-    /// A world in which nothing happened yet.
-    pub fn new(alloc: Global, set: ChainSet) -> Result<World, Memory>
+    /// A world in which nothing happened yet, over keepers that keep nothing, one for each server of the set.
+    pub fn new(alloc: Global, set: ChainSet, keepers: Vec<MemoryKeeper>) -> Result<World, Memory>
+        requires { keepers.items ≡ replicate set.servers nothing_kept }
         ensures { IfOk result (λ world. world ≡ new_world set) }
     {
-        let histories = empty_histories(alloc, set.servers())?;
+        let servers = open_all(alloc, &set, keepers)?;
         Ok(World {
             set,
-            histories,
-            list: Vec::new(alloc),
+            servers,
+            order: Vec::new(alloc),
         })
     }
 
+    /// The set. The list of all that the servers added is legal for it.
     pub fn set(&self) -> &ChainSet
-        ensures { result.now ≡ self.now.set }
+        ensures value { result.now ≡ self.now.set }
+        ensures legal { IsLegal self.now.set self.now.list }
     {
         &self.set
     }
 
-    /// All that the servers did, in order.
-    pub fn list(&self) -> &[Placed]
-        ensures value { result.now ≡ self.now.list }
-        ensures legal { IsLegal self.now.set self.now.list }
+    /// How many entries the servers added.
+    pub fn len(&self) -> usize
+        ensures { result ≡ length self.now.list }
     {
-        self.list.as_slice()
+        self.order.as_slice().len()
     }
 
-    /// Adds the entry at the end, if there is one.
-    fn add(&mut self, alloc: Global, server: ServerId, added: Option<Entry>) -> Result<(), Memory>
-        requires there { server < self.old.set.servers }
-        requires may_follow { IfSome added (λ entry. MayFollow self.old.set self.old.list
-            (record { server = server; entry = entry })) }
-        ensures ok { OnOk result (self.new
-            ≡ record self.old { list = with_entry server added self.old.list }) }
-        ensures err { OnErr result (self.new ≡ self.old) }
+    pub fn is_empty(&self) -> bool
+        ensures { result ≡ nat_eq (length self.now.list) 0 }
     {
-        let Some(entry) = added else {
-            return Ok(());
-        };
-        add_entry(alloc, &mut self.histories, &mut self.list, server, entry)?;
-        Ok(())
+        self.len() == 0
     }
 
-    /// The history of a server of the set.
-    fn history(&self, server: ServerId) -> &[Entry]
-        requires { server < self.now.set.servers }
-        ensures { result.now ≡ history_of server self.now.list }
+    /// The entry at a place of the list of all that the servers added, in order. Takes no memory.
+    pub fn entry(&self, place: usize) -> Option<Listed<'_>>
+        ensures { placed_as result ≡ slice_get self.now.list place }
     {
-        self.histories[server.index()].as_slice()
+        let added = added_at(&self.order, place)?;
+        lend(&self.servers, added)
+    }
+
+    /// The messages that the server holds, in order of origin, index and hop. None where the set hasn't the server.
+    pub fn held(&self, server: ServerId) -> Option<&[Message]>
+        ensures held { option_copied result ≡ slice_get self.now.held server }
+        ensures sent { IfSome result (λ held. All (IsSent self.now.set self.now.list) held.now) }
+    {
+        let server = server_at(&self.servers, server)?;
+        Some(server.held())
     }
 
     /// The set has the server.
@@ -115,94 +118,128 @@ impl World {
         }
     }
 
+    /// The entry of that hop of the chain, at whichever server it ran.
+    fn act_of(&self, chain: &ChainId, hop: u8) -> Option<&Entry>
+        ensures { option_copied result ≡ act_in chain.now hop self.now.list }
+    {
+        act_among(self.servers.as_slice(), chain, hop)
+    }
+
+    /// The message of that hop of the chain, if an entry of the list sends it.
+    fn sent_message(
+        &self,
+        alloc: Global,
+        chain: &ChainId,
+        hop: u8,
+    ) -> Result<Option<Message>, Memory>
+        ensures { IfOk result (λ found. found
+            ≡ sent_message self.now.set chain.now hop self.now.list) }
+    {
+        let Some(before) = hop.checked_sub(1) else {
+            return Ok(None);
+        };
+        match self.act_of(chain, before) {
+            Some(entry) => next_of(alloc, &self.set, entry),
+            None => Ok(None),
+        }
+    }
+
     fn begin(
         &mut self,
         alloc: Global,
         server: ServerId,
-        request: &Request,
+        request: Request,
         seen: Stamp,
     ) -> Result<Outcome, Memory>
         ensures ok { IfOk result (λ outcome. record { outcome = outcome; world = self.new }
-            ≡ step HELD_ROOM self.old (Event.Begin server request.now seen)) }
+            ≡ step MAX_HELD self.old (Event.Begin server request seen)) }
         ensures err { OnErr result (self.new ≡ self.old) }
     {
         if !self.has_server(server) {
             return Ok(Outcome::NoServer);
         }
-        let world = &*self;
-        let begins = answer(
+        let answer = begin_at(
             alloc,
-            &world.set,
+            &mut self.servers[server.index()],
+            &mut self.order,
             server,
-            world.history(server),
             request,
             seen,
         )?;
-        self.add(alloc, server, begins.added)?;
-        Ok(Outcome::Answered(begins.answer))
+        Ok(Outcome::Answered(answer))
     }
 
     fn deliver(&mut self, alloc: Global, chain: ChainId, hop: u8) -> Result<Outcome, Memory>
         ensures ok { IfOk result (λ outcome. record { outcome = outcome; world = self.new }
-            ≡ step HELD_ROOM self.old (Event.Deliver chain hop)) }
+            ≡ step MAX_HELD self.old (Event.Deliver chain hop)) }
         ensures err { OnErr result (self.new ≡ self.old) }
     {
-        let world = &*self;
-        let Some(message) = sent_message(alloc, &world.set, &world.list, &chain, hop)? else {
+        let Some(message) = self.sent_message(alloc, &chain, hop)? else {
             return Ok(Outcome::NotSent { chain, hop });
         };
-        let server = world.destination_of(&message);
-        if !world.has_server(server) {
+        let server = self.destination_of(&message);
+        if !self.has_server(server) {
             return Ok(Outcome::NoServer);
         }
-        let delivery = deliver(alloc, &world.set, server, world.history(server), &message)?;
-        self.add(alloc, server, delivery.added)?;
+        let delivered = deliver_at(
+            alloc,
+            &mut self.servers[server.index()],
+            &mut self.order,
+            server,
+            message,
+        )?;
         Ok(Outcome::Delivered {
             chain,
             hop,
-            delivered: delivery.delivered,
+            delivered,
         })
     }
 
     /// Says whether the message was sent; it changes nothing.
     fn lose(&self, alloc: Global, chain: ChainId, hop: u8) -> Result<Outcome, Memory>
         ensures { IfOk result (λ outcome. record { outcome = outcome; world = self.now }
-            ≡ step HELD_ROOM self.now (Event.Lost chain hop)) }
+            ≡ step MAX_HELD self.now (Event.Lost chain hop)) }
     {
-        match sent_message(alloc, &self.set, &self.list, &chain, hop)? {
+        match self.sent_message(alloc, &chain, hop)? {
             Some(_) => Ok(Outcome::LostNow { chain, hop }),
             None => Ok(Outcome::NotSent { chain, hop }),
         }
     }
 
-    /// Nothing is held, so nothing wakes.
-    fn wake(&self, server: ServerId) -> Outcome
-        ensures { record { outcome = result; world = self.now }
-            ≡ step HELD_ROOM self.now (Event.Wake server) }
+    fn wake(&mut self, alloc: Global, server: ServerId) -> Result<Outcome, Memory>
+        ensures ok { IfOk result (λ outcome. record { outcome = outcome; world = self.new }
+            ≡ step MAX_HELD self.old (Event.Wake server)) }
+        ensures err { OnErr result (self.new ≡ self.old) }
     {
-        if self.set.has_server(server) {
-            Outcome::Idle { server }
-        } else {
-            Outcome::NoServer
+        if !self.has_server(server) {
+            return Ok(Outcome::NoServer);
         }
+        let woken = wake_at(
+            alloc,
+            &mut self.servers[server.index()],
+            &mut self.order,
+            server,
+        )?;
+        Ok(waking(server, woken))
     }
 
-    /// What a server did is kept, and nothing is held that could be gone.
-    fn restart(&self, server: ServerId) -> Outcome
-        ensures { record { outcome = result; world = self.now }
-            ≡ step HELD_ROOM self.now (Event.Restart server) }
+    /// What the server kept stays, and what it held is gone.
+    fn restart(&mut self, alloc: Global, server: ServerId) -> Result<Outcome, Memory>
+        ensures ok { IfOk result (λ outcome. record { outcome = outcome; world = self.new }
+            ≡ step MAX_HELD self.old (Event.Restart server)) }
+        ensures err { OnErr result (self.new ≡ self.old) }
     {
-        if self.set.has_server(server) {
-            Outcome::Restarted { server }
-        } else {
-            Outcome::NoServer
+        if !self.has_server(server) {
+            return Ok(Outcome::NoServer);
         }
+        restart_at(alloc, &mut self.servers[server.index()])?;
+        Ok(Outcome::Restarted { server })
     }
 
     /// One event, or want of memory, which changes nothing.
     fn try_apply(&mut self, alloc: Global, event: Event) -> Result<Outcome, Memory>
         ensures ok { IfOk result (λ outcome. record { outcome = outcome; world = self.new }
-            ≡ step HELD_ROOM self.old event) }
+            ≡ step MAX_HELD self.old event) }
         ensures err { OnErr result (self.new ≡ self.old) }
     {
         match event {
@@ -210,19 +247,19 @@ impl World {
                 server,
                 request,
                 seen,
-            } => self.begin(alloc, server, &request, seen),
+            } => self.begin(alloc, server, request, seen),
             Event::Deliver { chain, hop } => self.deliver(alloc, chain, hop),
-            Event::Wake { server } => Ok(self.wake(server)),
+            Event::Wake { server } => self.wake(alloc, server),
             Event::Lost { chain, hop } => self.lose(alloc, chain, hop),
-            Event::Restart { server } => Ok(self.restart(server)),
+            Event::Restart { server } => self.restart(alloc, server),
         }
     }
 
-    /// One event. Its cost is that of going over the whole list, and of running all its hops again. Want of
-    /// memory is an outcome of its own, and changes nothing.
+    /// One event. A begin, a delivery and a waking take the work of their hop and a few look-ups at each server; a
+    /// restart goes over all that its server keeps. Want of memory is an outcome of its own, and changes nothing.
     pub fn apply(&mut self, alloc: Global, event: Event) -> Outcome
         ensures step { ((result ≡ Outcome.Memory) × (self.new ≡ self.old))
-            ⊎ (record { outcome = result; world = self.new } ≡ step HELD_ROOM self.old event) }
+            ⊎ (record { outcome = result; world = self.new } ≡ step MAX_HELD self.old event) }
         ensures set { self.new.set ≡ self.old.set }
         ensures list { HasGrown self.old.list self.new.list }
     {
@@ -232,12 +269,12 @@ impl World {
         }
     }
 
-    /// The nonzero cells that the servers' histories leave, by table, then key. All hops are run again.
+    /// The nonzero cells that the servers' histories leave, by table, then key.
     pub fn cells(&self, alloc: Global) -> Result<Vec<(TableId, u64, u64)>, Memory>
         ensures all { IfOk result (λ cells. IsPermutation (cells_of self.now) cells.items) }
         ensures in_order { IfOk result (λ cells. IsSorted triple_cmp cells.items) }
     {
-        let mut cells = all_cells(alloc, &self.set, &self.histories)?;
+        let mut cells = all_cells(alloc, &self.servers)?;
         cells.sort_unstable();
         Ok(cells)
     }

@@ -4,7 +4,7 @@ use crate::cells::are_cells;
 use lynx_entry::{Answer, Delivered, Request};
 use lynx_names::{ChainId, ClientId, Memory, ProgramId, ServerId, Stamp, Values};
 use lynx_samples::texts::{PAYMENT, read};
-use lynx_world::{Event, Outcome, World};
+use lynx_world::{Event, Outcome, World, empty_keepers};
 use std::alloc::Global;
 
 const SEED: u8 = 0;
@@ -94,8 +94,9 @@ fn outcome(alloc: Global, world: &mut World, step: Step) -> Result<Box<Outcome>,
 
 /// A world of payments in which nothing happened yet.
 fn empty(alloc: Global) -> Result<Box<World>, Memory> {
-    let world = World::new(alloc, read(alloc, PAYMENT)?)?;
-    Ok(Box::new(alloc, world)?)
+    let set = read(alloc, PAYMENT)?;
+    let keepers = empty_keepers(alloc, &set)?;
+    Ok(Box::new(alloc, World::new(alloc, set, keepers)?)?)
 }
 
 fn pass(alloc: Global, world: &mut World, steps: &[Step]) -> Result<(), Memory> {

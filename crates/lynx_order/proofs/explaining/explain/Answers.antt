@@ -6,6 +6,5 @@ use Rattle.lynx_order.proofs.explaining.explain.Goals as goal
 
 pub returns-clause-accepted : goal.returns-clause-accepted
 returns-clause-accepted c =
-    accepted_given c.args.world.now.set c.args.world.now.list c.explain_list.result c.list.ensures.legal
-    (subst (λ list. IfOk c.explain_list.result (λ explained. CycleIsRight c.args.world.now.set list explained)) c.list.ensures.value
-    (subst (λ set. IfOk c.explain_list.result (λ explained. CycleIsRight set c.list.result.now explained)) c.set.ensures c.explain_list.ensures.cycle))
+    accepted_given c.args.world.now.set c.args.world.now.list c.explain_list.result c.set.ensures.legal
+    (subst (λ set. IfOk c.explain_list.result (λ explained. CycleIsRight set c.args.world.now.list explained)) c.set.ensures.value c.explain_list.ensures.cycle)

@@ -1,37 +1,63 @@
-use Rattle.std.proofs.Common.{◌≡◌, [], ap, Some, ◌∙◌}
-use Rattle.std.proofs.lemmas.Bool.{ltb-true}
-use Rattle.lynx_server.specs.Deliveries.{Gives, delivery}
+use Rattle.std.proofs.Common.{◌≡◌, ◌∙◌, nat_lt, true, refl, sym, ap}
+use Rattle.lynx_names.specs.declared.limits.TheConstants.{MAX_HELD}
+use Rattle.lynx_entry.specs.declared.event.Event.TheVariants.{Deliver}
+use Rattle.lynx_world.specs.Steps.{destination_of, is_server, sent_message, step}
 use Rattle.lynx_world.specs.Worlds.{WorldState}
-use Rattle.lynx_world.specs.Steps.{sent_message}
-use Rattle.lynx_world.proofs.Held.{nothing_held, delivers_so}
-use Rattle.lynx_world.proofs.LegalSteps.{ran-may_follow, sent_found}
+use Rattle.lynx_world.proofs.Stepping.{at_error, delivered, server_found, still, stilled, taken}
 use Rattle.lynx_world.proofs.world.World.deliver.Goals as goal
 
-pub add-requires-clause-may_follow : goal.add-requires-clause-may_follow
-add-requires-clause-may_follow c =
-    let now : WorldState = c.args.self.now in
-    let set : c.world.inside.set ≡ now.set = ap (λ (w : WorldState). w.set) c.world.view_is in
-    let list : c.world.inside.list.items ≡ now.list = ap (λ (w : WorldState). w.list) c.world.view_is in
-    let found : sent_message now.set c.args.chain c.args.hop now.list ≡ Some c.in-Some.message =
-    cc (set, list, c.deref.ensures.value, c.in_ok-message.ensures, c.in-Some.is) in
-    let gives : Gives c.in_ok-delivery.delivery
-    (delivery c.world.inside.set c.destination_of-server.result 0 c.history.result.now [] c.in-Some.message) =
-    c.in_ok-delivery.ensures in
-    ran-may_follow now.set now.list c.destination_of-server.result c.in-Some.message c.in_ok-delivery.delivery.added
-    (sent_found now.set now.list c.args.chain c.args.hop c.in-Some.message found)
-    (ltb-true _ _ (cc (c.has_server.ensures, c.if-not-has_server.false)))
-    (gives.1 ∙ cc (set, c.history.ensures))
+pub invariant_of-self : goal.invariant_of-self
+invariant_of-self c =
+    let set = c.self.inside.set in
+    let servers = c.self.inside.servers.items in
+    let order = c.self.inside.order.items in
+    let server = c.destination_of-server.result in
+    let old = c.index_mut.result.now in
+    let within : nat_lt server set.servers ≡ true = ap (λ (w : WorldState). is_server w server) c.self.view_is ∙ sym c.has_server.ensures ∙ c.if-not-has_server.false in
+    let there = server_found set servers order c.index.result server old c.self.invariant c.index.ensures.value within c.index_mut.ensures.value in
+    (stilled set servers order c.deliver_at.new.order.items c.index.result server c.deliver_at.new.here
+    (still set servers order server old c.deliver_at.new.here c.self.invariant there c.in_err-delivered.ensures.same) c.index.ensures.value c.in_err-delivered.ensures.same_order).0
+
+pub returns-in_err-delivered-clause-err : goal.returns-in_err-delivered-clause-err
+returns-in_err-delivered-clause-err c =
+    let set = c.self.inside.set in
+    let servers = c.self.inside.servers.items in
+    let order = c.self.inside.order.items in
+    let server = c.destination_of-server.result in
+    let old = c.index_mut.result.now in
+    let within : nat_lt server set.servers ≡ true = ap (λ (w : WorldState). is_server w server) c.self.view_is ∙ sym c.has_server.ensures ∙ c.if-not-has_server.false in
+    let there = server_found set servers order c.index.result server old c.self.invariant c.index.ensures.value within c.index_mut.ensures.value in
+    let same = (stilled set servers order c.deliver_at.new.order.items c.index.result server c.deliver_at.new.here
+    (still set servers order server old c.deliver_at.new.here c.self.invariant there c.in_err-delivered.ensures.same) c.index.ensures.value c.in_err-delivered.ensures.same_order).1 in
+    at_error c.from_residual-in_err-delivered.result _ (same ∙ c.self.view_is)
+
+pub invariant_of-self-2 : goal.invariant_of-self-2
+invariant_of-self-2 c =
+    let set = c.self.inside.set in
+    let servers = c.self.inside.servers.items in
+    let order = c.self.inside.order.items in
+    let server = c.destination_of-server.result in
+    let old = c.index_mut.result.now in
+    let within : nat_lt server set.servers ≡ true = ap (λ (w : WorldState). is_server w server) c.self.view_is ∙ sym c.has_server.ensures ∙ c.if-not-has_server.false in
+    let there = server_found set servers order c.index.result server old c.self.invariant c.index.ensures.value within c.index_mut.ensures.value in
+    (taken set servers order _ _ c.index.result server c.deliver_at.new.here _ c.deliver_at.new.order.items
+    (delivered set servers order server c.args.chain c.args.hop c.in-Some.message c.in_ok-delivered.delivered old c.deliver_at.new.here c.self.invariant there within c.in_ok-delivered.ensures.delivered
+    (ap (λ (w : WorldState). sent_message w.set c.args.chain c.args.hop w.list) c.self.view_is ∙ sym c.in_ok-message.ensures ∙ c.in-Some.is)
+    (c.destination_of-server.ensures ∙ ap (λ (w : WorldState). destination_of w.set c.in-Some.message) (sym c.self.view_is)))
+    c.index.ensures.value c.in_ok-delivered.ensures.order).are
 
 pub returns-clause-ok : goal.returns-clause-ok
 returns-clause-ok c =
-    let now : WorldState = c.args.self.now in
-    let set : c.world.inside.set ≡ now.set = ap (λ (w : WorldState). w.set) c.world.view_is in
-    let list : c.world.inside.list.items ≡ now.list = ap (λ (w : WorldState). w.list) c.world.view_is in
-    let found : sent_message now.set c.args.chain c.args.hop now.list ≡ Some c.in-Some.message =
-    cc (set, list, c.deref.ensures.value, c.in_ok-message.ensures, c.in-Some.is) in
-    let gives : Gives c.in_ok-delivery.delivery
-    (delivery c.world.inside.set c.destination_of-server.result 0 c.history.result.now [] c.in-Some.message) =
-    c.in_ok-delivery.ensures in
-    delivers_so now c.add.new.self c.args.chain c.args.hop c.in-Some.message c.destination_of-server.result _ c.in_ok-delivery.delivery.added
-    (nothing_held _ _ _ c.world.view_is) found (cc (c.has_server.ensures, c.if-not-has_server.false)) c.destination_of-server.ensures
-    (gives.0 ∙ cc (set, c.history.ensures)) (gives.1 ∙ cc (set, c.history.ensures)) c.in_ok-add.ensures.ok
+    let set = c.self.inside.set in
+    let servers = c.self.inside.servers.items in
+    let order = c.self.inside.order.items in
+    let server = c.destination_of-server.result in
+    let old = c.index_mut.result.now in
+    let within : nat_lt server set.servers ≡ true = ap (λ (w : WorldState). is_server w server) c.self.view_is ∙ sym c.has_server.ensures ∙ c.if-not-has_server.false in
+    let there = server_found set servers order c.index.result server old c.self.invariant c.index.ensures.value within c.index_mut.ensures.value in
+    let its = taken set servers order _ _ c.index.result server c.deliver_at.new.here _ c.deliver_at.new.order.items
+    (delivered set servers order server c.args.chain c.args.hop c.in-Some.message c.in_ok-delivered.delivered old c.deliver_at.new.here c.self.invariant there within c.in_ok-delivered.ensures.delivered
+    (ap (λ (w : WorldState). sent_message w.set c.args.chain c.args.hop w.list) c.self.view_is ∙ sym c.in_ok-message.ensures ∙ c.in-Some.is)
+    (c.destination_of-server.ensures ∙ ap (λ (w : WorldState). destination_of w.set c.in-Some.message) (sym c.self.view_is)))
+    c.index.ensures.value c.in_ok-delivered.ensures.order in
+    its.is ∙ ap (λ (w : WorldState). step MAX_HELD w (Deliver c.args.chain c.args.hop)) c.self.view_is

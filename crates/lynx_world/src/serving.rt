@@ -1,0 +1,145 @@
+//! A call of one server, with a note of the entry that it adds.
+ghost use Rattle.std.specs.Prelude.{◌≡◌, ◌++◌, [], IfOk, None, OnErr, OnOk, false, length};
+ghost use Rattle.lynx_books.specs.Repeating.{GoesOn, is_undelivered, is_unserved};
+ghost use Rattle.lynx_world.specs.Servers.{HasBegun, HasDelivered, HasWoken, noted, waking};
+
+use crate::added::{Added, note};
+use lynx_books::{OpenFault, Server, Woken};
+use lynx_entry::{Answer, Delivered, Message, Outcome, Request};
+use lynx_keep::MemoryKeeper;
+use lynx_names::{Memory, ServerId, Stamp, TryCopy};
+use std::alloc::Global;
+
+/// Want of memory was answered.
+fn is_unserved(answer: &Answer) -> bool
+    ensures { result ≡ is_unserved answer.now }
+{
+    matches!(answer, Answer::Memory)
+}
+
+/// Want of memory was answered.
+fn is_undelivered(delivered: &Delivered) -> bool
+    ensures { result ≡ is_undelivered delivered.now }
+{
+    matches!(delivered, Delivered::Memory)
+}
+
+/// A begin at this server.
+pub(crate) fn begin_at(
+    alloc: Global,
+    here: &mut Server<MemoryKeeper>,
+    order: &mut Vec<Added>,
+    server: ServerId,
+    request: Request,
+    seen: Stamp,
+) -> Result<Answer, Memory>
+    requires { here.old.is_stopped ≡ false }
+    ensures begun { IfOk result (λ answer. HasBegun here.old request seen answer here.new) }
+    ensures order { OnOk result (order.new.items ≡ order.old.items
+        ++ noted server (length here.old.history) (length here.new.history)) }
+    ensures same { OnErr result (GoesOn here.old None here.old.held here.new) }
+    ensures same_order { OnErr result (order.new.items ≡ order.old.items) }
+{
+    order.reserve(1)?;
+    let place = here.history().len();
+    let answer = here.begin(alloc, request, seen);
+    if is_unserved(&answer) {
+        return Err(Memory);
+    }
+    note(order, server, place, here.history().len());
+    Ok(answer)
+}
+
+/// A delivery at this server.
+pub(crate) fn deliver_at(
+    alloc: Global,
+    here: &mut Server<MemoryKeeper>,
+    order: &mut Vec<Added>,
+    server: ServerId,
+    message: Message,
+) -> Result<Delivered, Memory>
+    requires { here.old.is_stopped ≡ false }
+    ensures delivered { IfOk result (λ delivered. HasDelivered here.old message delivered here.new) }
+    ensures order { OnOk result (order.new.items ≡ order.old.items
+        ++ noted server (length here.old.history) (length here.new.history)) }
+    ensures same { OnErr result (GoesOn here.old None here.old.held here.new) }
+    ensures same_order { OnErr result (order.new.items ≡ order.old.items) }
+{
+    order.reserve(1)?;
+    let place = here.history().len();
+    let delivered = here.deliver(alloc, message);
+    if is_undelivered(&delivered) {
+        return Err(Memory);
+    }
+    note(order, server, place, here.history().len());
+    Ok(delivered)
+}
+
+/// A waking of this server.
+pub(crate) fn wake_at(
+    alloc: Global,
+    here: &mut Server<MemoryKeeper>,
+    order: &mut Vec<Added>,
+    server: ServerId,
+) -> Result<Option<Woken>, Memory>
+    requires { here.old.is_stopped ≡ false }
+    ensures woken { IfOk result (λ woken. HasWoken here.old woken here.new) }
+    ensures order { OnOk result (order.new.items ≡ order.old.items
+        ++ noted server (length here.old.history) (length here.new.history)) }
+    ensures same { OnErr result (GoesOn here.old None here.old.held here.new) }
+    ensures same_order { OnErr result (order.new.items ≡ order.old.items) }
+{
+    order.reserve(1)?;
+    let place = here.history().len();
+    let Some(woken) = here.wake(alloc) else {
+        return Ok(None);
+    };
+    if is_undelivered(&woken.delivered) {
+        return Err(Memory);
+    }
+    note(order, server, place, here.history().len());
+    Ok(Some(woken))
+}
+
+/// What a waking comes to.
+pub(crate) fn waking(server: ServerId, woken: Option<Woken>) -> Outcome
+    ensures { result ≡ waking server woken }
+{
+    match woken {
+        Some(woken) => Outcome::Woken {
+            chain: woken.chain,
+            hop: woken.hop,
+            delivered: woken.delivered,
+        },
+        None => Outcome::Idle { server },
+    }
+}
+
+/// Opens the server again over a copy of what it keeps. The new server is opened beside the old one, so want of
+/// memory leaves that as it was.
+pub(crate) fn restart_at(alloc: Global, here: &mut Server<MemoryKeeper>) -> Result<(), Memory>
+    requires { here.old.is_stopped ≡ false }
+    ensures ok { OnOk result (GoesOn here.old None [] here.new) }
+    ensures err { OnErr result (here.new ≡ here.old) }
+{
+    // The history is lawful, so what is kept of it isn't damaged.
+    let _ = here.history();
+    let keeper = here.keeper().copy(alloc)?;
+    match Server::open(alloc, here.set(), here.server(), keeper) {
+        Ok(opened) => {
+            *here = opened;
+            Ok(())
+        }
+        Err(fault) => Err(want_of_memory(fault)),
+    }
+}
+
+/// The only fault of opening what a server that runs keeps in memory.
+fn want_of_memory(fault: OpenFault) -> Memory
+    requires { fault ≡ OpenFault.Memory }
+{
+    match fault {
+        OpenFault::Memory => Memory,
+        OpenFault::Damaged { .. } | OpenFault::Store => unreachable!(),
+    }
+}

@@ -1,0 +1,61 @@
+//! `lynx_bench WORK COUNT`: has a server do some work so many times, to be timed from outside.
+#![tactic(auto)]
+
+use std::env;
+use std::process::ExitCode;
+use std::rt::Env;
+
+mod measure;
+
+use measure::{Work, measure};
+
+/// The work that a word names.
+fn work_of(word: &str) -> Option<Work> {
+    match word {
+        "begin" => Some(Work::Begin),
+        "deliver" => Some(Work::Deliver),
+        "open" => Some(Work::Open),
+        _ => None,
+    }
+}
+
+/// The work and the count that the words ask for.
+fn asked(words: &[String]) -> Option<(Work, u64)> {
+    match words {
+        [_, work, count] => Some((work_of(work.as_str())?, count.as_str().parse().ok()?)),
+        _ => None,
+    }
+}
+
+/// Does what the words ask for, and gives the status.
+fn obey<R: Print + Eprint + AllocGlobal>(rt: &R, words: &[String]) -> u8 {
+    let Some((work, count)) = asked(words) else {
+        let _ = eprintln!(rt; "lynx_bench: begin, deliver or open, and a count");
+        return 2;
+    };
+    match measure(rt.alloc(), work, count) {
+        Ok(done) => {
+            let _ = println!(rt; "{done}");
+            0
+        }
+        Err(_) => {
+            let _ = eprintln!(rt; "lynx_bench: out of memory");
+            3
+        }
+    }
+}
+
+/// The words of the command line, the program's name first, none where they can't be read.
+fn words<R: Env + AllocGlobal>(rt: &R) -> Vec<String> {
+    match env::args(rt) {
+        Ok(args) => args
+            .collect(rt.alloc())
+            .unwrap_or_else(|_| Vec::new(rt.alloc())),
+        Err(_) => Vec::new(rt.alloc()),
+    }
+}
+
+fn main(rt: HostRuntime) -> ExitCode {
+    let words = words(&rt);
+    ExitCode::from(obey(&rt, words.as_slice()))
+}

@@ -1,0 +1,10 @@
+pub mod Loops
+pub mod Codec
+pub mod FieldCodecs
+pub mod NumbersCodec
+pub mod ItemCodecs
+pub mod Items
+pub mod Fronts
+pub mod Ranges
+pub mod Feeds
+pub mod Runs

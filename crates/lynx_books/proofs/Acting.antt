@@ -16,7 +16,7 @@ use Rattle.lynx_books.specs.Acts.{act_of, is_act}
 use Rattle.lynx_books.specs.Books.{begins_as}
 use Rattle.lynx_books.specs.History.{IsLawfulAfter, IsLawfulHistory}
 
-left : (a b : Bool) → (a && b) ≡ true → a ≡ true
+pub left : (a b : Bool) → (a && b) ≡ true → a ≡ true
 left true b e = refl
 left false b e = e
 
@@ -35,7 +35,7 @@ later_at set server message None e = cc
 later_at set server message (Some program) e = later_in set server message program (slice_get program.hops message.hop) [] e
 
 -- a well formed message is of a later hop
-later : (set : Set) (server : ℕ) (history : History) (message : Message) → IsTrue (is_well_formed set server history message) → 0 < message.hop
+pub later : (set : Set) (server : ℕ) (history : History) (message : Message) → IsTrue (is_well_formed set server history message) → 0 < message.hop
 later set server history message formed =
     later_at set server message (program_at set message.program)
     (left (fits_program set server message (program_at set message.program)) (has_begun server history message) formed)

@@ -7,6 +7,7 @@ pub mod Growing
 pub mod Indexing
 pub mod Numbers
 pub mod Opened
+pub mod Returning
 pub mod Same
 pub mod Repeating
 pub mod Turning

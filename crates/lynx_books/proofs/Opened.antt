@@ -1,5 +1,5 @@
 -- What is told of kept cells that aren't those of the kept entries.
-use Rattle.std.proofs.Common.{◌≡◌, ◌∙◌, ◌↔◌, ℕ, zero, suc, Bool, false, true, IsTrue, List, [], ◌∷◌, ◌++◌, length, take, slice_get, Some, inl, inr, append_assoc, refl, sym, ap, subst}
+use Rattle.std.proofs.Common.{◌≡◌, ◌∙◌, ◌↔◌, ℕ, zero, suc, Bool, false, IsTrue, [], ◌∷◌, ◌++◌, length, take, slice_get, Some, inl, inr, append_assoc, refl, sym, ap, subst}
 use Rattle.lynx_cells.specs.Database.{Database}
 use Rattle.lynx_set.specs.Set.{Set}
 use Rattle.lynx_entry.specs.Entry.{History}

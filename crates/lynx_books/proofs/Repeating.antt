@@ -37,7 +37,7 @@ use Rattle.lynx_books.proofs.Chains.{get_last}
 use Rattle.lynx_books.proofs.Growing.{lawful-push}
 use Rattle.lynx_books.proofs.Due.{due-answer, due-by}
 
-count_first : (test : Entry → Bool) (entry : Entry) (history : History) →
+pub count_first : (test : Entry → Bool) (entry : Entry) (history : History) →
     count_by test (entry ∷ history) ≡ (0 + cond (test entry) 1 0) + count_by test history
 count_first test entry history = sum_by-append (λ e. cond (test e) 1 0) (entry ∷ []) history
 

@@ -7,5 +7,6 @@ pub mod Indexes
 pub mod Keeping
 pub mod Opening
 pub mod Repeating
+pub mod Returning
 pub mod Serving
 pub mod Sorting

@@ -15,6 +15,7 @@ mod counting;
 pub mod fault;
 pub mod hop_steps;
 mod keeping;
+pub mod laws;
 pub mod opening;
 pub mod register;
 pub mod replay;

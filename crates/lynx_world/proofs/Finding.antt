@@ -1,6 +1,6 @@
 -- Finding the message of a hop by the entry of the hop before.
-use Rattle.std.proofs.Common.{◌≡◌, ◌≢◌, ◌<◌, ◌+◌, ◌&&◌, ◌||◌, ℕ, zero, suc, Bool, true, false, cond, nat_eq, map, length, is_some, List, [], ◌∷◌, slice_get, find, Option, Some, None, IsSome, refl, sym, ap, ◌∙◌, subst, inl, inr, ◌⊎◌, eq-eqb, arith}
-use Rattle.std.specs.List.{cons_option, filter_map}
+use Rattle.std.proofs.Common.{◌≡◌, ◌<◌, ◌+◌, ◌&&◌, ℕ, zero, suc, Bool, true, false, cond, nat_eq, map, List, [], ◌∷◌, slice_get, find, Option, Some, None, refl, sym, ap, ◌∙◌, subst, inl, inr, ◌⊎◌, eq-eqb, arith}
+use Rattle.std.specs.List.{cons_option}
 use Rattle.std.specs.Option.{option_and_then, option_or}
 use Rattle.std.proofs.lemmas.Bool.{eqb-true}
 use Rattle.std.proofs.lemmas.Option.{slice_get_cases}
@@ -9,7 +9,6 @@ use Rattle.lynx_set.specs.Set.{Set}
 use Rattle.lynx_entry.specs.declared.entry.Entry.{Entry}
 use Rattle.lynx_entry.specs.declared.entry.Entry.TheVariants.{Begun, Refused, Hop}
 use Rattle.lynx_entry.specs.declared.message.Message.{Message}
-use Rattle.lynx_entry.specs.Entry.{History}
 use Rattle.lynx_keep.specs.Kept.{Kept}
 use Rattle.lynx_turn.specs.Held.{same_chain}
 use Rattle.lynx_server.specs.Messages.{next_message}
@@ -21,10 +20,10 @@ use Rattle.lynx_world.specs.Legal.{IsLegal, IsSent}
 use Rattle.lynx_world.specs.Order.{hop_in}
 use Rattle.lynx_world.specs.Servers.{AreServers, Servers, act_among, act_in, list_of}
 use Rattle.lynx_world.specs.Steps.{is_message_of, sent_message}
-use Rattle.lynx_world.specs.Worlds.{history_of, messages_of}
-use Rattle.lynx_world.proofs.Members.{IsIn, found_in, in_history, in_list, none_of, sender_of}
+use Rattle.lynx_world.specs.Worlds.{messages_of}
+use Rattle.lynx_world.proofs.Members.{IsIn, found_in, in_history, in_list, sender_of}
 use Rattle.lynx_world.proofs.Once.{both, sends_after, same_chain-self, same_name}
-use Rattle.lynx_world.proofs.Unique.{one_entry, one_message}
+use Rattle.lynx_world.proofs.Unique.{one_entry}
 use Rattle.lynx_world.proofs.LegalSteps.{sent_found}
 use Rattle.lynx_world.proofs.Standing.{stands}
 

@@ -1,5 +1,5 @@
 -- A step leaves the list as it was, or adds one entry at its end.
-use Rattle.std.proofs.Common.{◌≡◌, ℕ, Bool, true, false, List, [], ◌∷◌, ◌++◌, Option, Some, None, inl, inr, refl}
+use Rattle.std.proofs.Common.{◌≡◌, ℕ, Bool, true, false, List, Option, Some, None, inl, inr, refl}
 use Rattle.std.specs.Prelude.{if◌then◌else◌, filter, is_some}
 use Rattle.lynx_names.specs.declared.chain.ChainId.{ChainId}
 use Rattle.lynx_set.specs.Set.{Set}
@@ -7,10 +7,9 @@ use Rattle.lynx_entry.specs.declared.entry.Entry.{Entry}
 use Rattle.lynx_entry.specs.declared.message.Message.{Message}
 use Rattle.lynx_entry.specs.declared.event.Event.{Event}
 use Rattle.lynx_entry.specs.declared.event.Event.TheVariants.{Begin, Deliver, Wake, Lost, Restart}
-use Rattle.lynx_server.specs.Answers.{answer}
 use Rattle.lynx_world.specs.Placed.{Placed}
 use Rattle.lynx_world.specs.Worlds.{WorldState, history_of}
-use Rattle.lynx_world.specs.Steps.{HasGrown, Step, step, stays, is_server, held_at, sent_message, destination_of, with_entry, deliver_sent, wake_at, least_of, stands_now}
+use Rattle.lynx_world.specs.Steps.{HasGrown, Step, step, is_server, held_at, sent_message, destination_of, with_entry, deliver_sent, wake_at, least_of, stands_now}
 
 with_entry-grows : (server : ℕ) (added : Option Entry) (list : List Placed) → HasGrown list (with_entry server added list)
 with_entry-grows server None list = inl refl

@@ -1,10 +1,10 @@
 -- What a server holds after a delivery was sent, where what it held before was, and the message.
-use Rattle.std.proofs.Common.{◌≡◌, ℕ, zero, suc, Bool, true, false, not, ◌&&◌, cond, nat_lt, filter, fold, insert, length, List, [], ◌∷◌, ◌++◌, Option, Some, None, Ok, Err, All, unwrap_or, refl, sym, ap, ◌∙◌, subst}
+use Rattle.std.proofs.Common.{◌≡◌, ℕ, zero, suc, Bool, true, false, not, ◌&&◌, cond, nat_lt, fold, insert, length, List, [], ◌∷◌, Option, Some, None, Ok, Err, All, unwrap_or, subst}
 use Rattle.std.specs.List.{list_any}
 use Rattle.std.proofs.lemmas.Bool.{cond_both}
-use Rattle.std.proofs.lemmas.List.Elements.{All-append, All-cons, All-filter, All-head, All-nil, All-tail}
+use Rattle.std.proofs.lemmas.List.Elements.{All-cons, All-filter, All-head, All-nil, All-tail}
 use Rattle.lynx_set.specs.Set.{Set}
-use Rattle.lynx_hops.specs.Meaning.{HopOutcome, meaning}
+use Rattle.lynx_hops.specs.Meaning.{HopOutcome}
 use Rattle.lynx_entry.specs.declared.entry.Entry.{Entry}
 use Rattle.lynx_entry.specs.declared.message.Message.{Message}
 use Rattle.lynx_entry.specs.Entry.{History}
@@ -13,7 +13,6 @@ use Rattle.lynx_server.specs.Answers.{is_full}
 use Rattle.lynx_server.specs.Checks.{is_well_formed}
 use Rattle.lynx_server.specs.Deliveries.{Delivers, deliver_by_turn, deliver_new, delivery, done_by, early, same_hop, same_message}
 use Rattle.lynx_server.specs.Lawful.{hop_entry_of, number_at}
-use Rattle.lynx_server.specs.Tables.{tables_of}
 use Rattle.lynx_server.specs.Turns.{turn_of}
 
 -- all of it holds of each message that is held afterwards

@@ -1,21 +1,10 @@
 -- The histories of a world, at its start and after one more entry.
-use Rattle.std.proofs.Common.{◌≡◌, ℕ, ◌<◌, ◌+◌, List, [], ◌∷◌, ◌++◌, Bool, true, false, cond, length, get_or, replicate, refl, ap, sym, ◌∙◌, subst, nat_eq, inl, inr, suc, arith}
-use Rattle.std.proofs.Math.ListN.{set}
+use Rattle.std.proofs.Common.{◌≡◌, ℕ, ◌<◌, ◌+◌, List, [], ◌∷◌, ◌++◌, Bool, true, false, cond, length, get_or, refl, ap, ◌∙◌, nat_eq, suc, arith}
 use Rattle.std.specs.List.{filter_map}
-use Rattle.std.proofs.lemmas.List.{append-nil, get_or-replicate, length-replicate, length-set, get_or-set_same, get_or-set_other}
 use Rattle.std.proofs.lemmas.List.Elements.{filter_map-append}
-use Rattle.std.proofs.lemmas.Bool.Decides.{eqb_tells}
-use Rattle.lynx_entry.specs.Entry.{History}
 use Rattle.lynx_world.specs.Placed.{Placed}
-use Rattle.lynx_names.specs.declared.chain.ChainId.{ChainId}
-use Rattle.lynx_set.specs.Set.{Set}
-use Rattle.std.specs.Option.{option_or}
-use Rattle.std.specs.List.{find, flat_map, range_with_len}
-use Rattle.lynx_world.specs.Tables.{cells_after}
-use Rattle.std.proofs.lemmas.List.Folds.{find-append}
-use Rattle.lynx_server.specs.Messages.{next_message}
-use Rattle.lynx_world.specs.Steps.{is_message_of, sent_message}
-use Rattle.lynx_world.specs.Worlds.{entry_at, history_of, messages_of}
+use Rattle.std.specs.List.{flat_map, range_with_len}
+use Rattle.lynx_world.specs.Worlds.{entry_at, history_of}
 
 -- the entry goes to its server's history alone
 pub history_of-push : (server : ℕ) (list : List Placed) (placed : Placed) →

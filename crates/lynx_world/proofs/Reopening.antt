@@ -1,5 +1,5 @@
 -- What a server that runs keeps in memory is opened, unless there is no memory.
-use Rattle.std.proofs.Common.{◌≡◌, ℕ, Err, refl, sym, ap, subst}
+use Rattle.std.proofs.Common.{◌≡◌, ℕ, Err, refl}
 use Rattle.lynx_set.specs.Set.{Set}
 use Rattle.lynx_entry.specs.Entry.{History}
 use Rattle.lynx_keep.specs.Kept.{Kept}

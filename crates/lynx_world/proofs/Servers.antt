@@ -1,7 +1,7 @@
 -- Servers of a world, and the list of what they added.
-use Rattle.std.proofs.Common.{◌≡◌, ◌≢◌, ◌<◌, ◌+◌, ◌⊎◌, ℕ, zero, suc, Bool, true, false, cond, nat_eq, nat_lt, map, length, List, [], ◌∷◌, ◌++◌, slice_get, slice_set, find, filter, Option, Some, None, IsSome, IfSome, All, refl, sym, ap, ◌∙◌, subst, inl, inr, eq-eqb, arith}
+use Rattle.std.proofs.Common.{◌≡◌, ◌≢◌, ◌<◌, ℕ, zero, suc, false, cond, nat_eq, length, List, [], ◌∷◌, ◌++◌, slice_get, slice_set, Option, Some, None, IsSome, IfSome, All, refl, sym, ap, ◌∙◌, subst, inl, inr, eq-eqb, arith}
 use Rattle.std.specs.Prelude.{option_map}
-use Rattle.std.specs.List.{cons_option, filter_map, flat_map, range_with_len}
+use Rattle.std.specs.List.{cons_option}
 use Rattle.std.specs.Option.{option_and_then, option_or}
 use Rattle.std.proofs.lemmas.Bool.{lt-ltb, le-ltb}
 use Rattle.std.proofs.lemmas.Bool.Decides.{eqb_tells}

@@ -1,12 +1,9 @@
 -- A world in which nothing happened yet, and the cells of its servers.
-use Rattle.std.proofs.Common.{◌≡◌, ◌<◌, ◌≤◌, ◌+◌, ◌-◌, ℕ, zero, suc, map, length, replicate, List, [], ◌∷◌, ◌++◌, slice_get, Some, add-one, refl, sym, ap, ◌∙◌, subst, arith}
-use Rattle.std.specs.Prelude.{option_map}
+use Rattle.std.proofs.Common.{◌≡◌, ◌<◌, ◌+◌, ◌-◌, ℕ, zero, suc, map, length, replicate, List, [], ◌∷◌, ◌++◌, slice_get, Some, add-one, refl, sym, ap, ◌∙◌, subst, arith}
 use Rattle.std.specs.List.{flat_map, range_with_len}
 use Rattle.std.proofs.lemmas.List.{map-append}
 use Rattle.std.proofs.lemmas.List.Elements.{All-nil}
-use Rattle.std.proofs.lemmas.Option.{slice_get-map}
 use Rattle.lynx_set.specs.Set.{Set}
-use Rattle.lynx_entry.specs.declared.message.Message.{Message}
 use Rattle.lynx_keep.specs.Kept.{Kept}
 use Rattle.lynx_server.proofs.Ranges.{range_more}
 use Rattle.lynx_books.specs.Serving.{Serving}

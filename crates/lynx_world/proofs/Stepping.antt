@@ -1,5 +1,5 @@
 -- A call of one server is the step of the world.
-use Rattle.std.proofs.Common.{◌≡◌, ◌<◌, ◌+◌, ◌==◌, ℕ, Bool, true, false, not, cond, nat_eq, nat_lt, if◌then◌else◌, map, length, filter, List, [], ◌∷◌, ◌++◌, slice_get, slice_set, get_or, Option, Some, None, IfSome, All, unwrap_or, Result, Ok, Err, OnErr, refl, sym, ap, ◌∙◌, subst, arith}
+use Rattle.std.proofs.Common.{◌≡◌, ◌==◌, ℕ, Bool, true, false, not, cond, nat_lt, if◌then◌else◌, length, filter, List, [], ◌∷◌, ◌++◌, slice_get, slice_set, get_or, Option, Some, None, IfSome, All, unwrap_or, Result, Ok, Err, OnErr, refl, sym, ap, ◌∙◌, subst, arith}
 use Rattle.std.specs.Prelude.{option_map}
 use Rattle.std.proofs.lemmas.Bool.{le-ltb, ltb-true}
 use Rattle.std.proofs.lemmas.List.{append-nil}
@@ -11,35 +11,33 @@ use Rattle.lynx_set.specs.Set.{Set}
 use Rattle.lynx_entry.specs.declared.answer.Answer.{Answer}
 use Rattle.lynx_entry.specs.declared.answer.Delivered.{Delivered}
 use Rattle.lynx_entry.specs.declared.answer.Delivered.TheVariants as deliveries
-use Rattle.lynx_entry.specs.declared.entry.Entry.{Entry}
 use Rattle.lynx_entry.specs.declared.message.Message.{Message}
 use Rattle.lynx_entry.specs.declared.request.Request.{Request}
 use Rattle.lynx_entry.specs.declared.event.Event.{Event}
-use Rattle.lynx_entry.specs.declared.event.Event.TheVariants.{Begin, Deliver, Wake, Lost, Restart}
+use Rattle.lynx_entry.specs.declared.event.Event.TheVariants.{Begin, Deliver, Wake, Restart}
 use Rattle.lynx_entry.specs.declared.event.Outcome.{Outcome}
 use Rattle.lynx_entry.specs.declared.event.Outcome.TheVariants.{Answered, Delivered as DeliveredNow, Woken as WokenNow, Idle, Restarted, NoServer}
 use Rattle.lynx_entry.specs.Entry.{History}
 use Rattle.lynx_keep.specs.Kept.{Kept}
-use Rattle.lynx_turn.specs.Held.{is_for, least_of}
+use Rattle.lynx_turn.specs.Held.{least_of}
 use Rattle.lynx_server.specs.declared.answers.Begins.{Begins}
 use Rattle.lynx_server.specs.Answers.{answer}
 use Rattle.lynx_server.specs.Deliveries.{Delivers, delivery, same_hop}
 use Rattle.lynx_server.specs.Lawful.{number_at}
 use Rattle.lynx_server.specs.Turns.{turn_of}
-use Rattle.lynx_books.specs.History.{grown}
 use Rattle.lynx_books.specs.Repeating.{GoesOn}
 use Rattle.lynx_books.specs.Serving.{Serving, delivery_of, is_put_off, woken_of}
 use Rattle.lynx_books.specs.declared.server.Woken.{Woken}
 use Rattle.lynx_books.proofs.Delivering.{IsPlain, delivery-plain}
 use Rattle.lynx_world.specs.declared.added.Added.{Added}
 use Rattle.lynx_world.specs.Placed.{Placed}
-use Rattle.lynx_world.specs.Legal.{IsLegal, IsSent, MayFollow}
+use Rattle.lynx_world.specs.Legal.{IsSent, MayFollow}
 use Rattle.lynx_world.specs.Servers.{AreServers, HasBegun, HasDelivered, HasSlept, HasWoken, HasWokenOne, Servers, held_of, held_then, list_of, noted, waking}
-use Rattle.lynx_world.specs.Steps.{after_delivery, begin_at, deliver_sent, deliver_to, destination_of, held_at, is_full_answer, sent_message, stands_now, stays, step, wake_at, with_entry}
+use Rattle.lynx_world.specs.Steps.{begin_at, deliver_sent, deliver_to, destination_of, held_at, is_full_answer, sent_message, stands_now, stays, step, wake_at, with_entry}
 use Rattle.lynx_world.specs.Worlds.{WorldState, history_of}
 use Rattle.lynx_world.proofs.HeldSent.{delivery_holds, least_of_holds}
 use Rattle.lynx_world.proofs.LegalSteps.{begun-may_follow, ran-may_follow, sent_found}
-use Rattle.lynx_world.proofs.Servers.{HasMoved, all_sent_with, has_moved, sent_with, set_same}
+use Rattle.lynx_world.proofs.Servers.{all_sent_with, has_moved, set_same}
 
 -- a world of these servers
 abbrev pub world_of : Set → Servers → List Added → WorldState

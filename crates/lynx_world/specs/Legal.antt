@@ -2,7 +2,6 @@
 use Rattle.std.specs.Prelude.{◌≡◌, ◌<◌, List, [], ◌∷◌, ◌++◌, Some, ◌⊎◌}
 use Rattle.lynx_set.specs.Set.{Set}
 use Rattle.lynx_entry.specs.declared.message.Message.{Message}
-use Rattle.lynx_entry.specs.Entry.{History}
 use Rattle.lynx_server.specs.Messages.{next_message}
 use Rattle.lynx_server.specs.Lawful.{IsLawful, message_of}
 use Rattle.lynx_world.specs.Placed.{Placed}

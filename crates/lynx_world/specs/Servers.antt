@@ -1,5 +1,5 @@
 -- What a world keeps: its servers, and in which order they added their entries.
-use Rattle.std.specs.Prelude.{◌≡◌, ℕ, ◌++◌, Bool, false, not, if◌then◌else◌, nat_lt, filter, length, map, slice_get, List, [], ◌∷◌, Option, Some, None, IsSome, All, find, option_map}
+use Rattle.std.specs.Prelude.{◌≡◌, ℕ, false, not, if◌then◌else◌, nat_lt, filter, length, map, slice_get, List, [], ◌∷◌, Option, Some, None, IsSome, All, find, option_map}
 use Rattle.std.specs.List.{filter_map, range_with_len}
 use Rattle.std.specs.Option.{option_and_then, option_or}
 use Rattle.lynx_keep.specs.Kept.{Kept, nothing_kept}

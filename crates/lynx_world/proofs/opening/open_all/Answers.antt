@@ -1,6 +1,5 @@
 use Rattle.std.proofs.Common.{◌∙◌, [], false, sym, ap, arith}
 use Rattle.lynx_keep.specs.Kept.{Kept, nothing_kept}
-use Rattle.lynx_world.specs.Servers.{new_server}
 use Rattle.lynx_world.proofs.Starting.{first_alike, one_more}
 use Rattle.lynx_world.proofs.opening.open_all.Goals as goal
 

@@ -1,8 +1,6 @@
 use Rattle.std.proofs.Common.{◌≡◌, ◌∙◌, refl, sym, ap, subst}
-use Rattle.lynx_keep.specs.Kept.{Kept}
 use Rattle.lynx_books.specs.History.{IsLawfulHistory}
 use Rattle.lynx_books.specs.Keeping.{kept_of}
-use Rattle.lynx_books.specs.Opening.{IsOpened, Opens}
 use Rattle.lynx_set.specs.Set.{Set}
 use Rattle.lynx_world.proofs.Reopening.{only_memory}
 use Rattle.lynx_world.proofs.serving.restart_at.Goals as goal

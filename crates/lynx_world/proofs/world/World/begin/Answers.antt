@@ -1,4 +1,4 @@
-use Rattle.std.proofs.Common.{◌≡◌, ◌∙◌, nat_lt, true, refl, sym, ap}
+use Rattle.std.proofs.Common.{◌≡◌, ◌∙◌, nat_lt, true, sym, ap}
 use Rattle.lynx_names.specs.declared.limits.TheConstants.{MAX_HELD}
 use Rattle.lynx_entry.specs.declared.event.Event.TheVariants.{Begin}
 use Rattle.lynx_world.specs.Steps.{is_server, step}

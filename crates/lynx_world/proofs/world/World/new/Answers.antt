@@ -1,4 +1,4 @@
-use Rattle.std.proofs.Common.{◌≡◌, ◌∙◌, List, [], sym, ap, subst}
+use Rattle.std.proofs.Common.{◌∙◌, List, [], sym, ap, subst}
 use Rattle.lynx_world.specs.declared.added.Added.{Added}
 use Rattle.lynx_world.specs.Servers.{AreServers, Servers}
 use Rattle.lynx_world.proofs.Starting.{new_are, new_is}

@@ -3,7 +3,7 @@ use Rattle.lynx_names.specs.declared.limits.TheConstants.{MAX_HELD}
 use Rattle.lynx_entry.specs.declared.event.Event.TheVariants.{Restart}
 use Rattle.lynx_world.specs.Steps.{is_server, step}
 use Rattle.lynx_world.specs.Worlds.{WorldState}
-use Rattle.lynx_world.proofs.Stepping.{at_error, restarted, server_found, still, stilled, taken}
+use Rattle.lynx_world.proofs.Stepping.{restarted, server_found, taken}
 use Rattle.lynx_world.proofs.world.World.restart.Goals as goal
 
 pub invariant_of-self-2 : goal.invariant_of-self-2

@@ -7,5 +7,6 @@ pub use texts::{check_source, draw_source, run_input, run_sources};
 
 pub mod fault;
 pub mod jobs;
+pub mod laws;
 pub mod shown;
 pub mod texts;

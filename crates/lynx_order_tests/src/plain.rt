@@ -62,9 +62,9 @@ fn is_in_conflict(set: &ChainSet, first: &Entry, entry: &Entry, other: &ChainId)
 
 /// Whether a hop of the chain stands behind that place, and conflicts with the entry there.
 fn is_followed(world: &World, place: usize, first: &Entry, other: &ChainId) -> bool {
-    for later in place + 1..world.len() {
+    for later in place..world.len() {
         if let Some(second) = world.entry(later) {
-            if is_in_conflict(world.set(), first, second.entry, other) {
+            if place < later && is_in_conflict(world.set(), first, second.entry, other) {
                 return true;
             }
         }

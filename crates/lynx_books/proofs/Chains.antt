@@ -1,5 +1,5 @@
 -- Where chains began.
-use Rattle.std.proofs.Common.{◌≡◌, ℕ, ◌<◌, ◌==◌, Bool, true, false, not, cond, ◌||◌, List, [], ◌∷◌, ◌++◌, length, slice_get, find, Option, Some, None, ◌≢◌, refl, sym, ap, ◌∙◌, inl, inr, arith}
+use Rattle.std.proofs.Common.{◌≡◌, ℕ, ◌<◌, ◌==◌, Bool, true, false, not, cond, ◌||◌, List, [], ◌∷◌, ◌++◌, length, slice_get, find, Option, Some, None, ◌≢◌, refl, sym, ap, ◌∙◌, inl, inr, arith, subst}
 use Rattle.std.specs.List.{list_any}
 use Rattle.std.specs.Option.{option_or}
 use Rattle.std.proofs.lemmas.Option.{slice_get-get_or, slice_get_past}
@@ -18,6 +18,11 @@ use Rattle.lynx_books.specs.Books.{IsFoundAt, begins_as, begins_found}
 pub found_nowhere : (history : History) (place : Option ℕ) (found : Option Entry) → IsFoundAt history place found → place ≡ None → found ≡ None
 found_nowhere history None found is none = is
 found_nowhere history (Some place) found is none = cc
+
+-- the same place, of the same entry
+pub found_as : (history : History) (place same : Option ℕ) (found other : Option Entry) → IsFoundAt history same found → place ≡ same → found ≡ other →
+    IsFoundAt history place other
+found_as history place same found other is at alike = subst (λ p. IsFoundAt history p other) (sym at) (subst (IsFoundAt history same) alike is)
 
 -- an entry that began this very chain is found by its index
 pub has_begun_here : (server : ℕ) (history : History) (message : Message) (found : Option Entry) →

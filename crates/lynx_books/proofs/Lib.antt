@@ -5,6 +5,8 @@ pub mod Chains
 pub mod Due
 pub mod Growing
 pub mod Indexing
+pub mod Lasting
+pub mod Owing
 pub mod Numbers
 pub mod Opened
 pub mod Returning

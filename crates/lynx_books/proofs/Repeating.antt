@@ -27,7 +27,7 @@ use Rattle.lynx_server.proofs.Steps.{answer-lawful, begins_visiting-lawful, deli
 use Rattle.lynx_books.specs.Begins.{IsDue}
 use Rattle.lynx_books.specs.Books.{BooksState}
 use Rattle.lynx_books.specs.History.{IsLawfulAfter, IsLawfulHistory, grown}
-use Rattle.lynx_books.specs.Serving.{Begins as BeginsSo, Delivers as DeliversSo, Serving, delivery_of}
+use Rattle.lynx_books.specs.Serving.{Becomes, Begins as BeginsSo, Delivers as DeliversSo, Serving, delivery_of}
 use Rattle.lynx_books.specs.Repeating.{GoesOn, HasRepeated, IsIdle, IsReplayed, Repeats, again, held_again, is_undelivered, is_unserved}
 use Rattle.std.specs.Bool.{Decides}
 use Rattle.std.proofs.lemmas.Option.{slice_get_past}
@@ -176,48 +176,45 @@ added_lawful old (Hop ran) home is =
 pub never_rises : (opened : ℕ) → HasRisen opened 0 → ⊥
 never_rises opened rose = omega (arith, rose)
 
+-- a server that runs goes on with what was added
+goes_on : {K : Type 0} {old new : Serving K} {added : Option Entry} {held : List Message} → Becomes old added held new →
+    old.is_stopped ≡ false → GoesOn old added held new
+goes_on becomes runs = record {
+  set_is = becomes.set_is;
+  server_is = becomes.server_is;
+  history_is = becomes.history_is;
+  held_is = becomes.held_is;
+  acknowledged_is = becomes.acknowledged_is;
+  runs = becomes.stopped_is ∙ runs;
+}
+
 -- a begin over a keeper that never fails
 pub begun_again : {K : Type 0} (old : Serving K) (request : Request) (seen : ℕ) (given : Answer) (new : Serving K) → old.is_stopped ≡ false →
     is_unserved given ≡ false → BeginsSo (λ _. 0) old request seen given new →
     GoesOn old (answer old.set old.server old.history request seen).added old.held new
 begun_again old request seen answers.Memory new runs served is = cc
 begun_again old request seen answers.Stopped new runs served is = absurd (never_rises new.opened is.rose)
-begun_again old request seen (answers.Begun chain stamp results was) new runs served is =
-    record { set_is = is.becomes.set_is; server_is = is.becomes.server_is; history_is = is.becomes.history_is; held_is = is.becomes.held_is; runs = is.becomes.stopped_is ∙ runs }
-begun_again old request seen answers.Clash new runs served is =
-    record { set_is = is.becomes.set_is; server_is = is.becomes.server_is; history_is = is.becomes.history_is; held_is = is.becomes.held_is; runs = is.becomes.stopped_is ∙ runs }
-begun_again old request seen answers.UnknownProgram new runs served is =
-    record { set_is = is.becomes.set_is; server_is = is.becomes.server_is; history_is = is.becomes.history_is; held_is = is.becomes.held_is; runs = is.becomes.stopped_is ∙ runs }
-begun_again old request seen answers.WrongOrigin new runs served is =
-    record { set_is = is.becomes.set_is; server_is = is.becomes.server_is; history_is = is.becomes.history_is; held_is = is.becomes.held_is; runs = is.becomes.stopped_is ∙ runs }
-begun_again old request seen answers.ArgCount new runs served is =
-    record { set_is = is.becomes.set_is; server_is = is.becomes.server_is; history_is = is.becomes.history_is; held_is = is.becomes.held_is; runs = is.becomes.stopped_is ∙ runs }
-begun_again old request seen answers.WrongShard new runs served is =
-    record { set_is = is.becomes.set_is; server_is = is.becomes.server_is; history_is = is.becomes.history_is; held_is = is.becomes.held_is; runs = is.becomes.stopped_is ∙ runs }
-begun_again old request seen answers.Full new runs served is =
-    record { set_is = is.becomes.set_is; server_is = is.becomes.server_is; history_is = is.becomes.history_is; held_is = is.becomes.held_is; runs = is.becomes.stopped_is ∙ runs }
-begun_again old request seen answers.Busy new runs served is =
-    record { set_is = is.becomes.set_is; server_is = is.becomes.server_is; history_is = is.becomes.history_is; held_is = is.becomes.held_is; runs = is.becomes.stopped_is ∙ runs }
-begun_again old request seen (answers.Refused need stamp was) new runs served is =
-    record { set_is = is.becomes.set_is; server_is = is.becomes.server_is; history_is = is.becomes.history_is; held_is = is.becomes.held_is; runs = is.becomes.stopped_is ∙ runs }
+begun_again old request seen (answers.Begun chain stamp results was) new runs served is = goes_on is.becomes runs
+begun_again old request seen answers.Clash new runs served is = goes_on is.becomes runs
+begun_again old request seen answers.UnknownProgram new runs served is = goes_on is.becomes runs
+begun_again old request seen answers.WrongOrigin new runs served is = goes_on is.becomes runs
+begun_again old request seen answers.ArgCount new runs served is = goes_on is.becomes runs
+begun_again old request seen answers.WrongShard new runs served is = goes_on is.becomes runs
+begun_again old request seen answers.Full new runs served is = goes_on is.becomes runs
+begun_again old request seen answers.Busy new runs served is = goes_on is.becomes runs
+begun_again old request seen (answers.Refused need stamp was) new runs served is = goes_on is.becomes runs
 
 -- a delivery over a keeper that never fails
 pub delivered_again : {K : Type 0} (old : Serving K) (message : Message) (given : Delivered) (new : Serving K) → old.is_stopped ≡ false →
     is_undelivered given ≡ false → DeliversSo (λ _. 0) old message given new → GoesOn old (delivery_of old message).added (delivery_of old message).held new
 delivered_again old message deliveries.Memory new runs served is = cc
 delivered_again old message deliveries.Stopped new runs served is = absurd (never_rises new.opened is.rose)
-delivered_again old message (deliveries.Done stamp results next) new runs served is =
-    record { set_is = is.becomes.set_is; server_is = is.becomes.server_is; history_is = is.becomes.history_is; held_is = is.becomes.held_is; runs = is.becomes.stopped_is ∙ runs }
-delivered_again old message (deliveries.Repeat stamp results next) new runs served is =
-    record { set_is = is.becomes.set_is; server_is = is.becomes.server_is; history_is = is.becomes.history_is; held_is = is.becomes.held_is; runs = is.becomes.stopped_is ∙ runs }
-delivered_again old message deliveries.Held new runs served is =
-    record { set_is = is.becomes.set_is; server_is = is.becomes.server_is; history_is = is.becomes.history_is; held_is = is.becomes.held_is; runs = is.becomes.stopped_is ∙ runs }
-delivered_again old message deliveries.Dropped new runs served is =
-    record { set_is = is.becomes.set_is; server_is = is.becomes.server_is; history_is = is.becomes.history_is; held_is = is.becomes.held_is; runs = is.becomes.stopped_is ∙ runs }
-delivered_again old message deliveries.Malformed new runs served is =
-    record { set_is = is.becomes.set_is; server_is = is.becomes.server_is; history_is = is.becomes.history_is; held_is = is.becomes.held_is; runs = is.becomes.stopped_is ∙ runs }
-delivered_again old message deliveries.Full new runs served is =
-    record { set_is = is.becomes.set_is; server_is = is.becomes.server_is; history_is = is.becomes.history_is; held_is = is.becomes.held_is; runs = is.becomes.stopped_is ∙ runs }
+delivered_again old message (deliveries.Done stamp results next) new runs served is = goes_on is.becomes runs
+delivered_again old message (deliveries.Repeat stamp results next) new runs served is = goes_on is.becomes runs
+delivered_again old message deliveries.Held new runs served is = goes_on is.becomes runs
+delivered_again old message deliveries.Dropped new runs served is = goes_on is.becomes runs
+delivered_again old message deliveries.Malformed new runs served is = goes_on is.becomes runs
+delivered_again old message deliveries.Full new runs served is = goes_on is.becomes runs
 
 -- a server that added just the entry repeated it
 pub repeated : {K : Type 0} (old new : Serving K) (entry : Entry) (added : Option Entry) →
@@ -235,7 +232,11 @@ repeated old new entry (Some other) home idle is goes there =
       set_is = goes.set_is;
       server_is = goes.server_is;
       history_is = goes.history_is ∙ ap (λ e. old.history ++ e ∷ []) same;
-      idle = record { runs = goes.runs; held_is = goes.held_is ∙ holds_nothing old entry lawful idle.held_is };
+      idle = record {
+        runs = goes.runs;
+        held_is = goes.held_is ∙ holds_nothing old entry lawful idle.held_is;
+        acknowledged_is = goes.acknowledged_is ∙ idle.acknowledged_is;
+      };
     }
   where
     last_is : (o : Entry) → Some o ≡ Some entry → o ≡ entry

@@ -22,6 +22,7 @@ woken-by old message given middle held is held_is = record {
     held_is = held_is ∙ ap (held_on message (is_put_off given)) is.becomes.held_is;
     stopped_is = is.becomes.stopped_is;
     opened_is = is.becomes.opened_is;
+    acknowledged_is = is.becomes.acknowledged_is;
   };
 }
 
@@ -42,6 +43,7 @@ wakes-so counted old message Stopped middle held is held_is = record {
   held_is = held_is ∙ is.held_is;
   stopped_is = is.stopped_is;
   opened_is = is.opened_is;
+  acknowledged_is = is.acknowledged_is;
   rose = is.rose;
 }
 wakes-so counted old message Memory middle held is held_is = record {
@@ -51,4 +53,5 @@ wakes-so counted old message Memory middle held is held_is = record {
   held_is = held_is ∙ is.held_is;
   stopped_is = is.stopped_is;
   opened_is = is.opened_is;
+  acknowledged_is = is.acknowledged_is;
 }

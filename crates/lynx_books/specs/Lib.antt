@@ -1,6 +1,7 @@
 pub mod Acts
 pub mod Begins
 pub mod Books
+pub mod Owed
 pub mod History
 pub mod Hops
 pub mod Indexes
@@ -10,3 +11,4 @@ pub mod Repeating
 pub mod Returning
 pub mod Serving
 pub mod Sorting
+pub mod Rebuilding

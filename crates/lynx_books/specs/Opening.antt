@@ -47,6 +47,7 @@ pub record IsOpened {K : Type 0} (sound : K → Type 0) (keeps : K → Kept → 
   pub set_is : opened.set ≡ set
   pub server_is : opened.server ≡ server
   pub held_is : opened.held ≡ []
+  pub acknowledged_is : opened.acknowledged ≡ []
   pub runs : opened.is_stopped ≡ false
   pub opened_is : opened.opened ≡ counted opened.keeper
   pub lawful : IsLawfulHistory set server opened.history

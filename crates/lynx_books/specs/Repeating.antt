@@ -42,6 +42,7 @@ held_again old (Hop ran) = (delivery_of old ran.message).held
 pub record IsIdle {K : Type 0} (old : Serving K) : Type 0 where
   pub runs : old.is_stopped ≡ false
   pub held_is : old.held ≡ []
+  pub acknowledged_is : old.acknowledged ≡ []
 
 -- it runs on, with what was added, and holds these messages
 pub record GoesOn {K : Type 0} (old : Serving K) (added : Option Entry) (held : List Message) (new : Serving K) : Type 0 where
@@ -49,6 +50,7 @@ pub record GoesOn {K : Type 0} (old : Serving K) (added : Option Entry) (held : 
   pub server_is : new.server ≡ old.server
   pub history_is : new.history ≡ grown old.history added
   pub held_is : new.held ≡ held
+  pub acknowledged_is : new.acknowledged ≡ old.acknowledged
   pub runs : new.is_stopped ≡ false
 
 -- it did what the entry did, which is lawful

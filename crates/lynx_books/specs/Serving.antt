@@ -1,5 +1,5 @@
 -- What contracts see of a server over its keeper, and what a call leaves of it.
-use Rattle.std.specs.Prelude.{◌==◌, filter, not, unwrap_or, if◌then◌else◌, ◌≡◌, ◌≤◌, ℕ, Bool, true, false, List, Option, None, Result, Ok, Err, refl}
+use Rattle.std.specs.Prelude.{length, ◌==◌, filter, not, unwrap_or, if◌then◌else◌, ◌≡◌, ◌≤◌, ℕ, Bool, true, false, List, Option, None, Result, Ok, Err, refl}
 use Rattle.std.specs.Coded.{Coded, code_by, coded×, coded_ℕ, coded_bool, coded_list}
 use Rattle.lynx_set.specs.Set.{Set}
 use Rattle.lynx_set.specs.contracts.set.ChainSet as set
@@ -41,14 +41,16 @@ pub record Serving (K : Type 0) : Type 0 where
   pub is_stopped : Bool
   -- how often its keeper had failed when it was opened
   pub opened : ℕ
+  -- whether the next message of the entry at each place was acknowledged; not, past the end
+  pub acknowledged : List Bool
   pub keeper : K
 
 -- a server is stored as the tuple of its fields
 abbrev pub serving_code : {K : Type 0} → Coded K → Coded (Serving K)
 serving_code {K} keeper =
-    code_by (Set × (ℕ × (History × (List Message × (Bool × (ℕ × K))))))
-    (coded× set.the_row.coded (coded× coded_ℕ (coded× (coded_list entry.the_row.coded) (coded× (coded_list message.the_row.coded) (coded× coded_bool (coded× coded_ℕ keeper))))))
-    (λ s. (s.set, (s.server, (s.history, (s.held, (s.is_stopped, (s.opened, s.keeper)))))))
+    code_by (Set × (ℕ × (History × (List Message × (Bool × (ℕ × (List Bool × K)))))))
+    (coded× set.the_row.coded (coded× coded_ℕ (coded× (coded_list entry.the_row.coded) (coded× (coded_list message.the_row.coded) (coded× coded_bool (coded× coded_ℕ (coded× (coded_list coded_bool) keeper)))))))
+    (λ s. (s.set, (s.server, (s.history, (s.held, (s.is_stopped, (s.opened, (s.acknowledged, s.keeper))))))))
     (λ p. record {
       set = p.0;
       server = p.1.0;
@@ -56,16 +58,19 @@ serving_code {K} keeper =
       held = p.1.1.1.0;
       is_stopped = p.1.1.1.1.0;
       opened = p.1.1.1.1.1.0;
-      keeper = p.1.1.1.1.1.1;
+      acknowledged = p.1.1.1.1.1.1.0;
+      keeper = p.1.1.1.1.1.1.1;
     })
     (λ _. refl)
 
--- no draw is out; the keeper has history and tables, unless the server stopped, which it did where the keeper failed
-pub record IsServing {K : Type 0} (sound : K → Type 0) (keeps : K → Kept → Type 0) (counted : K → ℕ) (books : BooksState) (is_stopped : Bool) (opened : ℕ) (keeper : K) : Type 0 where
+-- no draw is out; the keeper has history and tables, unless the server stopped, which it did where the keeper failed;
+-- each entry has room for its mark
+pub record IsServing {K : Type 0} (sound : K → Type 0) (keeps : K → Kept → Type 0) (counted : K → ℕ) (books : BooksState) (is_stopped : Bool) (opened : ℕ) (marks_room : ℕ) (keeper : K) : Type 0 where
   pub free : books.out ≡ None
   pub kept : is_stopped ≡ false → sound keeper → keeps keeper (kept_of books.set books.history)
   pub opened_before : opened ≤ counted keeper
   pub stopped : is_stopped ≡ true → HasRisen opened (counted keeper)
+  pub markable : length books.history ≤ marks_room
 
 -- a call of a server added this entry or none, and it holds these messages now
 pub record Becomes {K : Type 0} (old : Serving K) (added : Option Entry) (held : List Message) (new : Serving K) : Type 0 where
@@ -75,6 +80,7 @@ pub record Becomes {K : Type 0} (old : Serving K) (added : Option Entry) (held :
   pub held_is : new.held ≡ held
   pub stopped_is : new.is_stopped ≡ old.is_stopped
   pub opened_is : new.opened ≡ old.opened
+  pub acknowledged_is : new.acknowledged ≡ old.acknowledged
 
 -- the keeper failed, now or since the server was opened; nothing was added
 pub record HasStopped {K : Type 0} (counted : K → ℕ) (old new : Serving K) : Type 0 where
@@ -84,6 +90,7 @@ pub record HasStopped {K : Type 0} (counted : K → ℕ) (old new : Serving K) :
   pub held_is : new.held ≡ old.held
   pub stopped_is : new.is_stopped ≡ true
   pub opened_is : new.opened ≡ old.opened
+  pub acknowledged_is : new.acknowledged ≡ old.acknowledged
   pub rose : HasRisen new.opened (counted new.keeper)
 
 -- a begin was answered by its definition

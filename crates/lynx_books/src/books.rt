@@ -8,7 +8,7 @@ ghost use Rattle.lynx_server.specs.Tables.{clock_of, tables_of};
 ghost use Rattle.lynx_server.specs.Turns.{begun_count, number_for, turn_of};
 ghost use Rattle.lynx_turn.specs.Turns.{stand};
 ghost use Rattle.lynx_books.specs.Acts.{act_of};
-ghost use Rattle.lynx_books.specs.Books.{begins_as};
+ghost use Rattle.lynx_books.specs.Books.{IsFoundAt, begins_as};
 ghost use Rattle.lynx_books.specs.History.{IsLawfulHistory};
 
 use lynx_cells::Cells;
@@ -120,16 +120,34 @@ impl Books {
         self.turns.turn(self.server) != self.chains.len() as u64
     }
 
+    /// The place of the entry in which the chain of that index began.
+    fn begun_place(&self, index: u64) -> Option<usize>
+        ensures { IsFoundAt self.now.history result (find (begins_as index) self.now.history) }
+    {
+        match usize::try_from(index) {
+            Ok(index) => place_at(self.chains.as_slice(), index),
+            Err(_) => None,
+        }
+    }
+
     /// The entry in which the chain of that index began.
     pub(crate) fn begun_entry(&self, index: u64) -> Option<&Entry>
         ensures { option_copied result ≡ find (begins_as index) self.now.history }
     {
-        match usize::try_from(index) {
-            Ok(index) => match self.chains.as_slice().get(index) {
-                Some(place) => self.history.as_slice().get(*place),
-                None => None,
-            },
-            Err(_) => None,
+        match self.begun_place(index) {
+            Some(place) => self.entry(place),
+            None => None,
+        }
+    }
+
+    /// The place of the entry in which the chain began, if it began here.
+    pub(crate) fn first_place_of(&self, chain: ChainId) -> Option<usize>
+        ensures { IsFoundAt self.now.history result (act_of chain 0 self.now.history) }
+    {
+        if chain.origin == self.server {
+            self.begun_place(chain.index)
+        } else {
+            None
         }
     }
 
@@ -137,10 +155,9 @@ impl Books {
     pub(crate) fn first_entry_of(&self, chain: ChainId) -> Option<&Entry>
         ensures { option_copied result ≡ act_of chain 0 self.now.history }
     {
-        if chain.origin == self.server {
-            self.begun_entry(chain.index)
-        } else {
-            None
+        match self.first_place_of(chain) {
+            Some(place) => self.entry(place),
+            None => None,
         }
     }
 
@@ -165,4 +182,11 @@ impl Books {
         self.turns
             .stand(message.chain.origin, own_number(message, self.server))
     }
+}
+
+/// The place that stands at that index.
+fn place_at(places: &[usize], index: usize) -> Option<usize>
+    ensures { result ≡ slice_get places.now index }
+{
+    places.get(index).copied()
 }

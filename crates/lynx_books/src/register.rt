@@ -7,6 +7,7 @@ ghost use Rattle.lynx_books.specs.Acts.{act_of};
 ghost use Rattle.lynx_books.specs.Hops as hops;
 ghost use Rattle.lynx_books.specs.Hops.{came};
 ghost use Rattle.lynx_books.specs.Begins.{IsDue, books_with, due};
+ghost use Rattle.lynx_books.specs.Books.{IsFoundAt};
 ghost use Rattle.lynx_books.specs.Keeping.{Commits, kept_of};
 ghost use Rattle.lynx_books.specs.History.{grown};
 
@@ -60,23 +61,50 @@ impl Register {
         &self.books
     }
 
+    /// The place of the entry that keeps the answer to a request of this client and number.
+    pub(crate) fn record_place(&self, request: &Request) -> Option<usize>
+        ensures { IsFoundAt self.now.history result (record_of request.now self.now.history) }
+    {
+        self.requests
+            .get(&(request.client, request.number))
+            .copied()
+    }
+
     /// The entry that keeps the answer to a request of this client and number.
     pub(crate) fn record_of(&self, request: &Request) -> Option<&Entry>
         ensures { option_copied result ≡ record_of request.now self.now.history }
     {
-        match self.requests.get(&(request.client, request.number)) {
-            Some(place) => self.books.entry(*place),
+        match self.record_place(request) {
+            Some(place) => self.books.entry(place),
             None => None,
         }
+    }
+
+    /// The place of the entry of that later hop of the chain.
+    fn hop_place_of(&self, chain: ChainId, hop: u8) -> Option<usize>
+        ensures { IsFoundAt self.now.history result (hop_entry_of chain hop self.now.history) }
+    {
+        self.hops.get(&((chain.origin, chain.index), hop)).copied()
     }
 
     /// The entry of that later hop of the chain.
     pub(crate) fn hop_entry_of(&self, chain: ChainId, hop: u8) -> Option<&Entry>
         ensures { option_copied result ≡ hop_entry_of chain hop self.now.history }
     {
-        match self.hops.get(&((chain.origin, chain.index), hop)) {
-            Some(place) => self.books.entry(*place),
+        match self.hop_place_of(chain, hop) {
+            Some(place) => self.books.entry(place),
             None => None,
+        }
+    }
+
+    /// The place of the entry of that hop of the chain, of the first as of later ones.
+    pub(crate) fn place_of(&self, chain: ChainId, hop: u8) -> Option<usize>
+        ensures { IsFoundAt self.now.history result (act_of chain hop self.now.history) }
+    {
+        if hop > 0 {
+            self.hop_place_of(chain, hop)
+        } else {
+            self.books.first_place_of(chain)
         }
     }
 
@@ -84,10 +112,9 @@ impl Register {
     pub fn entry_of(&self, chain: ChainId, hop: u8) -> Option<&Entry>
         ensures { option_copied result ≡ act_of chain hop self.now.history }
     {
-        if hop > 0 {
-            self.hop_entry_of(chain, hop)
-        } else {
-            self.books.first_entry_of(chain)
+        match self.place_of(chain, hop) {
+            Some(place) => self.books.entry(place),
+            None => None,
         }
     }
 

@@ -1,7 +1,9 @@
 //! A server over its keeper.
 ghost use Rattle.std.specs.Prelude.{[], IfOk, ◌≡◌, ◌≤◌, false, filter, if◌then◌else◌, not, option_copied, slice_get};
 ghost use Rattle.lynx_server.specs.Tables.{tables_of};
+ghost use Rattle.lynx_server.specs.Lawful.{record_of};
 ghost use Rattle.lynx_books.specs.Acts.{GivesResults, act_of};
+ghost use Rattle.lynx_books.specs.Books.{IsFoundAt};
 ghost use Rattle.lynx_books.specs.History.{IsLawfulHistory};
 ghost use Rattle.lynx_books.specs.Keeping.{kept_of};
 ghost use Rattle.lynx_keep.specs.Kept.{nothing_kept};
@@ -9,6 +11,7 @@ ghost use Rattle.lynx_books.specs.Serving.{Begins, Delivers, Wakes, WakesSo, is_
 ghost use Rattle.lynx_turn.specs.Held.{is_for};
 
 use crate::books::Books;
+use crate::marks::make_mark_room;
 use crate::register::Register;
 use crate::sorting::Sorted;
 use lynx_cells::Cells;
@@ -24,17 +27,20 @@ use std::marker::Model;
 
 /// One server: its history with all that stands beside it, the messages that it holds, and its keeper, which has
 /// each entry before it is answered. Contracts see the set, the server, the history, the held messages, whether it
-/// stopped, how often its keeper had failed when it was opened, and the keeper.
+/// stopped, how often its keeper had failed when it was opened, what was acknowledged, and the keeper.
 #[derive(Drop)]
 pub struct Server<K: Keeper> {
-    register: Register,
+    pub(crate) register: Register,
     held: HeldBuffer,
     keeper: K,
     is_stopped: bool,
     opened: u64,
+    /// By place of the history, with room for each entry. Past its end nothing was acknowledged.
+    pub(crate) acknowledged: Vec<bool>,
 }
 
 impl<K: Keeper> Model for Server<K> {
+    ghost use Rattle.std.specs.Prelude.{vec_capacity};
     ghost use Rattle.lynx_books.specs.Serving.{Serving, IsServing, serving_code};
 
     ghost Value = { Serving K };
@@ -48,10 +54,12 @@ impl<K: Keeper> Model for Server<K> {
       held = server.held;
       is_stopped = server.is_stopped;
       opened = server.opened;
+      acknowledged = server.acknowledged.items;
       keeper = server.keeper;
     } };
 
-    ghost invariant = { λ server. IsServing K.sound K.keeps K.counted server.register server.is_stopped server.opened server.keeper };
+    ghost invariant = { λ server. IsServing K.sound K.keeps K.counted server.register server.is_stopped server.opened
+        (vec_capacity server.acknowledged) server.keeper };
 }
 
 /// A held message that was delivered.
@@ -73,7 +81,7 @@ impl<K: Keeper> Server<K> {
     where
         K: Drop,
         requires { K.sound keeper → K.keeps keeper nothing_kept }
-        ensures { IfOk result (λ server_made. server_made ≡ record { set = set.now; server = server; history = []; held = []; is_stopped = false; opened = K.counted keeper; keeper = keeper }) }
+        ensures { IfOk result (λ server_made. server_made ≡ record { set = set.now; server = server; history = []; held = []; is_stopped = false; opened = K.counted keeper; acknowledged = []; keeper = keeper }) }
     {
         let set = set.copy(alloc)?;
         let held = HeldBuffer::new(alloc)?;
@@ -84,6 +92,7 @@ impl<K: Keeper> Server<K> {
             keeper,
             is_stopped: false,
             opened,
+            acknowledged: Vec::new(alloc),
         })
     }
 
@@ -112,6 +121,21 @@ impl<K: Keeper> Server<K> {
         ensures { option_copied result ≡ slice_get self.now.history place }
     {
         self.register.books().entry(place)
+    }
+
+    /// The place of the entry that keeps the answer to a request of this client and number: one look-up. Takes no
+    /// memory.
+    pub fn record_place(&self, request: &Request) -> Option<usize>
+        ensures { IsFoundAt self.now.history result (record_of request.now self.now.history) }
+    {
+        self.register.record_place(request)
+    }
+
+    /// The place of the entry of that hop of the chain, if it ran here: two look-ups at most. Takes no memory.
+    pub fn place_of(&self, chain: ChainId, hop: u8) -> Option<usize>
+        ensures { IsFoundAt self.now.history result (act_of chain hop self.now.history) }
+    {
+        self.register.place_of(chain, hop)
     }
 
     /// The entry of that hop of the chain, if it ran here: two look-ups at most. Takes no memory.
@@ -170,7 +194,7 @@ impl<K: Keeper> Server<K> {
         K: Drop,
         requires runs { self.is_stopped ≡ false }
         requires kept { L.sound keeper → L.keeps keeper (kept_of self.set self.history) }
-        ensures { result ≡ record { set = self.set; server = self.server; history = self.history; held = self.held; is_stopped = false; opened = L.counted keeper; keeper = keeper } }
+        ensures { result ≡ record { set = self.set; server = self.server; history = self.history; held = self.held; is_stopped = false; opened = L.counted keeper; acknowledged = self.acknowledged; keeper = keeper } }
     {
         let opened = keeper.faults();
         Server {
@@ -179,6 +203,7 @@ impl<K: Keeper> Server<K> {
             keeper,
             is_stopped: false,
             opened,
+            acknowledged: self.acknowledged,
         }
     }
 
@@ -206,6 +231,7 @@ impl<K: Keeper> Server<K> {
         if books.is_busy() {
             return Ok(Answer::Busy);
         }
+        make_mark_room(&mut self.acknowledged, books.len())?;
         match self
             .register
             .begin_new(alloc, &mut self.keeper, request, seen, stamp)
@@ -266,6 +292,7 @@ impl<K: Keeper> Server<K> {
         ensures sound { K.sound self.new.keeper → K.sound self.old.keeper }
     {
         let (chain, hop) = (message.chain, message.hop);
+        make_mark_room(&mut self.acknowledged, self.register.books().len())?;
         match self
             .register
             .run_message(alloc, &mut self.keeper, message, stamp)

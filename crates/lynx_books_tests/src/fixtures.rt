@@ -1,6 +1,6 @@
 //! Two servers of payments.
 use lynx_books::{Server, Woken};
-use lynx_entry::{Answer, Delivered, Message, Request};
+use lynx_entry::{Answer, Delivered, Entry, Message, Request};
 use lynx_keep::{Keeper, MemoryKeeper};
 use lynx_names::{ClientId, Memory, ProgramId, ServerId, Stamp, TryCopy, Values};
 use lynx_samples::texts::{PAYMENT, read};
@@ -29,8 +29,11 @@ pub fn request(alloc: Global, number: u64, program: u8, amount: u64) -> Result<R
     })
 }
 
-/// A server of the payments, in a box, which is dropped by one call.
-pub fn server(alloc: Global, server: ServerId) -> Result<Box<Server<MemoryKeeper>>, Memory> {
+/// A server, in a box, which is dropped by one call.
+pub type Boxed<K> = Box<Server<K>>;
+
+/// A server of the payments.
+pub fn server(alloc: Global, server: ServerId) -> Result<Boxed<MemoryKeeper>, Memory> {
     let set = read(alloc, PAYMENT)?;
     let server = Server::new(alloc, &set, server, MemoryKeeper::new(alloc))?;
     Ok(Box::new(alloc, server)?)
@@ -49,11 +52,39 @@ pub fn begin<K: Keeper>(
 }
 
 /// The first server after a seed of 100 and a payment of 30.
-pub fn paid(alloc: Global) -> Result<Box<Server<MemoryKeeper>>, Memory> {
+pub fn paid(alloc: Global) -> Result<Boxed<MemoryKeeper>, Memory> {
     let mut server = server(alloc, ServerId::first())?;
     let _ = begin(alloc, &mut server, 1, SEED, 100)?;
     let _ = begin(alloc, &mut server, 2, PAY, 30)?;
     Ok(server)
+}
+
+/// The first server after two payments, of 30 and of 20.
+pub fn paid_twice(alloc: Global) -> Result<Boxed<MemoryKeeper>, Memory> {
+    let mut first = paid(alloc)?;
+    let _ = begin(alloc, &mut first, 3, PAY, 20)?;
+    Ok(first)
+}
+
+/// The entries of a seed of 100 and a payment of 30.
+pub fn entries(alloc: Global) -> Result<Vec<Entry>, Memory> {
+    let paid = paid(alloc)?;
+    let mut entries = Vec::new(alloc);
+    for entry in paid.history() {
+        entries.push(entry.copy(alloc)?)?;
+    }
+    Ok(entries)
+}
+
+/// The server, opened again over its keeper.
+pub fn restarted(
+    alloc: Global,
+    server: Boxed<MemoryKeeper>,
+) -> Result<Boxed<MemoryKeeper>, Memory> {
+    match Box::into_inner(server).restart(alloc) {
+        Ok(server) => Ok(Box::new(alloc, server)?),
+        Err(_) => Err(Memory),
+    }
 }
 
 /// The message that the entry at this place sends, in a box.

@@ -8,9 +8,13 @@ mod fixtures;
 #[cfg(test)]
 mod held;
 #[cfg(test)]
+mod owed;
+#[cfg(test)]
 mod payments;
 #[cfg(test)]
 mod random;
+#[cfg(test)]
+mod rebuilt;
 #[cfg(test)]
 mod reopened;
 #[cfg(test)]

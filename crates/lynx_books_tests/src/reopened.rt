@@ -1,5 +1,7 @@
 //! Servers that are opened over what was kept.
-use crate::fixtures::{PAY, SEED, begin, deliver, holds, is_begun, paid, server};
+use crate::fixtures::{
+    Boxed, PAY, SEED, begin, deliver, entries, holds, is_begun, paid, paid_twice, restarted, server,
+};
 use lynx_books::{OpenFault, Server, first_unlawful};
 use lynx_cells::Changes;
 use lynx_entry::{Delivered, Entry};
@@ -7,9 +9,6 @@ use lynx_keep::{FaultKeeper, Keeper, MemoryKeeper, Planned};
 use lynx_names::{Memory, Numbers, ProgramId, ServerId, Stamp, TableId, TryCopy};
 use lynx_samples::texts::{PAYMENT, read};
 use std::alloc::Global;
-
-/// A server, in a box, which is dropped by one call.
-type Boxed<K> = Box<Server<K>>;
 
 /// The first server of the payments, opened over the keeper. None where it is damaged.
 fn opened(
@@ -20,14 +19,6 @@ fn opened(
     match Server::open(alloc, &set, ServerId::first(), keeper) {
         Ok(server) => Ok(Ok(Box::new(alloc, server)?)),
         Err(fault) => Ok(Err(fault)),
-    }
-}
-
-/// The server, opened again over its keeper.
-fn restarted(alloc: Global, server: Boxed<MemoryKeeper>) -> Result<Boxed<MemoryKeeper>, Memory> {
-    match Box::into_inner(server).restart(alloc) {
-        Ok(server) => Ok(Box::new(alloc, server)?),
-        Err(_) => Err(Memory),
     }
 }
 
@@ -42,13 +33,6 @@ fn is_recorded(alloc: Global) -> Result<bool, Memory> {
 #[test]
 fn a_kept_payment_is_recorded(rt: HostRuntime) {
     holds(&rt, is_recorded(rt.alloc()));
-}
-
-/// The first server after two payments.
-fn paid_twice(alloc: Global) -> Result<Boxed<MemoryKeeper>, Memory> {
-    let mut first = paid(alloc)?;
-    let _ = begin(alloc, &mut first, 3, PAY, 20)?;
-    Ok(first)
 }
 
 /// A message that waited is forgotten by a restart, and waits again when it comes again.
@@ -101,16 +85,6 @@ fn a_stopped_server_runs_again_without_the_entry(rt: HostRuntime) {
 #[test]
 fn a_stopped_server_runs_again_with_the_entry(rt: HostRuntime) {
     holds(&rt, runs_again(rt.alloc(), Planned::FailsAfter, true));
-}
-
-/// The entries of a seed of 100 and a payment of 30.
-fn entries(alloc: Global) -> Result<Vec<Entry>, Memory> {
-    let paid = paid(alloc)?;
-    let mut entries = Vec::new(alloc);
-    for entry in paid.history() {
-        entries.push(entry.copy(alloc)?)?;
-    }
-    Ok(entries)
 }
 
 /// What is changed in the entry of the payment.

@@ -1,4 +1,4 @@
-ghost use Rattle.std.specs.Prelude.{◌≡◌, OnOk, OnErr};
+ghost use Rattle.std.specs.Prelude.{◌≡◌, IfOk, OnOk, OnErr};
 ghost use Rattle.lynx_keep.specs.Kept.{nothing_kept, with_entry};
 
 use crate::copying::{copy_cells, copy_changes};
@@ -36,6 +36,21 @@ impl MemoryKeeper {
             entries: Items::new(alloc),
             cells: Cells::new(alloc),
         }
+    }
+
+    /// Keeps these entries and a copy of these cells.
+    pub fn keeping(
+        alloc: Global,
+        entries: Vec<Entry>,
+        cells: &Cells,
+    ) -> Result<MemoryKeeper, Memory>
+        ensures { IfOk result (λ keeper. keeper
+            ≡ record { entries = entries.items; cells = cells.now.database }) }
+    {
+        Ok(MemoryKeeper {
+            entries: Items::from_vec(entries),
+            cells: copy_cells(alloc, cells)?,
+        })
     }
 
     /// All growth comes first.

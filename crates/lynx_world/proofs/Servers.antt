@@ -243,6 +243,7 @@ each_after set servers order server old new added held are there goes sent other
             server_is = goes.server_is ∙ was.server_is;
             history_is = goes.history_is ∙ ap (λ h. grown h added) was.history_is ∙ sym (history_here server added list);
             runs = goes.runs;
+            unmarked = goes.acknowledged_is ∙ was.unmarked;
             sent = subst (All (IsSent set (with_entry server added list))) (sym goes.held_is) sent;
           }))
       | inr (e, differs) ↦
@@ -252,6 +253,7 @@ each_after set servers order server old new added held are there goes sent other
             server_is = stood.server_is;
             history_is = stood.history_is ∙ sym (history_elsewhere server other added list e);
             runs = stood.runs;
+            unmarked = stood.unmarked;
             sent = all_sent_with set server added list here.held stood.sent;
           }
     ]

@@ -41,6 +41,7 @@ new_are set = record {
         server_is = refl;
         history_is = refl;
         runs = refl;
+        unmarked = refl;
         sent = All-nil (IsSent set []);
       });
   found = All-nil _;

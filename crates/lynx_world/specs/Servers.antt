@@ -43,12 +43,13 @@ list_of servers order = filter_map (placed_of servers) order
 abbrev pub held_of : Servers → List (List Message)
 held_of servers = map (λ (here : Serving Kept). here.held) servers
 
--- a server of a world: it runs, its history is its part of the list, and what it holds was sent
+-- a server of a world: it runs, its history is its part of the list, what it holds was sent, and nobody acknowledges
 pub record IsServerOf (set : Set) (list : List Placed) (server : ℕ) (here : Serving Kept) : Type 0 where
   pub set_is : here.set ≡ set
   pub server_is : here.server ≡ server
   pub history_is : here.history ≡ history_of server list
   pub runs : here.is_stopped ≡ false
+  pub unmarked : here.acknowledged ≡ []
   pub sent : All (IsSent set list) here.held
 
 -- the servers of a world: one for each of the set, and a legal list of all that they added
@@ -122,6 +123,7 @@ new_server set server = record {
   held = [];
   is_stopped = false;
   opened = 0;
+  acknowledged = [];
   keeper = nothing_kept;
 }
 

@@ -6,7 +6,7 @@ use lynx_names::ServerId;
 
 /// A server added an entry: the entry's place in the server's history.
 #[derive(Clone, Copy, Debug, PartialEq, Eq)]
-pub(crate) struct Added {
+pub struct Added {
     pub server: ServerId,
     pub place: usize,
 }

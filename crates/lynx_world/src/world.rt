@@ -46,7 +46,7 @@ impl World {
     ghost use Rattle.lynx_keep.specs.Kept.{nothing_kept};
     ghost use Rattle.lynx_world.specs.Worlds.{new_world};
     ghost use Rattle.lynx_world.specs.Legal.{IsLegal, IsSent};
-    ghost use Rattle.lynx_world.specs.Servers.{act_in, placed_as};
+    ghost use Rattle.lynx_world.specs.Servers.{AreServers, act_in, held_of, list_of, placed_as};
     ghost use Rattle.lynx_world.specs.Tables.{cells_of, triple_cmp};
     ghost use Rattle.lynx_world.specs.Steps.{HasGrown, step, is_server, sent_message, destination_of, held_at};
 
@@ -61,6 +61,22 @@ impl World {
             servers,
             order: Vec::new(alloc),
         })
+    }
+
+    /// A world of servers that ran already, with the order in which they added their entries. Takes no memory.
+    pub fn over(set: ChainSet, servers: Vec<Server<MemoryKeeper>>, order: Vec<Added>) -> World
+        requires { AreServers set servers.items order.items }
+        ensures { result ≡ record {
+            set = set;
+            list = list_of servers.items order.items;
+            held = held_of servers.items;
+        } }
+    {
+        World {
+            set,
+            servers,
+            order,
+        }
     }
 
     /// The set. The list of all that the servers added is legal for it.

@@ -12,8 +12,8 @@ loop-number-preserved c =
     (sym c.in-Some.ensures.items ∙ is.rest) c.loop-number-test.true in
     record {
       servers = one_more set c.loop-number.servers.items number c.push.new.self.items c.in_ok-new.field-0 is.servers c.in_ok-push.ensures.items
-          (c.in_ok-new.ensures ∙ ap (λ n. record { set = set; server = n; history = []; held = []; is_stopped = false; opened = 0; keeper = c.in-Some.keeper }) c.at.ensures
-          ∙ ap (λ (k : Kept). record { set = set; server = number; history = []; held = []; is_stopped = false; opened = 0; keeper = k }) alike.0);
+          (c.in_ok-new.ensures ∙ ap (λ n. record { set = set; server = n; history = []; held = []; is_stopped = false; opened = 0; acknowledged = []; keeper = c.in-Some.keeper }) c.at.ensures
+          ∙ ap (λ (k : Kept). record { set = set; server = number; history = []; held = []; is_stopped = false; opened = 0; acknowledged = []; keeper = k }) alike.0);
       rest = alike.1;
       count = is.count;
       within = omega (arith, c.loop-number-test.true);

@@ -1,4 +1,4 @@
-use Rattle.std.proofs.Common.{◌∙◌, ap, refl, filter, not, if◌then◌else◌}
+use Rattle.std.proofs.Common.{◌≡◌, sym, arith, length, ◌∙◌, ap, refl, filter, not, if◌then◌else◌}
 use Rattle.lynx_entry.specs.declared.answer.Delivered.{Delivered}
 use Rattle.lynx_turn.specs.Held.{is_for}
 use Rattle.lynx_books.specs.Books.{BooksState}
@@ -6,6 +6,7 @@ use Rattle.lynx_books.specs.History.{grown}
 use Rattle.lynx_books.specs.Hops.{outcome_of}
 use Rattle.lynx_books.specs.Serving.{is_done}
 use Rattle.lynx_books.proofs.Delivering.{same_delivered, same_added, held_then}
+use Rattle.lynx_books.proofs.Lasting.{free_with, serves_on}
 use Rattle.lynx_books.proofs.server.Server.run_message.Goals as goal
 
 pub returns-in-Ok-clause-tried : goal.returns-in-Ok-clause-tried
@@ -27,5 +28,14 @@ returns-in-Ok-clause-tried g c =
             ∙ held_then books.set books.history held message outcome;
         stopped_is = refl;
         opened_is = refl;
+        acknowledged_is = c.make_mark_room.ensures.items;
       };
     })
+
+pub invariant_of-self-in-Ok : goal.invariant_of-self-in-Ok
+invariant_of-self-in-Ok g c =
+    let books = c.self.inside.register in
+    let here : c.books.result.now ≡ books = c.books.ensures in
+    let counted : length books.history ≡ c.len.result = ap (λ (b : BooksState). length b.history) (sym here) ∙ sym c.len.ensures in
+    let room = c.in_ok-make_mark_room.ensures.room in
+    serves_on _ _ _ books _ _ _ _ _ _ _ _ c.self.invariant (c.in-Ok.ensures.grown ∙ free_with books _ c.self.invariant.free) c.in-Ok.ensures.commits (omega (arith, counted, room))

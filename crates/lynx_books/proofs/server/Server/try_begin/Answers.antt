@@ -1,10 +1,11 @@
-use Rattle.std.proofs.Common.{◌≡◌, ◌∙◌, ap, sym, refl, None, Option}
+use Rattle.std.proofs.Common.{arith, length, ◌≡◌, ◌∙◌, ap, sym, refl, None, Option}
 use Rattle.lynx_entry.specs.declared.answer.Answer.{Answer}
 use Rattle.lynx_server.specs.Checks.{request_fault}
 use Rattle.lynx_books.specs.Begins.{IsDue}
 use Rattle.lynx_books.specs.Books.{BooksState}
 use Rattle.lynx_books.proofs.Answering.{answered}
 use Rattle.lynx_books.proofs.Due.{busy-answer, due-answer}
+use Rattle.lynx_books.proofs.Lasting.{serves_on}
 use Rattle.lynx_books.proofs.server.Server.try_begin.Goals as goal
 
 pub returns-then-is_busy-clause-tried : goal.returns-then-is_busy-clause-tried
@@ -20,7 +21,7 @@ returns-then-is_busy-clause-tried g c =
     (answered _ _ request seen _ _
     (busy-answer books.set books.server books.history request seen (sym c.in_default.ensures) (sym (rw here at in_order)) (rw here at c.in-Some-next_stamp.ensures.0) (sym (rw here at c.if-is_busy.ensures)))
     refl
-    (record { set_is = refl; server_is = refl; history_is = refl; held_is = refl; stopped_is = refl; opened_is = refl }))
+    (record { set_is = refl; server_is = refl; history_is = refl; held_is = refl; stopped_is = refl; opened_is = refl; acknowledged_is = refl }))
 
 pub returns-in-Ok-clause-tried : goal.returns-in-Ok-clause-tried
 returns-in-Ok-clause-tried g c =
@@ -47,4 +48,13 @@ returns-in-Ok-clause-tried g c =
       held_is = refl;
       stopped_is = refl;
       opened_is = refl;
+      acknowledged_is = c.make_mark_room.ensures.items;
     }))
+
+pub invariant_of-self-in-Ok : goal.invariant_of-self-in-Ok
+invariant_of-self-in-Ok g c =
+    let books = c.self.inside.register in
+    let here : c.books-books.result.now ≡ books = c.books-books.ensures in
+    let counted : length books.history ≡ c.len.result = ap (λ (b : BooksState). length b.history) (sym here) ∙ sym c.len.ensures in
+    let room = c.in_ok-make_mark_room.ensures.room in
+    serves_on _ _ _ books _ _ _ _ _ _ _ _ c.self.invariant c.in-Ok.ensures.grown c.in-Ok.ensures.commits (omega (arith, counted, room))

@@ -7,7 +7,7 @@ pub returns-in_default-clause-wakes : goal.returns-in_default-clause-wakes
 returns-in_default-clause-wakes g c =
     let none : Option Message = None in
     let is : none ≡ woken_of c.args.self.now = rw (← c.self.view_is) (rw c.as_slice.ensures.messages at c.in_default.ensures) in
-    (sym is, record { set_is = refl; server_is = refl; history_is = refl; held_is = refl; stopped_is = refl; opened_is = refl })
+    (sym is, record { set_is = refl; server_is = refl; history_is = refl; held_is = refl; stopped_is = refl; opened_is = refl; acknowledged_is = refl })
 
 pub returns-in_default-copy-clause-wakes : goal.returns-in_default-copy-clause-wakes
 returns-in_default-copy-clause-wakes g c =
@@ -17,7 +17,7 @@ returns-in_default-copy-clause-wakes g c =
       message_is = sym is;
       chain_is = refl;
       hop_is = refl;
-      wakes = record { set_is = refl; server_is = refl; history_is = refl; held_is = refl; stopped_is = refl; opened_is = refl };
+      wakes = record { set_is = refl; server_is = refl; history_is = refl; held_is = refl; stopped_is = refl; opened_is = refl; acknowledged_is = refl };
     }
 
 pub returns-clause-wakes : goal.returns-clause-wakes

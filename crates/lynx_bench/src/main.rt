@@ -1,10 +1,12 @@
-//! `lynx_bench WORK COUNT`: has a server do some work so many times, to be timed from outside.
+//! `lynx_bench WORK COUNT`: does some work so many times, to be timed from outside. `encode` and `feed PIECE` write and
+//! read so many bytes of forms.
 #![tactic(auto)]
 
 use std::env;
 use std::process::ExitCode;
 use std::rt::Env;
 
+mod forms;
 mod measure;
 
 use measure::{Work, measure};
@@ -12,9 +14,20 @@ use measure::{Work, measure};
 /// The work that a word names.
 fn work_of(word: &str) -> Option<Work> {
     match word {
+        "encode" => Some(Work::Encode),
         "begin" => Some(Work::Begin),
         "deliver" => Some(Work::Deliver),
         "open" => Some(Work::Open),
+        _ => None,
+    }
+}
+
+/// Feeding in pieces of that size.
+fn feed_of(work: &str, piece: &str) -> Option<Work> {
+    match work {
+        "feed" => Some(Work::Feed {
+            piece: piece.parse().ok()?,
+        }),
         _ => None,
     }
 }
@@ -23,6 +36,10 @@ fn work_of(word: &str) -> Option<Work> {
 fn asked(words: &[String]) -> Option<(Work, u64)> {
     match words {
         [_, work, count] => Some((work_of(work.as_str())?, count.as_str().parse().ok()?)),
+        [_, work, piece, count] => Some((
+            feed_of(work.as_str(), piece.as_str())?,
+            count.as_str().parse().ok()?,
+        )),
         _ => None,
     }
 }
@@ -30,7 +47,9 @@ fn asked(words: &[String]) -> Option<(Work, u64)> {
 /// Does what the words ask for, and gives the status.
 fn obey<R: Print + Eprint + AllocGlobal>(rt: &R, words: &[String]) -> u8 {
     let Some((work, count)) = asked(words) else {
-        let _ = eprintln!(rt; "lynx_bench: begin, deliver or open, and a count");
+        let _ = eprintln!(rt;
+            "lynx_bench: begin, deliver, open, encode, or feed and the size of a piece; and a count"
+        );
         return 2;
     };
     match measure(rt.alloc(), work, count) {

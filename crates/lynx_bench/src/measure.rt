@@ -1,4 +1,5 @@
-//! The work that is measured: payments from one server to another.
+//! The work that is measured: payments from one server to another, and their forms.
+use crate::forms::{encode_all, feed_all};
 use lynx_books::Server;
 use lynx_entry::{Answer, Delivered, Request};
 use lynx_keep::MemoryKeeper;
@@ -15,6 +16,10 @@ const SET: &str =
 /// What is measured.
 #[derive(Clone, Copy, Debug)]
 pub enum Work {
+    /// So many bytes of forms are written.
+    Encode,
+    /// About so many bytes of forms are read, in pieces of that size.
+    Feed { piece: usize },
     /// So many chains begin at the first server.
     Begin,
     /// They begin, and then their messages are delivered to the second server.
@@ -83,16 +88,31 @@ fn open_again(alloc: Global, server: Box<Server<MemoryKeeper>>) -> Result<u64, M
     }
 }
 
+fn begin(alloc: Global, count: u64) -> Result<u64, Memory> {
+    let mut server = server(alloc, ServerId::first())?;
+    begin_all(alloc, &mut server, count)
+}
+
+fn deliver(alloc: Global, count: u64) -> Result<u64, Memory> {
+    let mut first = server(alloc, ServerId::first())?;
+    begin_all(alloc, &mut first, count)?;
+    let mut second = server(alloc, ServerId::at(1))?;
+    deliver_all(alloc, &first, &mut second)
+}
+
+fn open(alloc: Global, count: u64) -> Result<u64, Memory> {
+    let mut server = server(alloc, ServerId::first())?;
+    begin_all(alloc, &mut server, count)?;
+    open_again(alloc, server)
+}
+
 /// Does the work so many times, and counts what was done.
 pub fn measure(alloc: Global, work: Work, count: u64) -> Result<u64, Memory> {
-    let mut first = server(alloc, ServerId::first())?;
-    let begun = begin_all(alloc, &mut first, count)?;
     match work {
-        Work::Begin => Ok(begun),
-        Work::Deliver => {
-            let mut second = server(alloc, ServerId::at(1))?;
-            deliver_all(alloc, &first, &mut second)
-        }
-        Work::Open => open_again(alloc, first),
+        Work::Encode => encode_all(alloc, count),
+        Work::Feed { piece } => feed_all(alloc, piece, count).map_err(|_| Memory),
+        Work::Begin => begin(alloc, count),
+        Work::Deliver => deliver(alloc, count),
+        Work::Open => open(alloc, count),
     }
 }

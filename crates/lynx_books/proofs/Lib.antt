@@ -3,12 +3,15 @@ pub mod Acting
 pub mod Answering
 pub mod Chains
 pub mod Due
+pub mod FewVisits
 pub mod Growing
+pub mod InRange
 pub mod Indexing
 pub mod Lasting
 pub mod Owing
 pub mod Numbers
 pub mod Opened
+pub mod ResultCounts
 pub mod Returning
 pub mod Same
 pub mod Repeating

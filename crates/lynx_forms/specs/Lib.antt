@@ -1,6 +1,7 @@
 pub mod Fields
 pub mod Form
 pub mod Ranges
+pub mod Entries
 pub mod Reading
 pub mod Bodies
 pub mod Front

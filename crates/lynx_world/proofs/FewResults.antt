@@ -1,13 +1,9 @@
 -- A begin is answered with few results.
-use Rattle.std.proofs.Common.{◌≡◌, ◌≤◌, ℕ, nat_eq, Bool, true, false, not, if◌then◌else◌, length, List, [], ◌∷◌, ◌++◌, option_map, unwrap_or, Option, Some, None, Ok, Err, refl, ap, ◌∙◌, subst, inl, inr, arith}
-use Rattle.std.specs.List.{flat_map}
-use Rattle.std.proofs.lemmas.List.Sums.{count_by-le-length}
+use Rattle.std.proofs.Common.{◌≡◌, ◌≤◌, ℕ, nat_eq, Bool, true, false, not, if◌then◌else◌, length, List, [], ◌∷◌, ◌++◌, Option, Some, None, Ok, Err, refl, ap, ◌∙◌, subst, inl, inr}
 use Rattle.lynx_names.specs.declared.limits.TheConstants.{MAX_ACTIONS}
 use Rattle.lynx_names.specs.declared.chain.ChainId.{ChainId}
-use Rattle.lynx_cells.specs.Database.{Database}
 use Rattle.lynx_set.specs.Set.{Set}
-use Rattle.lynx_set.specs.Lookups.{actions_at, hop_at, program_at}
-use Rattle.lynx_set.specs.declared.program.Hop.{Hop}
+use Rattle.lynx_set.specs.Lookups.{program_at}
 use Rattle.lynx_set.specs.declared.program.Program.{Program}
 use Rattle.lynx_hops.specs.Meaning.{HopOutcome, meaning}
 use Rattle.lynx_entry.specs.declared.answer.Answer.{Answer}
@@ -17,28 +13,13 @@ use Rattle.lynx_entry.specs.declared.entry.Entry.TheVariants.{Begun, Refused, Ho
 use Rattle.lynx_entry.specs.declared.request.Request.{Request}
 use Rattle.lynx_entry.specs.Entry.{History}
 use Rattle.lynx_server.specs.Answers.{answer, answer_new, answer_recorded, begun_by, is_busy, is_full, only, recorded_answer, same_call}
-use Rattle.lynx_server.specs.Checks.{are_keys_placed, binds, request_fault, request_fault_in}
+use Rattle.lynx_server.specs.Checks.{are_keys_placed, request_fault, request_fault_in}
 use Rattle.lynx_server.specs.Lawful.{is_record_of, record_of}
 use Rattle.lynx_server.specs.Tables.{tables_of}
 use Rattle.lynx_server.specs.Visits.{is_origin}
 use Rattle.lynx_books.specs.History.{IsLawfulAfter, IsLawfulHistory}
+use Rattle.lynx_books.proofs.ResultCounts.{meaning-few}
 use Rattle.lynx_world.proofs.Members.{IsIn, found_in}
-use Rattle.lynx_world.proofs.ResultCounts.{run-counted}
-
--- the actions of a hop are few
-few_actions : (o : Option Hop) → length (unwrap_or (option_map (λ (h : Hop). h.actions) o) []) ≤ MAX_ACTIONS
-few_actions None = omega arith
-few_actions (Some hop) = hop.few_actions
-
--- and so are its results
-few_of_meaning : (set : Set) (program hop : ℕ) (args : List ℕ) (earlier : List (List ℕ)) (before after : Database) (results : List ℕ) →
-    meaning set program hop args earlier before ≡ Ok (results, after) → length results ≤ MAX_ACTIONS
-few_of_meaning set program hop args earlier before after results is =
-    let actions = actions_at set program hop in
-    let counted = run-counted args 0 actions (args ++ flat_map (λ r. r) earlier) before after results is in
-    let below = count_by-le-length binds actions in
-    let few = few_actions (hop_at set program hop) in
-    omega arith
 
 -- a chain that began in a lawful history has few results
 few_recorded : (set : Set) (server : ℕ) (before history : History) (entry : Entry) (request : Request) (chain : ChainId) (stamp : ℕ) (results : List ℕ) (again : Bool) →
@@ -53,7 +34,7 @@ few_recorded set server before (Begun begun ∷ history) entry request chain sta
     by true told =
         let same_results : begun.results ≡ results = cc in
         subst (λ r. length r ≤ MAX_ACTIONS) same_results
-        (few_of_meaning set begun.request.program 0 begun.request.args [] (tables_of set before) lawful.0.results.0 begun.results lawful.0.results.1)
+        (meaning-few set begun.request.program 0 begun.request.args [] (tables_of set before) lawful.0.results.0 begun.results lawful.0.results.1)
     by false told = cc
 few_recorded set server before (Refused refused ∷ history) entry request chain stamp results again lawful (inl same) is =
     by (same_call refused.request request) (ap (λ e. recorded_answer e request) same ∙ is)
@@ -96,7 +77,7 @@ few_new set server history request seen None chain stamp results again found is 
     by false false (Ok outcome) means told =
         let same : outcome.0 ≡ results = cc in
         subst (λ r. length r ≤ MAX_ACTIONS) same
-        (few_of_meaning set request.program 0 request.args [] (tables_of set history) outcome.1 outcome.0 means)
+        (meaning-few set request.program 0 request.args [] (tables_of set history) outcome.1 outcome.0 means)
     by false false (Err need) means told = cc
 
 few_answer : (set : Set) (server : ℕ) (history : History) (request : Request) (seen : ℕ) (entry : Option Entry) (chain : ChainId) (stamp : ℕ) (results : List ℕ) (again : Bool) →

@@ -1,5 +1,7 @@
 -- A lawful entry, and the message that it sends, are in the range of their byte forms.
-use Rattle.std.proofs.Common.{◌≡◌, ℕ, zero, suc, ◌+◌, ◌<◌, ◌≤◌, ◌==◌, ◌||◌, ◌&&◌, not, Bool, true, false, cond, List, [], ◌∷◌, ◌++◌, map, take, length, Option, Some, None, IsTrue, IsNone, slice_get, nat_eq, nat_lt, refl, sym, ap, ◌∙◌, subst, arith}
+use Rattle.std.proofs.Common.{All, ◌≡◌, ℕ, zero, suc, ◌+◌, ◌<◌, ◌≤◌, ◌==◌, ◌||◌, ◌&&◌, not, Bool, true, false, cond, List, [], ◌∷◌, ◌++◌, map, take, length, Option, Some, None, IsTrue, IsNone, slice_get, nat_eq, nat_lt, refl, sym, ap, ◌∙◌, subst, arith}
+use Rattle.std.proofs.lemmas.List.Elements.{All-cons, All-nil}
+use Rattle.lynx_books.specs.History.{IsLawfulAfter}
 use Rattle.std.specs.Cmp.Lexicographic.{pointwise, same_text}
 use Rattle.std.specs.List.{AllByRecursion}
 use Rattle.std.proofs.lemmas.Bool.{eqb-true, ltb-true}
@@ -209,3 +211,11 @@ next-in_range set server history (HopRan ran) message within lawful is =
         (omega (arith, below, few.0, many, few_hops set ran.message.program, length_more ran.message.results ran.results),
         one_more_few ran.message.results ran.results entry.0.2.1 entry.1)))
     is
+
+-- So are all entries of a lawful history.
+pub all-in_range : (set : Set) (server : ℕ) (before history : History) → server < MAX_SERVERS → IsLawfulAfter set server before history →
+    All IsEntryInRange history
+all-in_range set server before [] within lawful = All-nil IsEntryInRange
+all-in_range set server before (entry ∷ history) within lawful =
+    All-cons IsEntryInRange entry history (lawful-in_range set server before entry within lawful.0)
+    (all-in_range set server (before ++ entry ∷ []) history within lawful.1)

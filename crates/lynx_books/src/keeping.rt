@@ -58,6 +58,8 @@ impl Books {
         ensures commits { Commits K.sound K.keeps K.counted keeper.old keeper.new
             (kept_of self.old.set self.old.history) (kept_of self.old.set (self.old.history ++ Begun begun ∷ [])) result }
     {
+        // A lawful entry is in range where the server's number is.
+        let _ = self.server().number();
         let entry = Entry::Begun(begun);
         if make_room(
             &mut self.history,
@@ -102,6 +104,8 @@ impl Books {
         ensures commits { Commits K.sound K.keeps K.counted keeper.old keeper.new
             (kept_of self.old.set self.old.history) (kept_of self.old.set (self.old.history ++ entry ∷ [])) result }
     {
+        // A lawful entry is in range where the server's number is.
+        let _ = self.server().number();
         make_room(
             &mut self.history,
             &mut self.chains,

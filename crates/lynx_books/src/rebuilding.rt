@@ -21,6 +21,8 @@ pub fn rebuild(
 ) -> Result<Server<MemoryKeeper>, OpenFault>
     ensures { Rebuilds set.now server entries.items result }
 {
+    // A lawful entry is in range where the server's number is.
+    let _ = server.number();
     let replayed = match replay(alloc, set, server, entries.as_slice())? {
         Replayed::Done(replayed) => replayed,
         Replayed::Differs(place) => {
@@ -29,6 +31,6 @@ pub fn rebuild(
             });
         }
     };
-    let keeper = MemoryKeeper::keeping(alloc, entries, replayed.cells())?;
+    let keeper = MemoryKeeper::keeping(alloc, entries.as_slice(), replayed.cells())?;
     Ok(replayed.over(keeper))
 }

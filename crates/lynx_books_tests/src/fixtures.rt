@@ -1,4 +1,7 @@
 //! Two servers of payments.
+ghost use Rattle.std.specs.Prelude.{IfOk};
+ghost use Rattle.lynx_forms.specs.Ranges.{IsRequestInRange};
+
 use lynx_books::{Server, Woken};
 use lynx_entry::{Answer, Delivered, Entry, Message, Request};
 use lynx_keep::{Keeper, MemoryKeeper};
@@ -18,7 +21,9 @@ pub fn holds(rt: &impl Abort, answer: Result<bool, Memory>) {
 }
 
 /// A request of client 1 with one argument.
-pub fn request(alloc: Global, number: u64, program: u8, amount: u64) -> Result<Request, Memory> {
+pub fn request(alloc: Global, number: u64, program: u8, amount: u64) -> Result<Request, Memory>
+    ensures { IfOk result IsRequestInRange }
+{
     let mut args = Values::new(alloc);
     args.push(amount)?;
     Ok(Request {

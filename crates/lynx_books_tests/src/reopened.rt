@@ -1,12 +1,18 @@
 //! Servers that are opened over what was kept.
+ghost use Rattle.std.specs.Prelude.{IfOk};
+ghost use Rattle.lynx_forms.specs.Entries.{IsEntryInRange};
+
 use crate::fixtures::{
-    Boxed, PAY, SEED, begin, deliver, entries, holds, is_begun, paid, paid_twice, restarted, server,
+    Boxed, PAY, SEED, begin, deliver, entries, holds, is_begun, paid, paid_twice, request, restarted,
+    server,
 };
 use lynx_books::{OpenFault, Server, first_unlawful};
 use lynx_cells::Changes;
-use lynx_entry::{Delivered, Entry};
+use lynx_entry::{BegunEntry, Delivered, Entry};
 use lynx_keep::{FaultKeeper, Keeper, MemoryKeeper, Planned};
-use lynx_names::{Memory, Numbers, ProgramId, ServerId, Stamp, TableId, TryCopy};
+use lynx_names::{
+    ChainId, Memory, NumberAt, Numbers, ProgramId, ServerId, Stamp, TableId, TryCopy, Values,
+};
 use lynx_samples::texts::{PAYMENT, read};
 use std::alloc::Global;
 
@@ -169,14 +175,34 @@ fn entries_left_out_or_doubled_are_found(rt: HostRuntime) {
     holds(&rt, are_judged(rt.alloc()));
 }
 
+/// The seed's entry.
+fn seed(alloc: Global) -> Result<Entry, Memory>
+    ensures { IfOk result IsEntryInRange }
+{
+    let mut numbers = Numbers::new(alloc);
+    numbers.push(NumberAt {
+        server: ServerId::first(),
+        number: 0,
+    })?;
+    Ok(Entry::Begun(BegunEntry {
+        request: request(alloc, 1, SEED, 100)?,
+        seen: Stamp::zero(),
+        chain: ChainId {
+            origin: ServerId::first(),
+            index: 0,
+        },
+        numbers,
+        stamp: Stamp::new(1).ok_or(Memory)?,
+        results: Values::new(alloc),
+    }))
+}
+
 /// A keeper of the seed's entry with another value in its cell.
 fn altered(alloc: Global) -> Result<MemoryKeeper, Memory> {
-    let entries = entries(alloc)?;
     let mut keeper = MemoryKeeper::new(alloc);
     let mut changes = Changes::new(alloc);
     changes.put(TableId::new(0).ok_or(Memory)?, 0, 101)?;
-    let seed = entries.get(0).ok_or(Memory)?;
-    match keeper.commit(alloc, seed, &changes) {
+    match keeper.commit(alloc, &seed(alloc)?, &changes) {
         Ok(()) => Ok(keeper),
         Err(_) => Err(Memory),
     }

@@ -1,4 +1,5 @@
 ghost use Rattle.std.specs.Prelude.{◌≡◌, ◌≤◌, IsErrOf, OnOk, IfOk, ℕ};
+ghost use Rattle.lynx_forms.specs.Entries.{IsEntryInRange};
 ghost use Rattle.lynx_keep.specs.Kept.{HasRisen, Kept, with_entry};
 
 use crate::fault::KeepFault;
@@ -27,9 +28,10 @@ pub trait Keeper {
     // How often the store has failed.
     ghost counted: { Self → ℕ };
 
-    /// Keeps an entry and the changes of its cells, both or neither. A stop at any moment of the call leaves what
-    /// was kept, or that with the whole entry.
+    /// Keeps an entry, which has a byte form, and the changes of its cells, both or neither. A stop at any moment of
+    /// the call leaves what was kept, or that with the whole entry.
     fn commit(&mut self, alloc: Global, entry: &Entry, changes: &Changes) -> Result<(), KeepFault>
+        requires range { IsEntryInRange entry.now }
         ensures sound { sound self.new → sound self.old }
         ensures ok { sound self.new → OnOk result ((before : Kept) → keeps self.old before
             → keeps self.new (with_entry before entry.now changes.now)) }

@@ -12,3 +12,4 @@ pub mod fault;
 pub mod fault_keeper;
 pub mod keeper;
 pub mod memory_keeper;
+mod reading;

@@ -1,30 +1,42 @@
-ghost use Rattle.std.specs.Prelude.{◌≡◌, IfOk, OnOk, OnErr};
+ghost use Rattle.std.specs.Prelude.{◌≡◌, ◌++◌, ◌∷◌, [], All, IfOk, OnOk, OnErr};
+ghost use Rattle.lynx_forms.specs.Entries.{IsEntryInRange};
 ghost use Rattle.lynx_keep.specs.Kept.{nothing_kept, with_entry};
+ghost use Rattle.lynx_keep.specs.Stored.{AreStored, entries_in};
 
 use crate::copying::{copy_cells, copy_changes};
 use crate::fault::KeepFault;
 use crate::keeper::{Keeper, Loaded};
+use crate::reading::read_entries;
 use lynx_cells::{Cells, Changes};
 use lynx_entry::Entry;
-use lynx_names::{Items, Memory, TryCopy};
+use lynx_forms::limits::MAX_FORM_BYTES;
+use lynx_forms::{Item, append};
+use lynx_names::{Memory, TryCopy};
 use std::alloc::Global;
 use std::marker::Model;
 
-/// Keeps everything in memory. It never answers Failed, and has no faults to count.
+/// Keeps everything in memory, its entries as their byte forms. It never answers Failed, and has no faults to count.
 #[derive(Debug, Drop)]
 pub struct MemoryKeeper {
-    entries: Items<Entry>,
+    /// The forms of the entries, one behind the other.
+    forms: Vec<u8>,
     cells: Cells,
 }
 
 impl Model for MemoryKeeper {
     ghost use Rattle.lynx_keep.specs.Kept.{Kept, kept_code};
+    ghost use Rattle.lynx_keep.specs.Stored.{AreStored, entries_in};
 
     ghost Value = { Kept };
 
     ghost coded = { kept_code };
 
-    ghost view = { λ keeper. record { entries = keeper.entries; cells = keeper.cells.database } };
+    ghost view = { λ keeper. record {
+      entries = entries_in keeper.forms.items;
+      cells = keeper.cells.database;
+    } };
+
+    ghost invariant = { λ keeper. AreStored keeper.forms.items };
 }
 
 impl MemoryKeeper {
@@ -33,44 +45,58 @@ impl MemoryKeeper {
         ensures { result ≡ nothing_kept }
     {
         MemoryKeeper {
-            entries: Items::new(alloc),
+            forms: Vec::new(alloc),
             cells: Cells::new(alloc),
         }
     }
 
     /// Keeps these entries and a copy of these cells.
-    pub fn keeping(
-        alloc: Global,
-        entries: Vec<Entry>,
-        cells: &Cells,
-    ) -> Result<MemoryKeeper, Memory>
+    pub fn keeping(alloc: Global, entries: &[Entry], cells: &Cells) -> Result<MemoryKeeper, Memory>
+        requires { All IsEntryInRange entries.now }
         ensures { IfOk result (λ keeper. keeper
-            ≡ record { entries = entries.items; cells = cells.now.database }) }
+            ≡ record { entries = entries.now; cells = cells.now.database }) }
     {
-        Ok(MemoryKeeper {
-            entries: Items::from_vec(entries),
-            cells: copy_cells(alloc, cells)?,
-        })
+        let mut forms = Vec::new(alloc);
+        for entry in entries {
+            add_form(alloc, &mut forms, entry)?;
+        }
+        let cells = copy_cells(alloc, cells)?;
+        Ok(MemoryKeeper { forms, cells })
     }
 
     /// All growth comes first.
     fn keep(&mut self, alloc: Global, entry: &Entry, changes: &Changes) -> Result<(), Memory>
+        requires { IsEntryInRange entry.now }
         ensures ok { OnOk result (self.new ≡ with_entry self.old entry.now changes.now) }
         ensures err { OnErr result (self.new ≡ self.old) }
     {
-        let entry = entry.copy(alloc)?;
         let changes = copy_changes(alloc, changes)?;
         self.cells.stage(&changes)?;
-        self.entries.push(entry)?;
+        add_form(alloc, &mut self.forms, entry)?;
         self.cells.apply(changes);
         Ok(())
     }
 }
 
+/// Adds the form of an entry behind those of others.
+fn add_form(alloc: Global, forms: &mut Vec<u8>, entry: &Entry) -> Result<(), Memory>
+    requires stored { AreStored forms.old.items }
+    requires range { IsEntryInRange entry.now }
+    ensures ok { OnOk result (entries_in forms.new.items
+        ≡ entries_in forms.old.items ++ entry.now ∷ []) }
+    ensures err { OnErr result (forms.new.items ≡ forms.old.items) }
+    ensures stored { AreStored forms.new.items }
+{
+    forms.reserve(MAX_FORM_BYTES)?;
+    let item = Item::Entry(entry.copy(alloc)?);
+    append(&item, forms);
+    Ok(())
+}
+
 impl TryCopy for MemoryKeeper {
     fn copy(&self, alloc: Global) -> Result<MemoryKeeper, Memory> {
         Ok(MemoryKeeper {
-            entries: self.entries.copy(alloc)?,
+            forms: Vec::from_slice(alloc, self.forms.as_slice())?,
             cells: copy_cells(alloc, &self.cells)?,
         })
     }
@@ -94,10 +120,7 @@ impl Keeper for MemoryKeeper {
     }
 
     fn load(&mut self, alloc: Global) -> Result<Loaded, KeepFault> {
-        let mut entries = Vec::with_capacity(alloc, self.entries.len())?;
-        for entry in self.entries.as_slice() {
-            entries.push(entry.copy(alloc)?)?;
-        }
+        let entries = read_entries(alloc, self.forms.as_slice())?;
         let cells = copy_cells(alloc, &self.cells)?;
         Ok(Loaded { entries, cells })
     }

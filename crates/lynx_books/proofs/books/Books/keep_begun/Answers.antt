@@ -1,9 +1,11 @@
-use Rattle.std.proofs.Common.{◌≡◌, ◌∙◌, ◌++◌, ◌∷◌, [], ap, subst, length}
+use Rattle.std.proofs.Common.{◌≡◌, ◌<◌, ◌∙◌, ◌++◌, ◌∷◌, [], ap, subst, length}
+use Rattle.lynx_names.specs.declared.limits.TheConstants.{MAX_SERVERS}
 use Rattle.lynx_cells.specs.Database.{applied}
 use Rattle.lynx_entry.specs.declared.entry.Entry.TheVariants.{Begun}
 use Rattle.lynx_server.specs.Lawful.{IsLawful}
 use Rattle.lynx_books.specs.Keeping.{AreChangesOf, kept_of}
 use Rattle.lynx_books.proofs.Growing.{books_with_begun, kept_more}
+use Rattle.lynx_books.proofs.InRange.{lawful-in_range}
 use Rattle.lynx_books.proofs.books.Books.keep_begun.Goals as goal
 
 pub invariant_of-self-2 : goal.invariant_of-self-2
@@ -29,4 +31,11 @@ returns-clause-commits g c = record {
       (kept_more c.args.self.now.set c.args.self.now.history (Begun c.args.begun) c.args.changes c.requires.changes)
       (c.in_default.ensures.ok sound (kept_of c.args.self.now.set c.args.self.now.history) keeps);
   counts = c.commit.ensures.counts;
+}
+
+pub commit-requires : goal.commit-requires
+commit-requires g c = record {
+  range =
+      lawful-in_range c.args.self.now.set c.args.self.now.server c.args.self.now.history (Begun c.args.begun)
+      (subst (λ n. n < MAX_SERVERS) (c.number.ensures.value ∙ c.server.ensures) c.number.ensures.in_range) c.requires.lawful;
 }

@@ -1,8 +1,10 @@
-use Rattle.std.proofs.Common.{◌∙◌, ap}
+use Rattle.std.proofs.Common.{◌<◌, ◌∙◌, ap, subst}
+use Rattle.lynx_names.specs.declared.limits.TheConstants.{MAX_SERVERS}
 use Rattle.lynx_cells.specs.Database.{applied}
 use Rattle.lynx_server.specs.Lawful.{IsLawful}
 use Rattle.lynx_books.specs.Keeping.{AreChangesOf}
 use Rattle.lynx_books.proofs.Growing.{books_with_other}
+use Rattle.lynx_books.proofs.InRange.{lawful-in_range}
 use Rattle.lynx_books.proofs.books.Books.keep_other.Goals as goal
 
 pub invariant_of-self-2 : goal.invariant_of-self-2
@@ -16,3 +18,10 @@ invariant_of-self-2 g c =
     (books_with_other set server history c.args.entry c.self.inside.sequencer.counters c.self.inside.turns c.self.inside.chains.items c.self.inside.cells.database
     c.args.changes _ _ _ c.self.invariant c.requires.other lawful c.count_turn.ensures c.in_ok-make_room.ensures.chains
     (c.apply.ensures.database ∙ ap (applied c.args.changes) c.in_ok-make_room.ensures.cells) changes)
+
+pub commit-requires : goal.commit-requires
+commit-requires g c = record {
+  range =
+      lawful-in_range c.args.self.now.set c.args.self.now.server c.args.self.now.history c.args.entry
+      (subst (λ n. n < MAX_SERVERS) (c.number.ensures.value ∙ c.server.ensures) c.number.ensures.in_range) c.requires.lawful;
+}

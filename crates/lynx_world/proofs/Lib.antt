@@ -13,6 +13,7 @@ pub mod Tests
 pub mod Alike
 pub mod Standing
 pub mod Sent
+pub mod SentInRange
 pub mod HopsOf
 pub mod ResultCounts
 pub mod LaterHops
@@ -24,6 +25,7 @@ pub mod Rises
 pub mod Acts
 pub mod Turns
 pub mod Ran
+pub mod ReadAgain
 pub mod Formed
 pub mod Answered
 pub mod Origins

@@ -9,6 +9,7 @@ pub use world::World;
 
 pub mod added;
 mod among;
+mod carrying;
 mod cells;
 pub mod laws;
 pub mod listed;

@@ -3,6 +3,7 @@ ghost use Rattle.lynx_names.specs.declared.limits.TheConstants.{MAX_HELD};
 
 use crate::added::Added;
 use crate::among::act_among;
+use crate::carrying::carried;
 use crate::cells::all_cells;
 use crate::listed::{Listed, added_at, lend, server_at};
 use crate::opening::open_all;
@@ -160,6 +161,24 @@ impl World {
         }
     }
 
+    /// That message, as its server reads it: from its byte form.
+    fn read_message(
+        &self,
+        alloc: Global,
+        chain: &ChainId,
+        hop: u8,
+    ) -> Result<Option<Message>, Memory>
+        ensures { IfOk result (λ found. found
+            ≡ sent_message self.now.set chain.now hop self.now.list) }
+    {
+        // The list is legal, and the set has few servers, so the message is in range.
+        let _ = self.set().servers();
+        match self.sent_message(alloc, chain, hop)? {
+            Some(message) => Ok(Some(carried(alloc, message)?)),
+            None => Ok(None),
+        }
+    }
+
     fn begin(
         &mut self,
         alloc: Global,
@@ -190,7 +209,7 @@ impl World {
             ≡ step MAX_HELD self.old (Event.Deliver chain hop)) }
         ensures err { OnErr result (self.new ≡ self.old) }
     {
-        let Some(message) = self.sent_message(alloc, &chain, hop)? else {
+        let Some(message) = self.read_message(alloc, &chain, hop)? else {
             return Ok(Outcome::NotSent { chain, hop });
         };
         let server = self.destination_of(&message);

@@ -1,0 +1,57 @@
+//! A message on its way: it is written as its byte form, and read from it.
+ghost use Rattle.std.specs.Prelude.{◌≡◌, ◌⊎◌, Ok, Err, Some, IfOk};
+ghost use Rattle.lynx_entry.specs.declared.message.Message.{Message};
+ghost use Rattle.lynx_forms.specs.declared.fault.DecodeFault.TheVariants.{Memory as WantOfMemory};
+ghost use Rattle.lynx_forms.specs.declared.item.Item.{Item};
+ghost use Rattle.lynx_forms.specs.Form.{form};
+ghost use Rattle.lynx_forms.specs.Ranges.{IsItem, IsMessageInRange};
+
+use lynx_entry::Message;
+use lynx_forms::{DecodeFault, Feed, Item, encode};
+use lynx_names::Memory;
+use std::alloc::Global;
+
+/// The message that an item is.
+fn message_of(item: Item) -> Message
+    requires { (message : Message) × (item ≡ Item.Message message) }
+    ensures { item ≡ Item.Message result }
+{
+    match item {
+        Item::Message(message) => message,
+        _ => unreachable!(),
+    }
+}
+
+/// The only fault of a feed at whose front a whole form stands.
+fn want_of_memory(fault: DecodeFault) -> Memory
+    requires { fault ≡ DecodeFault.Memory }
+{
+    match fault {
+        DecodeFault::Memory => Memory,
+        _ => unreachable!(),
+    }
+}
+
+/// What a feed of these bytes gives first.
+fn read_first(alloc: Global, bytes: &[u8]) -> Result<Option<Item>, DecodeFault>
+    ensures { (item : Item) → IsItem item → bytes.now ≡ form item →
+        (result ≡ Ok (Some item)) ⊎ (result ≡ Err WantOfMemory) }
+{
+    let mut feed = Feed::new(alloc);
+    feed.push(bytes)?;
+    feed.next(alloc)
+}
+
+/// The message as it is read from its form.
+pub(crate) fn carried(alloc: Global, message: Message) -> Result<Message, Memory>
+    requires { IsMessageInRange message }
+    ensures { IfOk result (λ read. read ≡ message) }
+{
+    let form = encode(alloc, &Item::Message(message))?;
+    match read_first(alloc, form.as_slice()) {
+        Ok(Some(item)) => Ok(message_of(item)),
+        // The whole form stands there.
+        Ok(None) => unreachable!(),
+        Err(fault) => Err(want_of_memory(fault)),
+    }
+}

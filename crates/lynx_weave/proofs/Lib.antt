@@ -1,0 +1,13 @@
+pub mod Gets
+pub mod Lawfuls
+pub mod Sending
+pub mod Merging
+pub mod Bridging
+pub mod Agreements
+pub mod Marking
+pub mod Sames
+pub mod Leasts
+pub mod Rebuildings
+pub mod Servings
+pub mod Ordered
+pub mod Woven

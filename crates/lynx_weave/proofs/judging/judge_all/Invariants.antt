@@ -1,0 +1,11 @@
+use Rattle.std.proofs.Common.{take}
+use Rattle.lynx_weave.specs.Rebuilt.{histories_of, told_in}
+use Rattle.lynx_weave.specs.Weaving.{all_told}
+use Rattle.lynx_weave.proofs.Marking.{AreCounted, AreWellBefore}
+use Rattle.lynx_weave.proofs.judging.judge_all.Given as goal
+
+abbrev pub invariant-loop-session : goal.invariant-loop-session
+invariant-loop-session l = record {
+  well : AreWellBefore (histories_of l.servers) (told_in l.told) l.session;
+  counted : AreCounted (histories_of l.servers) l.marks (all_told (take l.session (told_in l.told)));
+}

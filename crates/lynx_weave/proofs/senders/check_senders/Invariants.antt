@@ -1,0 +1,6 @@
+use Rattle.lynx_weave.specs.Rebuilt.{histories_of}
+use Rattle.lynx_weave.proofs.Sending.{AreAllSentBelow}
+use Rattle.lynx_weave.proofs.senders.check_senders.Given as goal
+
+abbrev pub invariant-loop-here : goal.invariant-loop-here
+invariant-loop-here l = AreAllSentBelow l.set (histories_of l.servers) l.here-index

@@ -70,14 +70,14 @@ copied-next copied left rest all made name value given whole next same distinct 
     let new : insert_entry same_name copied name value ≡ copied ++ (name, value) ∷ [] = insert_entry-next copied name value rest (subst (λ es. IsDistinct same_name (map (λ entry. entry.0) es)) (sym split) distinct) in
     ap (λ es. es ++ rest) (inserted ∙ ap (insert_entry same_name copied name) same ∙ new) ∙ append_assoc copied ((name, value) ∷ []) rest ∙ split
 
-same_name-exact : (a b : List ℕ) → same_name a b ≡ true → a ≡ b
+pub same_name-exact : (a b : List ℕ) → same_name a b ≡ true → a ≡ b
 same_name-exact a b h =
     let both = and_true (bytes_eq (a ++ replicate (24 - length a) 0) (b ++ replicate (24 - length b) 0)) (eqb (length a) (length b)) h in
     let padded : a ++ replicate (24 - length a) 0 ≡ b ++ replicate (24 - length b) 0 = (bytes_eq-Decides _ _).0 both.0 in
     let long : length a ≡ length b = eqb-true _ _ both.1 in
     sym (take_at a (replicate (24 - length a) 0) (length a) refl) ∙ ap (take (length a)) padded ∙ take_at b (replicate (24 - length b) 0) (length a) (sym long)
 
-same_name-refl : (a : List ℕ) → same_name a a ≡ true
+pub same_name-refl : (a : List ℕ) → same_name a a ≡ true
 same_name-refl a =
     let whole : List ℕ = a ++ replicate (24 - length a) 0 in
     let bytes : bytes_eq whole whole ≡ true = (bytes_eq-Decides whole whole).1 refl in

@@ -1,5 +1,5 @@
 -- What a set says of its programs and tables, by their numbers.
-use Rattle.std.specs.Prelude.{ℕ, List, [], ◌∷◌, Option, map, slice_get, unwrap_or, option_and_then, option_map}
+use Rattle.std.specs.Prelude.{ℕ, List, [], Option, map, slice_get, unwrap_or, option_and_then, option_map}
 use Rattle.lynx_set.specs.declared.action.Action.{Action}
 use Rattle.lynx_set.specs.declared.program.Hop.{Hop}
 use Rattle.lynx_set.specs.declared.program.Program.{Program}

@@ -8,6 +8,7 @@ pub use program::{Hop, Program};
 pub use set::ChainSet;
 
 pub mod action;
+mod comparing;
 mod lookups;
 pub mod program;
 pub mod set;

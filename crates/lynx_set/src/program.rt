@@ -7,7 +7,7 @@ use lynx_words::Name;
 use std::alloc::Global;
 
 /// A hop of a program: its server, and its actions in order.
-#[derive(Debug, Drop)]
+#[derive(Debug, PartialEq, Eq, Drop)]
 pub struct Hop {
     pub server: ServerId,
     pub actions: Items<Action>,
@@ -24,7 +24,7 @@ impl TryCopy for Hop {
 }
 
 /// A chain program without its name.
-#[derive(Debug, Drop)]
+#[derive(Debug, PartialEq, Eq, Drop)]
 pub struct Program {
     /// How many of the names are parameters.
     pub parameters: usize,

@@ -1,4 +1,4 @@
-ghost use Rattle.std.specs.Prelude.{◌≡◌, ◌<◌, ◌↔◌, ℕ, Some, IsSome, IfSome};
+ghost use Rattle.std.specs.Prelude.{◌≡◌, ◌<◌, ◌≤◌, ◌↔◌, ℕ, Some, IsSome, IfSome};
 ghost use Rattle.lynx_names.specs.declared.limits.TheConstants.{MAX_SERVERS};
 
 use crate::limits::MAX_SERVERS;
@@ -29,6 +29,21 @@ impl ServerId {
     {
         if number < MAX_SERVERS {
             Some(ServerId { number })
+        } else {
+            None
+        }
+    }
+
+    /// The server of that number among so many, None where there are no more than that.
+    pub fn among(servers: u8, number: u64) -> Option<ServerId>
+        requires { servers ≤ MAX_SERVERS }
+        ensures valid { IsSome result ↔ (number < servers) }
+        ensures value { IfSome result (λ id. id ≡ number) }
+    {
+        if number < u64::from(servers) {
+            Some(ServerId {
+                number: number as u8,
+            })
         } else {
             None
         }

@@ -242,10 +242,7 @@ fn known_server(servers: u8, number: u64) -> Result<ServerId, FaultKind>
     ensures ok { IfOk result (λ server. (server ≡ number) × (number < servers)) }
     ensures err { IfErr result (λ kind. (kind ≡ FaultKind.Unknown) × (servers ≤ number)) }
 {
-    if number >= u64::from(servers) {
-        return Err(FaultKind::Unknown);
-    }
-    ServerId::new(number as u8).ok_or(FaultKind::Unknown)
+    ServerId::among(servers, number).ok_or(FaultKind::Unknown)
 }
 
 /// A program of the set.

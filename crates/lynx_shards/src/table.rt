@@ -75,7 +75,7 @@ impl TableShards {
         if let Some(fault) = range_fault(servers, self.last, range.low, range.high, range.server) {
             return Err(fault);
         }
-        let Some(server) = ServerId::new(range.server as u8) else {
+        let Some(server) = ServerId::among(servers, range.server) else {
             return Err(ShardFault::BadServer);
         };
         let shard = Shard {

@@ -378,11 +378,7 @@ fn read_hop_line(words: &[&[u8]], servers: u8, hops: usize) -> Result<ServerId, 
     if hops >= MAX_HOPS {
         return Err(FaultKind::LimitPassed);
     }
-    let server = number_of(word)?;
-    if server >= u64::from(servers) {
-        return Err(FaultKind::Unknown);
-    }
-    Ok(ServerId::new(server as u8).unwrap())
+    ServerId::among(servers, number_of(word)?).ok_or(FaultKind::Unknown)
 }
 
 /// Reads the line of a hop's next action, and adds the action and the name that it binds.

@@ -45,11 +45,11 @@ once k a (suc n) =
       | inl same ↦
           let alone : length rest ≡ 0 = none_above k (a + 1) n (omega (arith, same.1)) in
           let one : length (filter (λ x. k == x) (range_with_len a (suc n))) ≡ length (a ∷ rest) =
-              ap (λ b. length (cond b (a ∷ rest) rest)) same.0 in
+          ap (λ b. length (cond b (a ∷ rest) rest)) same.0 in
           omega (arith, one, alone)
       | inr other ↦
           let less : length (filter (λ x. k == x) (range_with_len a (suc n))) ≡ length rest =
-              ap (λ b. length (cond b (a ∷ rest) rest)) other.0 in
+          ap (λ b. length (cond b (a ∷ rest) rest)) other.0 in
           omega (arith, less, once k (a + 1) n)
     ]
 
@@ -63,9 +63,9 @@ few_servers : (hops : List Hop) (a n : ℕ) →
 few_servers [] a n = omega (arith, none_pass (range_with_len a n))
 few_servers (hop ∷ hops) a n =
     let either : length (filter (λ server. visits (hop ∷ hops) server) (range_with_len a n))
-            ≤ length (filter (λ server. hop.server == server) (range_with_len a n))
-            + length (filter (λ server. visits hops server) (range_with_len a n)) =
-        pass_either (λ server. hop.server == server) (λ server. visits hops server) (range_with_len a n) in
+    ≤ length (filter (λ server. hop.server == server) (range_with_len a n))
+    + length (filter (λ server. visits hops server) (range_with_len a n)) =
+    pass_either (λ server. hop.server == server) (λ server. visits hops server) (range_with_len a n) in
     omega (arith, either, once hop.server a n, few_servers hops a n)
 
 kept_some : (b : Bool) (x : ℕ) (xs : List ℕ) → 1 ≤ length xs → 1 ≤ length (cond b (x ∷ xs) xs)
@@ -126,8 +126,9 @@ unfolding visited
 have_order set program server numbers within there is =
     let counted : length numbers ≡ length (visited set program) = sym (length-servers numbers) ∙ ap length is in
     let some : 1 ≤ length (visited set program) =
-        some_pass (λ s. visits (hops_of set program) s) MAX_SERVERS 0 server (omega arith) (omega (arith, within)) there in
-    let few : length (visited set program) ≤ length (hops_of set program) = few_servers (hops_of set program) 0 MAX_SERVERS in
-    (omega (arith, counted, some),
-    omega (arith, counted, few, few_hops set program),
-    rises (λ s. visits (hops_of set program) s) MAX_SERVERS 0 0 numbers (omega arith) is)
+    some_pass (λ s. visits (hops_of set program) s) MAX_SERVERS 0 server (omega arith) (omega (arith, within)) there in
+    let few : length (visited set program) ≤ length (hops_of set program) = few_servers (hops_of set program) 0 MAX_SERVERS in (
+      omega (arith, counted, some),
+      omega (arith, counted, few, few_hops set program),
+      rises (λ s. visits (hops_of set program) s) MAX_SERVERS 0 0 numbers (omega arith) is,
+    )

@@ -154,10 +154,11 @@ length_more (first ∷ results) last = ap suc (length_more results last)
 formed_in_range : (set : Set) (server : ℕ) (message : Message) → server < MAX_SERVERS → IsFormed set server message → IsMessageInRange message
 formed_in_range set server message within is =
     let few = take_few message.hop (hops_of set message.program) in
-    let many = as_many message.results (take message.hop (hops_of set message.program)) is.counts_are in
-    (is.few,
-    have_order set message.program server message.numbers within is.here is.servers_are,
-    (omega (arith, few.1, many, few_hops set message.program), each_is_few message.results _ is.counts_are))
+    let many = as_many message.results (take message.hop (hops_of set message.program)) is.counts_are in (
+      is.few,
+      have_order set message.program server message.numbers within is.here is.servers_are,
+      (omega (arith, few.1, many, few_hops set message.program), each_is_few message.results _ is.counts_are),
+    )
 
 well_formed : (set : Set) (server : ℕ) (history : History) (message : Message) → IsTrue (is_well_formed set server history message) →
     IsFormed set server message
@@ -174,17 +175,19 @@ pub lawful-in_range : (set : Set) (server : ℕ) (history : History) (entry : En
     IsLawful set server history entry → IsEntryInRange entry
 lawful-in_range set server history (Begun begun) within lawful =
     let order = in_order set server begun.request (program_at set begun.request.program) lawful.may_begin.in_order in
-    let are = ap servers lawful.numbers ∙ servers-numbered set history (visited set begun.request.program) in
-    (order.few,
-    have_order set begun.request.program server begun.numbers within order.here are,
-    meaning-few set begun.request.program 0 begun.request.args [] (tables_of set history) lawful.results.0 begun.results lawful.results.1)
+    let are = ap servers lawful.numbers ∙ servers-numbered set history (visited set begun.request.program) in (
+      order.few,
+      have_order set begun.request.program server begun.numbers within order.here are,
+      meaning-few set begun.request.program 0 begun.request.args [] (tables_of set history) lawful.results.0 begun.results lawful.results.1,
+    )
 lawful-in_range set server history (Refused refused) within lawful =
     let order = in_order set server refused.request (program_at set refused.request.program) lawful.may_begin.in_order in
     (order.few, meaning-need set refused.request.program 0 refused.request.args [] (tables_of set history) refused.need lawful.need)
-lawful-in_range set server history (HopRan ran) within lawful =
-    (formed_in_range set server ran.message within (well_formed set server history ran.message lawful.well_formed),
-    meaning-few set ran.message.program ran.message.hop ran.message.args ran.message.results (tables_of set history)
-    lawful.results.0 ran.results lawful.results.1)
+lawful-in_range set server history (HopRan ran) within lawful = (
+  formed_in_range set server ran.message within (well_formed set server history ran.message lawful.well_formed),
+  meaning-few set ran.message.program ran.message.hop ran.message.args ran.message.results (tables_of set history)
+      lawful.results.0 ran.results lawful.results.1,
+)
 
 -- a message with few results, whatever stands in its other fields
 next_in_range : (b : Bool) (made message : Message) → (b ≡ true → IsMessageInRange made) →
@@ -206,10 +209,14 @@ next-in_range set server history (HopRan ran) message within lawful is =
     let many = as_many ran.message.results (take ran.message.hop (hops_of set ran.message.program)) has.counts_are in
     next_in_range (nat_lt (ran.message.hop + 1) (length (hops_of set ran.message.program))) _ message
     (λ later.
-        let below = ltb-true (ran.message.hop + 1) (length (hops_of set ran.message.program)) later in
-        (entry.0.0, entry.0.1,
-        (omega (arith, below, few.0, many, few_hops set ran.message.program, length_more ran.message.results ran.results),
-        one_more_few ran.message.results ran.results entry.0.2.1 entry.1)))
+    let below = ltb-true (ran.message.hop + 1) (length (hops_of set ran.message.program)) later in (
+      entry.0.0,
+      entry.0.1,
+      (
+        omega (arith, below, few.0, many, few_hops set ran.message.program, length_more ran.message.results ran.results),
+        one_more_few ran.message.results ran.results entry.0.2.1 entry.1,
+      ),
+    ))
     is
 
 -- So are all entries of a lawful history.

@@ -42,9 +42,15 @@ impl Model for Books {
 
     ghost Value = { BooksState };
 
-    ghost view = { λ books. record { set = books.set; server = books.server; history = books.history.items; out = books.sequencer.out } };
+    ghost view = { λ books. record {
+      set = books.set;
+      server = books.server;
+      history = books.history.items;
+      out = books.sequencer.out;
+    } };
 
-    ghost invariant = { λ books. IsBooks books.set books.server books.history.items books.sequencer.counters books.turns books.chains.items books.cells.database };
+    ghost invariant = { λ books. IsBooks books.set books.server books.history.items
+        books.sequencer.counters books.turns books.chains.items books.cells.database };
 }
 
 impl Books {

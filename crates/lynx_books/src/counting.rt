@@ -13,7 +13,8 @@ use lynx_turn::Turns;
 pub(crate) fn count_turn(set: &ChainSet, server: ServerId, turns: &mut Turns, entry: &Entry)
     requires { (origin : ℕ) → origin < MAX_SERVERS → slice_index turns.old origin < MAX_ENTRIES }
     ensures { (origin : ℕ) → slice_index turns.new origin
-        ≡ (if leaves set.now server origin entry.now then slice_index turns.old origin + 1 else slice_index turns.old origin) }
+        ≡ (if leaves set.now server origin entry.now then slice_index turns.old origin + 1
+        else slice_index turns.old origin) }
 {
     match entry {
         Entry::Begun(begun) => {

@@ -102,7 +102,8 @@ impl RanMessage {
         ensures err { OnErr result (books.new ≡ books.old) }
         ensures commits { Commits K.sound K.keeps K.counted keeper.old keeper.new
             (kept_of books.old.set books.old.history)
-            (kept_of books.old.set (books.old.history ++ Hop (hop_entry self.taken.message self.taken.stamp self.ran.0) ∷ [])) result }
+            (kept_of books.old.set (books.old.history
+            ++ Hop (hop_entry self.taken.message self.taken.stamp self.ran.0) ∷ [])) result }
     {
         let RanMessage { taken, ran } = self;
         let TakenMessage { message, stamp } = taken;

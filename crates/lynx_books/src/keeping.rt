@@ -56,7 +56,8 @@ impl Books {
         }) }
         ensures err { OnErr result (self.new ≡ record self.old { out = None }) }
         ensures commits { Commits K.sound K.keeps K.counted keeper.old keeper.new
-            (kept_of self.old.set self.old.history) (kept_of self.old.set (self.old.history ++ Begun begun ∷ [])) result }
+            (kept_of self.old.set self.old.history)
+            (kept_of self.old.set (self.old.history ++ Begun begun ∷ [])) result }
     {
         // A lawful entry is in range where the server's number is.
         let _ = self.server().number();
@@ -102,7 +103,8 @@ impl Books {
         }) }
         ensures err { OnErr result (self.new ≡ self.old) }
         ensures commits { Commits K.sound K.keeps K.counted keeper.old keeper.new
-            (kept_of self.old.set self.old.history) (kept_of self.old.set (self.old.history ++ entry ∷ [])) result }
+            (kept_of self.old.set self.old.history)
+            (kept_of self.old.set (self.old.history ++ entry ∷ [])) result }
     {
         // A lawful entry is in range where the server's number is.
         let _ = self.server().number();

@@ -39,7 +39,8 @@ impl Model for Register {
 
     ghost view = { λ register. register.books };
 
-    ghost invariant = { λ register. IsRegister register.books.history register.requests register.hops };
+    ghost invariant = { λ register. IsRegister register.books.history register.requests
+        register.hops };
 }
 
 impl Register {

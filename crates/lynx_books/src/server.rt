@@ -58,8 +58,8 @@ impl<K: Keeper> Model for Server<K> {
       keeper = server.keeper;
     } };
 
-    ghost invariant = { λ server. IsServing K.sound K.keeps K.counted server.register server.is_stopped server.opened
-        (vec_capacity server.acknowledged) server.keeper };
+    ghost invariant = { λ server. IsServing K.sound K.keeps K.counted server.register
+        server.is_stopped server.opened (vec_capacity server.acknowledged) server.keeper };
 }
 
 /// A held message that was delivered.
@@ -81,7 +81,17 @@ impl<K: Keeper> Server<K> {
     where
         K: Drop,
         requires { K.sound keeper → K.keeps keeper nothing_kept }
-        ensures { IfOk result (λ server_made. server_made ≡ record { set = set.now; server = server; history = []; held = []; is_stopped = false; opened = K.counted keeper; acknowledged = []; keeper = keeper }) }
+        ensures { IfOk result (λ server_made. server_made
+            ≡ record {
+              set = set.now;
+              server = server;
+              history = [];
+              held = [];
+              is_stopped = false;
+              opened = K.counted keeper;
+              acknowledged = [];
+              keeper = keeper;
+            }) }
     {
         let set = set.copy(alloc)?;
         let held = HeldBuffer::new(alloc)?;
@@ -194,7 +204,16 @@ impl<K: Keeper> Server<K> {
         K: Drop,
         requires runs { self.is_stopped ≡ false }
         requires kept { L.sound keeper → L.keeps keeper (kept_of self.set self.history) }
-        ensures { result ≡ record { set = self.set; server = self.server; history = self.history; held = self.held; is_stopped = false; opened = L.counted keeper; acknowledged = self.acknowledged; keeper = keeper } }
+        ensures { result ≡ record {
+          set = self.set;
+          server = self.server;
+          history = self.history;
+          held = self.held;
+          is_stopped = false;
+          opened = L.counted keeper;
+          acknowledged = self.acknowledged;
+          keeper = keeper;
+        } }
     {
         let opened = keeper.faults();
         Server {

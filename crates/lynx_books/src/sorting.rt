@@ -69,7 +69,8 @@ fn sort_early(held: &[Message], message: &Message) -> Sorted
 impl Register {
     /// What is to become of a well formed message whose hop hasn't run.
     fn sort_by_turn(&self, held: &[Message], message: &Message) -> Sorted
-        requires formed { is_well_formed self.now.set self.now.server self.now.history message.now ≡ true }
+        requires formed { is_well_formed self.now.set self.now.server self.now.history
+            message.now ≡ true }
         requires new { hop_entry_of message.now.chain message.now.hop self.now.history ≡ None }
         ensures { IsSortedByTurn self.now held.now message.now result }
     {

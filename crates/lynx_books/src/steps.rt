@@ -127,7 +127,8 @@ impl Taken {
     fn refuse(self, books: &mut Books, need: u8) -> RefusedStep
         requires { books.old.out ≡ Some self.draw }
         ensures books { books.new ≡ record books.old { out = None } }
-        ensures step { result ≡ record { request = self.request; seen = self.seen; stamp = self.stamp; need = need } }
+        ensures step { result ≡ record
+            { request = self.request; seen = self.seen; stamp = self.stamp; need = need } }
     {
         let Taken {
             request,
@@ -204,7 +205,8 @@ impl RanStep {
         ensures err { OnErr result (books.new ≡ books_with books.old None) }
         ensures commits { Commits K.sound K.keeps K.counted keeper.old keeper.new
             (kept_of books.old.set books.old.history)
-            (kept_of books.old.set (grown books.old.history (due books.old self.taken.request self.taken.seen).added)) result }
+            (kept_of books.old.set (grown books.old.history
+            (due books.old self.taken.request self.taken.seen).added)) result }
     {
         let RanStep { taken, ran } = self;
         let Taken {
@@ -247,7 +249,8 @@ impl RefusedStep {
         ensures err { OnErr result (books.new ≡ books_with books.old None) }
         ensures commits { Commits K.sound K.keeps K.counted keeper.old keeper.new
             (kept_of books.old.set books.old.history)
-            (kept_of books.old.set (grown books.old.history (due books.old self.request self.seen).added)) result }
+            (kept_of books.old.set (grown books.old.history
+            (due books.old self.request self.seen).added)) result }
     {
         let RefusedStep {
             request,

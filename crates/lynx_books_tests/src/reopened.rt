@@ -3,8 +3,8 @@ ghost use Rattle.std.specs.Prelude.{IfOk};
 ghost use Rattle.lynx_forms.specs.Entries.{IsEntryInRange};
 
 use crate::fixtures::{
-    Boxed, PAY, SEED, begin, deliver, entries, holds, is_begun, paid, paid_twice, request, restarted,
-    server,
+    Boxed, PAY, SEED, begin, deliver, entries, holds, is_begun, paid, paid_twice, request,
+    restarted, server,
 };
 use lynx_books::{OpenFault, Server, first_unlawful};
 use lynx_cells::Changes;

@@ -12,13 +12,15 @@ pub fn read_back()
 /// A write leaves each other cell as it was.
 pub fn read_elsewhere()
     ensures { (db : Database) (written other : ℕ × ℕ) (value : ℕ) → other ≢ written
-        → value_at (with_value db written.0 written.1 value) other.0 other.1 ≡ value_at db other.0 other.1 }
+        → value_at (with_value db written.0 written.1 value) other.0 other.1
+        ≡ value_at db other.0 other.1 }
 {}
 
 /// Writes of two different cells change places.
 pub fn writes_change_places()
     ensures { (db : Database) (a b : ℕ × ℕ) (x y : ℕ) → a ≢ b
-        → with_value (with_value db a.0 a.1 x) b.0 b.1 y ≡ with_value (with_value db b.0 b.1 y) a.0 a.1 x }
+        → with_value (with_value db a.0 a.1 x) b.0 b.1 y
+        ≡ with_value (with_value db b.0 b.1 y) a.0 a.1 x }
 {}
 
 /// A later write of the same cell wins.

@@ -24,6 +24,7 @@ pub fn hops_that_conflict_may_conflict()
         (left_args right_args : List ℕ)
         → KeysLieAtServer set left_program left_hop left_args
         → KeysLieAtServer set right_program right_hop right_args
-        → Conflicts (touches_of set left_program left_hop left_args) (touches_of set right_program right_hop right_args)
+        → Conflicts (touches_of set left_program left_hop left_args)
+        (touches_of set right_program right_hop right_args)
         → MayConflict set left_program left_hop right_program right_hop }
 {}

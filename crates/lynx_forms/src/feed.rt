@@ -86,7 +86,8 @@ impl Feed {
 
         // What is whole is given, unless memory runs out.
         ensures whole { (item : Item) (more : List ℕ) → IsItem item →
-            self.old.rest ≡ form item ++ more → (result ≡ Ok (Some item)) ⊎ (result ≡ Err WantOfMemory) }
+            self.old.rest ≡ form item ++ more
+            → (result ≡ Ok (Some item)) ⊎ (result ≡ Err WantOfMemory) }
     {
         match self.failed {
             Some(fault) => Err(fault),

@@ -64,8 +64,10 @@ pub trait Keeper {
         ensures { result ≡ counted self.now };
 
     // Between two calls a stop leaves what is kept.
-    ghost settled: { (keeper : Self) (kept : Kept) → sound keeper → keeps keeper kept → leaves keeper kept kept };
+    ghost settled: { (keeper : Self) (kept : Kept) → sound keeper → keeps keeper kept
+        → leaves keeper kept kept };
 
     // What is left is one of more.
-    ghost weaker: { (keeper : Self) (kept other : Kept) → leaves keeper kept kept → leaves keeper kept other };
+    ghost weaker: { (keeper : Self) (kept other : Kept) → leaves keeper kept kept
+        → leaves keeper kept other };
 }

@@ -33,7 +33,8 @@ impl Draw {
         ensures numbers { result ≡ self }
         ensures out { sequencer.new.out ≡ None }
         ensures each { (server : ℕ) → slice_index sequencer.new.counters server
-            ≡ (if has_number self server then slice_index sequencer.old.counters server + 1 else slice_index sequencer.old.counters server) }
+            ≡ (if has_number self server then slice_index sequencer.old.counters server + 1
+            else slice_index sequencer.old.counters server) }
     {
         let Draw { numbers } = self;
         raise_counters(&mut sequencer.counters, numbers.as_slice());

@@ -75,7 +75,8 @@ impl Sequencer {
         requires next { All (IsNumber self.old.counters) numbers.now }
         ensures out { self.new.out ≡ None }
         ensures each { (server : ℕ) → slice_index self.new.counters server
-            ≡ (if has_number numbers.now server then slice_index self.old.counters server + 1 else slice_index self.old.counters server) }
+            ≡ (if has_number numbers.now server then slice_index self.old.counters server + 1
+            else slice_index self.old.counters server) }
     {
         raise_counters(&mut self.counters, numbers);
     }

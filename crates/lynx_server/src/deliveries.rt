@@ -128,7 +128,8 @@ fn run_later_hop(
 ) -> Result<Delivery, Memory>
     requires { stamp ≡ max (clock_of history.now) message.now.stamp + 1 }
     ensures { IfOk result (λ delivery. Gives delivery (done_by set.now history.now [] message.now
-        (meaning set.now message.now.program message.now.hop message.now.args message.now.results (tables_of set.now history.now)))) }
+        (meaning set.now message.now.program message.now.hop message.now.args message.now.results
+        (tables_of set.now history.now)))) }
 {
     let cells = tables_of(alloc, set, history)?;
     let hop = usize::from(message.hop);

@@ -26,7 +26,8 @@ impl Model for TableShards {
 
     ghost view = { λ table. table.shards };
 
-    ghost invariant = { λ table. (table.last ≡ last_key None table.shards) × Cuts 0 table.shards (next_key table.last) };
+    ghost invariant = { λ table. (table.last ≡ last_key None table.shards)
+        × Cuts 0 table.shards (next_key table.last) };
 }
 
 impl TableShards {

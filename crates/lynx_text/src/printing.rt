@@ -268,7 +268,9 @@ fn put_change(
     cell: (TableId, Key),
     value: Operand,
 ) -> Result<(), Memory>
-    ensures { OnOk result (out.new.items ≡ out.old.items ++ joined (verb.now ∷ name_at tables.now cell.0 ∷ key_word names.now cell.1 ∷ operand_word names.now value ∷ [])) }
+    ensures { OnOk result (out.new.items ≡ out.old.items ++ joined
+        (verb.now ∷ name_at tables.now cell.0 ∷ key_word names.now cell.1
+        ∷ operand_word names.now value ∷ [])) }
 {
     let (table, key) = cell;
     out.extend_from_slice(verb)?;

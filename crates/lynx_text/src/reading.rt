@@ -306,7 +306,8 @@ fn read_hops(
     program: &mut Program,
 ) -> Result<(), FaultKind>
     ensures value { Gives (λ _. (plain_program program.new, lines.new)) result
-        (parts goes_hop (next_hop (plain_set set.now)) (MAX_HOPS - length (plain_program program.old).hops) (plain_program program.old) lines.old) }
+        (parts goes_hop (next_hop (plain_set set.now))
+        (MAX_HOPS - length (plain_program program.old).hops) (plain_program program.old) lines.old) }
     ensures shrinks { OnOk result (length lines.new ≤ length lines.old) }
 {
     'hops: while lines.begins_with(b"hop".as_slice()) {
@@ -349,7 +350,8 @@ fn read_actions(
 ) -> Result<(), FaultKind>
     requires { length actions.old ≤ MAX_ACTIONS }
     ensures value { Gives (λ _. ((plain_program program.new, actions.new), lines.new)) result
-        (parts goes_action (next_action (plain_set set.now) server) (MAX_ACTIONS - length actions.old) (plain_program program.old, actions.old) lines.old) }
+        (parts goes_action (next_action (plain_set set.now) server)
+        (MAX_ACTIONS - length actions.old) (plain_program program.old, actions.old) lines.old) }
     ensures shrinks { OnOk result (length lines.new ≤ length lines.old) }
     ensures few { OnOk result (length actions.new ≤ MAX_ACTIONS) }
     ensures hops { program.new.hops ≡ program.old.hops }

@@ -45,5 +45,6 @@ pub fn sent_is_never_malformed()
     ensures { (set : Set) (list : List Placed) (room : ℕ) (held : List Message)
         (message : Message) →
         IsSet set → IsLegal set list → IsSent set list message → All (IsSent set list) held →
-        (delivery set (destination_of set message) room (history_of (destination_of set message) list) held message).delivered ≢ Malformed }
+        (delivery set (destination_of set message) room
+        (history_of (destination_of set message) list) held message).delivered ≢ Malformed }
 {}

@@ -59,7 +59,8 @@ pub(crate) fn deliver_at(
     message: Message,
 ) -> Result<Delivered, Memory>
     requires { here.old.is_stopped ≡ false }
-    ensures delivered { IfOk result (λ delivered. HasDelivered here.old message delivered here.new) }
+    ensures delivered { IfOk result
+        (λ delivered. HasDelivered here.old message delivered here.new) }
     ensures order { OnOk result (order.new.items ≡ order.old.items
         ++ noted server (length here.old.history) (length here.new.history)) }
     ensures same { OnErr result (GoesOn here.old None here.old.held here.new) }

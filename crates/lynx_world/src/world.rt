@@ -68,9 +68,9 @@ impl World {
     pub fn over(set: ChainSet, servers: Vec<Server<MemoryKeeper>>, order: Vec<Added>) -> World
         requires { AreServers set servers.items order.items }
         ensures { result ≡ record {
-            set = set;
-            list = list_of servers.items order.items;
-            held = held_of servers.items;
+          set = set;
+          list = list_of servers.items order.items;
+          held = held_of servers.items;
         } }
     {
         World {

@@ -71,24 +71,23 @@ world_on start world after events event same now =
     now ∙ ap (λ w. (step MAX_HELD w event).world) same ∙ sym (world_after-push start events event)
 
 -- the lines of the cells, and then the one that explains the list
-pub end_prints : (first second third : Option (List ℕ)) (world : WorldState) (r : Result Ending RunFault) →
-    (cells : List (ℕ × ℕ × ℕ)) × IsPermutation (cells_of world) cells × IsSorted triple_cmp cells × Appends first second (cell_lines world.set.tables cells) →
-    IfOk r (λ ending. (explained : Explained) × Explains world.set world.list explained × (ending ≡ ending_of explained) × Appends second third (explained_line explained)) →
-    IfOk r (λ ending. (printed : List ℕ) × EndPrints world.set world ending printed × Appends first third printed)
-end_prints first second third world (Ok ending) cells explained = (
-  cell_lines world.set.tables cells.0 ++ explained_line explained.0,
+pub end_prints : (first second third : Option (List ℕ)) (world : WorldState) (cells : List (ℕ × ℕ × ℕ)) (explained : Explained) →
+    IsPermutation (cells_of world) cells → IsSorted triple_cmp cells → Appends first second (cell_lines world.set.tables cells) →
+    Explains world.set world.list explained → Appends second third (explained_line explained) →
+    (printed : List ℕ) × EndPrints world.set world (ending_of explained) printed × Appends first third printed
+end_prints first second third world cells explained all_cells in_order before explains now = (
+  cell_lines world.set.tables cells ++ explained_line explained,
   record {
-    cells = cells.0;
-    all_cells = cells.1;
-    in_order = cells.2;
-    explained = explained.0;
-    explains = explained.1;
-    ending_is = explained.2;
+    cells = cells;
+    all_cells = all_cells;
+    in_order = in_order;
+    explained = explained;
+    explains = explains;
+    ending_is = refl;
     lines = refl;
   },
-  appends_both first second third _ _ cells.3 explained.3,
+  appends_both first second third _ _ before now,
 )
-end_prints first second third world (Err fault) cells explained = tt
 
 -- events leave the set as it was
 pub world_after-set : (world : WorldState) (events : List Event) → (world_after world events).set ≡ world.set

@@ -1,5 +1,5 @@
 -- What the verdict on a set prints.
-use Rattle.std.specs.Prelude.{◌≡◌, ◌≢◌, ℕ, List, [], ◌∷◌, ◌++◌, codes, slice_get, unwrap_or, option_map, take, drop}
+use Rattle.std.specs.Prelude.{◌≡◌, ◌≢◌, ◌⊎◌, ℕ, Option, List, ◌∷◌, ◌++◌, codes, take, drop}
 use Rattle.std.specs.List.{flat_map, zip}
 use Rattle.std.specs.Fmt.{decimal}
 use Rattle.lynx_graph.specs.declared.visit.Visit.{Visit}
@@ -13,7 +13,9 @@ use Rattle.lynx_run.specs.declared.verdict.Finding.{Finding}
 use Rattle.lynx_run.specs.declared.verdict.Finding.TheVariants.{Accepted, Offending}
 use Rattle.lynx_words.specs.declared.fault.FaultKind.TheVariants.{Memory as NoMemory}
 use Rattle.lynx_words.specs.Lines.{with_feed}
+use Rattle.std.specs.Io.KnownBytes.{Keeps}
 use Rattle.lynx_run.specs.Runs.{IsNoSet}
+use Rattle.lynx_run.specs.Written.{AppendsPart}
 use Rattle.lynx_set.specs.Lookups.{program_name}
 
 -- the line of the conflict edge from one visit to the next: the hop left, and the hop entered
@@ -48,3 +50,13 @@ NoVerdictFor set unwritten (SetFault fault) = IsNoSet set × unwritten × (fault
 NoVerdictFor set unwritten (ScriptFault fault) = ⊥
 NoVerdictFor set unwritten Write = Unit {0}
 NoVerdictFor set unwritten Memory = Unit {0}
+
+-- nothing is written, or a beginning of a verdict on the set
+abbrev pub BeginsVerdict : Set → Option (List ℕ) → Option (List ℕ) → Type 0
+BeginsVerdict chains old new =
+    Keeps old new ⊎ ((finding : Finding) × (printed : List ℕ) × IsVerdict chains finding printed × AppendsPart old new printed)
+
+-- Where a fault stops a check, nothing is written, or a beginning of what it prints.
+abbrev pub BeginsFinding : List ℕ → Option (List ℕ) → Option (List ℕ) → Type 0
+BeginsFinding set old new =
+    Keeps old new ⊎ ((finding : Finding) × (printed : List ℕ) × Finds set finding printed × AppendsPart old new printed)

@@ -1,5 +1,5 @@
 -- What the picture of a set is, as it is written.
-use Rattle.std.specs.Prelude.{◌≡◌, ◌≢◌, ℕ, List}
+use Rattle.std.specs.Prelude.{◌≡◌, ◌≢◌, ◌⊎◌, ℕ, Option, List}
 use Rattle.lynx_graph.specs.declared.verdict.Verdict.{Verdict}
 use Rattle.lynx_graph.specs.declared.verdict.Verdict.TheVariants.{Accepted as AcceptedVerdict, Offending as OffendingVerdict}
 use Rattle.lynx_graph.specs.Verdicts.{Judges}
@@ -12,7 +12,9 @@ use Rattle.lynx_run.specs.declared.run.RunFault.TheVariants.{Set as SetFault, Sc
 use Rattle.lynx_run.specs.declared.verdict.Finding.{Finding}
 use Rattle.lynx_run.specs.declared.verdict.Finding.TheVariants.{Accepted, Offending}
 use Rattle.lynx_words.specs.declared.fault.FaultKind.TheVariants.{Memory as NoMemory}
+use Rattle.std.specs.Io.KnownBytes.{Keeps}
 use Rattle.lynx_run.specs.Runs.{IsNoSet}
+use Rattle.lynx_run.specs.Written.{AppendsPart}
 
 -- what a verdict finds
 abbrev pub finding_of : Verdict → Finding
@@ -38,3 +40,8 @@ NoPictureFor set unwritten (SetFault fault) = IsNoSet set × unwritten × (fault
 NoPictureFor set unwritten (ScriptFault fault) = ⊥
 NoPictureFor set unwritten Write = Unit {0}
 NoPictureFor set unwritten Memory = unwritten
+
+-- Where a fault stops a drawing, nothing is written, or a beginning of the picture.
+abbrev pub BeginsPicture : List ℕ → Option (List ℕ) → Option (List ℕ) → Type 0
+BeginsPicture set old new =
+    Keeps old new ⊎ ((finding : Finding) × (picture : List ℕ) × Draws set finding picture × AppendsPart old new picture)

@@ -1,3 +1,4 @@
 pub mod Checks
 pub mod Drawings
 pub mod Runs
+pub mod Written

@@ -1,10 +1,11 @@
 //! The picture of a set, as it is written: docs/FORMATS.md has its lines.
-ghost use Rattle.std.specs.Prelude.{◌≡◌, ℕ, List, OnOk, IfOk, IfErr};
+ghost use Rattle.std.specs.Prelude.{◌≡◌, ℕ, List, OnErr, IfOk, IfErr};
 ghost use Rattle.std.specs.Io.KnownBytes.{Appends, Keeps};
-ghost use Rattle.lynx_run.specs.Drawings.{finding_of, Draws, IsDrawing, NoPictureFor};
+ghost use Rattle.lynx_run.specs.Drawings.{BeginsPicture, finding_of, Draws, IsDrawing, NoPictureFor};
 
 use crate::run::{RunFault, read_set};
 use crate::verdict::Finding;
+use crate::writing::write_bytes;
 use lynx_draw::draw;
 use lynx_graph::{Verdict, check};
 use lynx_names::Memory;
@@ -17,12 +18,14 @@ use std::io::Write;
 pub fn draw_text<W: Write>(alloc: Global, set: &[u8], writer: &mut W) -> Result<Finding, RunFault>
     ensures ok { IfOk result (λ finding. (picture : List ℕ) × Draws set.now finding picture
         × Appends (W.contents writer.old) (W.contents writer.new) picture) }
+    ensures part { OnErr result (BeginsPicture set.now (W.contents writer.old)
+        (W.contents writer.new)) }
     ensures err { IfErr result (λ fault. NoPictureFor set.now (Keeps (W.contents writer.old)
         (W.contents writer.new)) fault) }
 {
     let set = read_set(alloc, set)?;
     let (finding, picture) = drawing_of(alloc, &set)?;
-    write_picture(writer, picture.as_slice())?;
+    write_bytes(writer, picture.as_slice())?;
     Ok(finding)
 }
 
@@ -33,15 +36,6 @@ fn drawing_of(alloc: Global, set: &ChainSet) -> Result<(Finding, Vec<u8>), Memor
     let verdict = check(alloc, set)?;
     let picture = draw(alloc, set, &verdict)?;
     Ok((finding_of(&verdict), picture))
-}
-
-/// Writes all of a picture.
-fn write_picture<W: Write>(writer: &mut W, picture: &[u8]) -> Result<(), RunFault>
-    ensures written { OnOk result (Appends (W.contents writer.old) (W.contents writer.new)
-        picture.now) }
-    ensures failed { IfErr result (λ fault. fault ≡ RunFault.Write) }
-{
-    writer.write_all(picture).map_err(|_| RunFault::Write)
 }
 
 fn finding_of(verdict: &Verdict) -> Finding

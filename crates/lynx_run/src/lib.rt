@@ -8,3 +8,4 @@ pub use verdict::{Finding, check_text};
 pub mod drawing;
 pub mod run;
 pub mod verdict;
+mod writing;

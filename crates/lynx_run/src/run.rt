@@ -1,5 +1,5 @@
 //! A run: a set text and a script in, lines out.
-ghost use Rattle.std.specs.Prelude.{◌≡◌, ◌≢◌, ◌⊎◌, ℕ, List, [], ◌++◌, OnOk, IfOk, IfErr, slice_get, unwrap_or};
+ghost use Rattle.std.specs.Prelude.{◌≡◌, ◌≢◌, ◌⊎◌, ℕ, List, [], ◌++◌, OnOk, OnErr, IfOk, IfErr, slice_get, unwrap_or};
 ghost use Rattle.std.specs.List.Sorted.{IsPermutation, IsSorted};
 ghost use Rattle.lynx_world.specs.Tables.{cells_of, triple_cmp};
 ghost use Rattle.lynx_world.specs.Steps.{step};
@@ -11,9 +11,11 @@ ghost use Rattle.lynx_names.specs.declared.limits.TheConstants.{MAX_HELD};
 ghost use Rattle.lynx_world.specs.Worlds.{new_world};
 ghost use Rattle.std.specs.String.{string_bytes};
 ghost use Rattle.lynx_run.specs.Runs.{world_after, outcome_lines, cell_lines, ending_of, explained_line, EndPrints, Explains, IsNoSet, IsNoScript, IsLate, Prints, RunPrints, StopsFor};
+ghost use Rattle.lynx_run.specs.Written.{AppendsPart, BeginsRun, WritesEnd, WritesPart};
 ghost use Rattle.lynx_script.specs.Scripts.{IsScript, script_of};
 ghost use Rattle.std.specs.Io.KnownBytes.{Appends, Keeps};
 
+use crate::writing::write_bytes;
 use lynx_names::{Memory, TableId};
 use lynx_order::{Explained, explain};
 use lynx_print::{cell_line, chains_line, outcome_line};
@@ -104,28 +106,29 @@ fn read_script(alloc: Global, set: &ChainSet, text: &[u8]) -> Result<Vec<Event>,
     }
 }
 
-pub(crate) fn write_line<W: Write>(writer: &mut W, line: &[u8]) -> Result<(), RunFault>
-    ensures line { OnOk result (Appends (W.contents writer.old) (W.contents writer.new) line.now) }
-    ensures late { IfErr result IsLate }
+/// What an event came to, unless memory was wanting.
+fn unless_memory(outcome: Outcome) -> Result<Outcome, Memory>
+    ensures { IfOk result (λ came. (came ≡ outcome) × (outcome ≢ Outcome.Memory)) }
 {
-    writer.write_all(line).map_err(|_| RunFault::Write)
+    match outcome {
+        Outcome::Memory => Err(Memory),
+        came => Ok(came),
+    }
 }
 
-/// Writes the line of what an event came to, unless memory was wanting.
+/// Writes the line of what an event came to.
 fn write_outcome<W: Write>(alloc: Global, outcome: &Outcome, writer: &mut W) -> Result<(), RunFault>
     ensures line { OnOk result (Appends (W.contents writer.old) (W.contents writer.new)
         (with_feed (outcome_text outcome.now))) }
-    ensures came { OnOk result (outcome.now ≢ Outcome.Memory) }
+    ensures part { OnErr result (AppendsPart (W.contents writer.old) (W.contents writer.new)
+        (with_feed (outcome_text outcome.now))) }
     ensures late { IfErr result IsLate }
 {
-    if let Outcome::Memory = outcome {
-        return Err(RunFault::Memory);
-    }
     let line = outcome_line(alloc, outcome)?;
-    write_line(writer, line.as_bytes())
+    write_bytes(writer, line.as_bytes())
 }
 
-/// Runs one event, and writes its line.
+/// Runs one event, and writes its line, unless memory was wanting.
 fn run_event<W: Write>(
     alloc: Global,
     world: &mut World,
@@ -135,9 +138,11 @@ fn run_event<W: Write>(
     ensures worlds { OnOk result (world.new ≡ (step MAX_HELD world.old event).world) }
     ensures lines { OnOk result (Appends (W.contents writer.old) (W.contents writer.new)
         (with_feed (outcome_text (step MAX_HELD world.old event).outcome))) }
+    ensures part { OnErr result (AppendsPart (W.contents writer.old) (W.contents writer.new)
+        (with_feed (outcome_text (step MAX_HELD world.old event).outcome))) }
     ensures late { IfErr result IsLate }
 {
-    let outcome = world.apply(alloc, event);
+    let outcome = unless_memory(world.apply(alloc, event))?;
     write_outcome(alloc, &outcome, writer)
 }
 
@@ -151,23 +156,14 @@ pub fn run_events<W: Write>(
     ensures worlds { OnOk result (world.new ≡ world_after world.old events.items) }
     ensures lines { OnOk result (Appends (W.contents writer.old) (W.contents writer.new)
         (outcome_lines world.old events.items)) }
+    ensures part { OnErr result (AppendsPart (W.contents writer.old) (W.contents writer.new)
+        (outcome_lines world.old events.items)) }
     ensures late { IfErr result IsLate }
 {
     for event in events {
         run_event(alloc, world, event, writer)?;
     }
     Ok(())
-}
-
-/// Writes a line for each nonzero cell, tables in order of declaration, keys rising.
-pub fn write_cells<W: Write>(alloc: Global, world: &World, writer: &mut W) -> Result<(), RunFault>
-    ensures cells { OnOk result ((cells : List (ℕ × ℕ × ℕ)) × IsPermutation
-        (cells_of world.now) cells × IsSorted triple_cmp cells
-        × Appends (W.contents writer.old) (W.contents writer.new) (cell_lines world.now.set.tables cells)) }
-    ensures late { IfErr result IsLate }
-{
-    let cells = world.cells(alloc)?;
-    write_each_cell(alloc, world.set(), cells.as_slice(), writer)
 }
 
 /// Writes a line for each of the cells.
@@ -179,11 +175,13 @@ fn write_each_cell<W: Write>(
 ) -> Result<(), RunFault>
     ensures lines { OnOk result (Appends (W.contents writer.old) (W.contents writer.new)
         (cell_lines set.now.tables cells.now)) }
+    ensures part { OnErr result (AppendsPart (W.contents writer.old) (W.contents writer.new)
+        (cell_lines set.now.tables cells.now)) }
     ensures late { IfErr result IsLate }
 {
     for (table, key, value) in cells {
         let line = cell_line(alloc, set.table_name(*table), *key, *value)?;
-        write_line(writer, line.as_slice())?;
+        write_bytes(writer, line.as_slice())?;
     }
     Ok(())
 }
@@ -211,29 +209,34 @@ fn explained_line(alloc: Global, explained: &Explained) -> Result<String, AllocE
 /// Writes the line of an order that explains what the servers did, or of a cycle.
 fn write_explained<W: Write>(
     alloc: Global,
-    world: &World,
+    explained: &Explained,
     writer: &mut W,
-) -> Result<Ending, RunFault>
-    ensures ok { IfOk result (λ ending. (explained : Explained)
-        × Explains world.now.set world.now.list explained × (ending ≡ ending_of explained)
-        × Appends (W.contents writer.old) (W.contents writer.new) (explained_line explained)) }
+) -> Result<(), RunFault>
+    ensures line { OnOk result (Appends (W.contents writer.old) (W.contents writer.new)
+        (explained_line explained.now)) }
+    ensures part { OnErr result (AppendsPart (W.contents writer.old) (W.contents writer.new)
+        (explained_line explained.now)) }
     ensures late { IfErr result IsLate }
 {
-    let explained = explain(alloc, world)?;
-    let line = explained_line(alloc, &explained)?;
-    write_line(writer, line.as_bytes())?;
-    Ok(ending_of(&explained))
+    let line = explained_line(alloc, explained)?;
+    write_bytes(writer, line.as_bytes())
 }
 
-/// Writes the lines of the nonzero cells, and the one that explains what the servers did.
+/// Writes the lines of the nonzero cells, tables in order of declaration and keys rising, and the one that explains
+/// what the servers did.
 fn write_end<W: Write>(alloc: Global, world: &World, writer: &mut W) -> Result<Ending, RunFault>
     ensures ok { IfOk result (λ ending. (printed : List ℕ)
         × EndPrints world.now.set world.now ending printed
         × Appends (W.contents writer.old) (W.contents writer.new) printed) }
+    ensures part { OnErr result (WritesEnd world.now.set world.now
+        (W.contents writer.old) (W.contents writer.new)) }
     ensures late { IfErr result IsLate }
 {
-    write_cells(alloc, world, writer)?;
-    write_explained(alloc, world, writer)
+    let cells = world.cells(alloc)?;
+    write_each_cell(alloc, world.set(), cells.as_slice(), writer)?;
+    let explained = explain(alloc, world)?;
+    write_explained(alloc, &explained, writer)?;
+    Ok(ending_of(&explained))
 }
 
 /// Runs the events in a new world, and writes the line of each, then those of the cells and the one that explains
@@ -247,6 +250,9 @@ fn run_script<W: Write>(
     ensures ok { IfOk result (λ ending. (printed : List ℕ)
         × RunPrints set events.items ending printed
         × Appends (W.contents writer.old) (W.contents writer.new) printed) }
+    ensures part { OnErr result (Keeps (W.contents writer.old) (W.contents writer.new)
+        ⊎ ((part : List ℕ) × BeginsRun set events.items part
+        × Appends (W.contents writer.old) (W.contents writer.new) part)) }
     ensures late { IfErr result IsLate }
 {
     let keepers = empty_keepers(alloc, &set)?;
@@ -269,6 +275,8 @@ pub fn run_texts<W: Write>(
         × Appends (W.contents writer.old) (W.contents writer.new) printed) }
     ensures err { IfErr result (λ fault.
         StopsFor set.now script.now (Keeps (W.contents writer.old) (W.contents writer.new)) fault) }
+    ensures part { OnErr result (WritesPart set.now script.now
+        (W.contents writer.old) (W.contents writer.new)) }
 {
     let set = read_set(alloc, set)?;
     let events = read_script(alloc, &set, script)?;

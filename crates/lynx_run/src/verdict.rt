@@ -1,5 +1,5 @@
 //! The verdict on a set, as it is printed: docs/FORMATS.md has the lines.
-ghost use Rattle.std.specs.Prelude.{◌≡◌, ◌⊎◌, ℕ, List, [], ◌++◌, OnOk, IfOk, IfErr, codes, take};
+ghost use Rattle.std.specs.Prelude.{◌≡◌, ◌⊎◌, ℕ, List, [], ◌++◌, OnErr, OnOk, IfOk, IfErr, codes, take};
 ghost use Rattle.std.specs.List.{flat_map};
 ghost use Rattle.std.specs.Io.KnownBytes.{Appends, Keeps};
 ghost use Rattle.lynx_graph.specs.Verdicts.{Judges};
@@ -7,9 +7,11 @@ ghost use Rattle.lynx_graph.specs.Walks.{IsAccepted, IsOffending};
 ghost use Rattle.lynx_set.specs.Rules.{IsSet};
 ghost use Rattle.lynx_words.specs.Lines.{with_feed};
 ghost use Rattle.lynx_run.specs.Runs.{IsLate};
-ghost use Rattle.lynx_run.specs.Checks.{edge_line, edge_lines, edges, IsVerdict, Finds, NoVerdictFor};
+ghost use Rattle.lynx_run.specs.Checks.{BeginsFinding, BeginsVerdict, edge_line, edge_lines, edges, IsVerdict, Finds, NoVerdictFor};
+ghost use Rattle.lynx_run.specs.Written.{AppendsPart};
 
-use crate::run::{RunFault, read_set, write_line};
+use crate::run::{RunFault, read_set};
+use crate::writing::write_bytes;
 use lynx_graph::{Verdict, Visit, check};
 use lynx_print::conflict_line;
 use lynx_set::ChainSet;
@@ -28,6 +30,8 @@ pub enum Finding {
 pub fn check_text<W: Write>(alloc: Global, set: &[u8], writer: &mut W) -> Result<Finding, RunFault>
     ensures ok { IfOk result (λ finding. (printed : List ℕ) × Finds set.now finding printed
         × Appends (W.contents writer.old) (W.contents writer.new) printed) }
+    ensures part { OnErr result (BeginsFinding set.now (W.contents writer.old)
+        (W.contents writer.new)) }
     ensures err { IfErr result (λ fault. NoVerdictFor set.now (Keeps (W.contents writer.old)
         (W.contents writer.new)) fault) }
 {
@@ -39,6 +43,8 @@ pub fn check_text<W: Write>(alloc: Global, set: &[u8], writer: &mut W) -> Result
 fn check_set<W: Write>(alloc: Global, set: &ChainSet, writer: &mut W) -> Result<Finding, RunFault>
     ensures ok { IfOk result (λ finding. (printed : List ℕ) × IsVerdict set.now finding printed
         × Appends (W.contents writer.old) (W.contents writer.new) printed) }
+    ensures part { OnErr result (BeginsVerdict set.now (W.contents writer.old)
+        (W.contents writer.new)) }
     ensures late { IfErr result IsLate }
 {
     let verdict = check(alloc, set)?;
@@ -55,11 +61,13 @@ fn write_verdict<W: Write>(
     requires { Judges set.now verdict.now }
     ensures ok { IfOk result (λ finding. (printed : List ℕ) × IsVerdict set.now finding printed
         × Appends (W.contents writer.old) (W.contents writer.new) printed) }
+    ensures part { OnErr result (BeginsVerdict set.now (W.contents writer.old)
+        (W.contents writer.new)) }
     ensures late { IfErr result IsLate }
 {
     match verdict {
         Verdict::Accepted(_) => {
-            write_line(writer, b"accepted\n")?;
+            write_bytes(writer, b"accepted\n")?;
             Ok(Finding::Accepted)
         }
         Verdict::Offending(walk) => {
@@ -78,9 +86,11 @@ fn write_offending<W: Write>(
 ) -> Result<(), RunFault>
     ensures lines { OnOk result (Appends (W.contents writer.old) (W.contents writer.new)
         (with_feed (codes "offending") ++ edge_lines set.now walk.now)) }
+    ensures part { OnErr result (AppendsPart (W.contents writer.old) (W.contents writer.new)
+        (with_feed (codes "offending") ++ edge_lines set.now walk.now)) }
     ensures late { IfErr result IsLate }
 {
-    write_line(writer, b"offending\n")?;
+    write_bytes(writer, b"offending\n")?;
     write_walk(alloc, set, walk, writer)
 }
 
@@ -104,6 +114,8 @@ fn write_walk<W: Write>(
 ) -> Result<(), RunFault>
     ensures lines { OnOk result (Appends (W.contents writer.old) (W.contents writer.new)
         (edge_lines set.now walk.now)) }
+    ensures part { OnErr result (AppendsPart (W.contents writer.old) (W.contents writer.new)
+        (edge_lines set.now walk.now)) }
     ensures late { IfErr result IsLate }
 {
     let edges = edges_of(alloc, walk)?;
@@ -119,11 +131,13 @@ fn write_edges<W: Write>(
 ) -> Result<(), RunFault>
     ensures lines { OnOk result (Appends (W.contents writer.old) (W.contents writer.new)
         (flat_map (edge_line set.now) edges.now)) }
+    ensures part { OnErr result (AppendsPart (W.contents writer.old) (W.contents writer.new)
+        (flat_map (edge_line set.now) edges.now)) }
     ensures late { IfErr result IsLate }
 {
     for (visit, next) in edges {
         let line = edge_line(alloc, set, *visit, *next)?;
-        write_line(writer, line.as_slice())?;
+        write_bytes(writer, line.as_slice())?;
     }
     Ok(())
 }

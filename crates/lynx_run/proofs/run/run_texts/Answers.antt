@@ -1,4 +1,5 @@
 use Rattle.lynx_run.proofs.RunLemmas.{texts_print, late_stops}
+use Rattle.lynx_run.proofs.Stops.{texts_cut}
 use Rattle.lynx_run.proofs.run.run_texts.Goals as goal
 
 pub returns-clause-ok : goal.returns-clause-ok
@@ -7,3 +8,7 @@ returns-clause-ok g c =
 
 pub returns-clause-err : goal.returns-clause-err
 returns-clause-err g c = late_stops c.args.set.now c.args.script.now _ c.run_script.result c.run_script.ensures.late
+
+pub returns-clause-part : goal.returns-clause-part
+returns-clause-part g c =
+    texts_cut _ _ c.args.set.now c.args.script.now c.in_ok-set.set c.in_ok-events.events.items c.run_script.result c.in_ok-set.ensures.found c.in_ok-events.ensures.found c.run_script.ensures.part

@@ -1,5 +1,5 @@
 //! `lynx_bench WORK COUNT`: does some work so many times, to be timed from outside. `encode` and `feed PIECE` write and
-//! read so many bytes of forms.
+//! read so many bytes of forms, `weave SERVERS` weaves so many entries.
 #![tactic(auto)]
 
 use std::env;
@@ -8,6 +8,7 @@ use std::rt::Env;
 
 mod forms;
 mod measure;
+mod ring;
 
 use measure::{Work, measure};
 
@@ -22,11 +23,14 @@ fn work_of(word: &str) -> Option<Work> {
     }
 }
 
-/// Feeding in pieces of that size.
-fn feed_of(work: &str, piece: &str) -> Option<Work> {
+/// Feeding in pieces of that size, or weaving over so many servers.
+fn sized_work_of(work: &str, size: &str) -> Option<Work> {
     match work {
         "feed" => Some(Work::Feed {
-            piece: piece.parse().ok()?,
+            piece: size.parse().ok()?,
+        }),
+        "weave" => Some(Work::Weave {
+            servers: size.parse().ok()?,
         }),
         _ => None,
     }
@@ -36,8 +40,8 @@ fn feed_of(work: &str, piece: &str) -> Option<Work> {
 fn asked(words: &[String]) -> Option<(Work, u64)> {
     match words {
         [_, work, count] => Some((work_of(work.as_str())?, count.as_str().parse().ok()?)),
-        [_, work, piece, count] => Some((
-            feed_of(work.as_str(), piece.as_str())?,
+        [_, work, size, count] => Some((
+            sized_work_of(work.as_str(), size.as_str())?,
             count.as_str().parse().ok()?,
         )),
         _ => None,
@@ -48,7 +52,7 @@ fn asked(words: &[String]) -> Option<(Work, u64)> {
 fn obey<R: Print + Eprint + AllocGlobal>(rt: &R, words: &[String]) -> u8 {
     let Some((work, count)) = asked(words) else {
         let _ = eprintln!(rt;
-            "lynx_bench: begin, deliver, open, encode, or feed and the size of a piece; and a count"
+            "lynx_bench: begin, deliver, open, encode, feed and the size of a piece, or weave and 2 or 16 servers; and a count"
         );
         return 2;
     };

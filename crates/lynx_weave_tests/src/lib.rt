@@ -6,6 +6,8 @@ mod asks;
 #[cfg(test)]
 mod histories;
 #[cfg(test)]
+mod random;
+#[cfg(test)]
 mod runs;
 #[cfg(test)]
 mod sessions;

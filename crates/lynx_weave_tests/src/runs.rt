@@ -79,8 +79,5 @@ pub fn fault_of(
     histories: Vec<Vec<Entry>>,
     told: &[Vec<ToldItem>],
 ) -> Result<Option<WeaveFault>, Memory> {
-    match woven(alloc, set, histories, told)? {
-        Ok(_) => Ok(None),
-        Err(fault) => Ok(Some(fault)),
-    }
+    Ok(woven(alloc, set, histories, told)?.err())
 }

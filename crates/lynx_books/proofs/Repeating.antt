@@ -28,7 +28,8 @@ use Rattle.lynx_books.specs.Begins.{IsDue}
 use Rattle.lynx_books.specs.Books.{BooksState}
 use Rattle.lynx_books.specs.History.{IsLawfulAfter, IsLawfulHistory, grown}
 use Rattle.lynx_books.specs.Serving.{Becomes, Begins as BeginsSo, Delivers as DeliversSo, Serving, delivery_of}
-use Rattle.lynx_books.specs.Repeating.{GoesOn, HasRepeated, IsIdle, IsReplayed, Repeats, again, held_again, is_undelivered, is_unserved}
+use Rattle.lynx_books.specs.Repeating.{GoesOn, HasRepeated, IsIdle, IsReplayed, Repeats, again, held_again}
+use Rattle.lynx_entry.specs.Answers.{is_undelivered, is_unserved}
 use Rattle.std.specs.Bool.{Decides}
 use Rattle.std.proofs.lemmas.Option.{slice_get_past}
 use Rattle.std.proofs.lemmas.List.Sums.{sum_by-append}

@@ -2,9 +2,7 @@
 use Rattle.std.specs.Prelude.{◌≡◌, ℕ, Bool, true, false, [], ◌∷◌, ◌++◌, List, Option}
 use Rattle.lynx_set.specs.Set.{Set}
 use Rattle.lynx_entry.specs.declared.answer.Answer.{Answer}
-use Rattle.lynx_entry.specs.declared.answer.Answer.TheVariants as answers
 use Rattle.lynx_entry.specs.declared.answer.Delivered.{Delivered}
-use Rattle.lynx_entry.specs.declared.answer.Delivered.TheVariants as deliveries
 use Rattle.lynx_entry.specs.declared.entry.Entry.{Entry}
 use Rattle.lynx_entry.specs.declared.entry.Entry.TheVariants.{Begun, Refused, Hop}
 use Rattle.lynx_entry.specs.declared.message.Message.{Message}
@@ -16,15 +14,6 @@ use Rattle.lynx_books.specs.Serving.{Serving, delivery_of}
 use Rattle.lynx_books.specs.Opening.{IsFirstUnlawful}
 use Rattle.lynx_books.specs.declared.replay.Replayed.{Replayed}
 use Rattle.lynx_books.specs.declared.replay.Replayed.TheVariants.{Done, Differs}
-
--- it answers for want of memory
-abbrev pub is_unserved : Answer → Bool
-is_unserved answers.Memory = true
-is_unserved given = false
-
-abbrev pub is_undelivered : Delivered → Bool
-is_undelivered deliveries.Memory = true
-is_undelivered given = false
 
 -- what a server adds when it is asked for what the entry did
 abbrev pub again : {K : Type 0} → Serving K → Entry → Option Entry

@@ -1,12 +1,12 @@
 //! A server that is asked for what kept entries did, one after another.
 ghost use Rattle.std.specs.Prelude.{◌≡◌, IfOk, OnOk, false};
 ghost use Rattle.lynx_server.specs.Answers.{answer};
-ghost use Rattle.lynx_books.specs.Repeating.{again, held_again, is_undelivered, is_unserved, GoesOn, IsIdle, IsReplay, Repeats};
+ghost use Rattle.lynx_books.specs.Repeating.{again, held_again, GoesOn, IsIdle, IsReplay, Repeats};
 ghost use Rattle.lynx_books.specs.Serving.{delivery_of};
 
 use crate::server::Server;
 use lynx_cells::{Cells, Changes};
-use lynx_entry::{Answer, Delivered, Entry, Message, Request};
+use lynx_entry::{Entry, Message, Request};
 use lynx_keep::{KeepFault, Keeper, Loaded};
 use lynx_names::{Memory, ServerId, Stamp, TryCopy};
 use lynx_set::ChainSet;
@@ -45,20 +45,6 @@ impl Keeper for Unkept {
     ghost weaker = { λ keeper kept other left. left };
 }
 
-/// Want of memory was answered.
-fn is_unserved(answer: &Answer) -> bool
-    ensures { result ≡ is_unserved answer.now }
-{
-    matches!(answer, Answer::Memory)
-}
-
-/// Want of memory was answered.
-fn is_undelivered(delivered: &Delivered) -> bool
-    ensures { result ≡ is_undelivered delivered.now }
-{
-    matches!(delivered, Delivered::Memory)
-}
-
 impl Server<Unkept> {
     /// Asks for a chain that began, or that was refused.
     fn begin_again(&mut self, alloc: Global, request: &Request, seen: Stamp) -> Result<(), Memory>
@@ -68,7 +54,7 @@ impl Server<Unkept> {
             self.old.held self.new) }
     {
         let answer = self.begin(alloc, request.copy(alloc)?, seen);
-        if is_unserved(&answer) {
+        if answer.is_unserved() {
             return Err(Memory);
         }
         Ok(())
@@ -81,7 +67,7 @@ impl Server<Unkept> {
             (delivery_of self.old message.now).held self.new) }
     {
         let delivered = self.deliver(alloc, message.copy(alloc)?);
-        if is_undelivered(&delivered) {
+        if delivered.is_undelivered() {
             return Err(Memory);
         }
         Ok(())

@@ -1,3 +1,6 @@
+ghost use Rattle.std.specs.Prelude.{◌≡◌};
+ghost use Rattle.lynx_entry.specs.Answers.{is_undelivered, is_unserved};
+
 use crate::message::Message;
 use lynx_names::{ChainId, Stamp, Values};
 
@@ -37,6 +40,15 @@ pub enum Answer {
     Memory,
 }
 
+impl Answer {
+    /// Whether the request was not served for want of memory.
+    pub fn is_unserved(&self) -> bool
+        ensures { result ≡ is_unserved self.now }
+    {
+        matches!(self, Answer::Memory)
+    }
+}
+
 /// What a delivery is answered.
 #[derive(Debug, PartialEq, Eq, Drop)]
 pub enum Delivered {
@@ -64,4 +76,13 @@ pub enum Delivered {
     Stopped,
     /// Want of memory. Nothing has changed.
     Memory,
+}
+
+impl Delivered {
+    /// Whether the message was not delivered for want of memory.
+    pub fn is_undelivered(&self) -> bool
+        ensures { result ≡ is_undelivered self.now }
+    {
+        matches!(self, Delivered::Memory)
+    }
 }

@@ -1,6 +1,6 @@
 //! A call of one server, with a note of the entry that it adds.
 ghost use Rattle.std.specs.Prelude.{◌≡◌, ◌++◌, [], IfOk, None, OnErr, OnOk, false, length};
-ghost use Rattle.lynx_books.specs.Repeating.{GoesOn, is_undelivered, is_unserved};
+ghost use Rattle.lynx_books.specs.Repeating.{GoesOn};
 ghost use Rattle.lynx_world.specs.Servers.{HasBegun, HasDelivered, HasWoken, noted, waking};
 
 use crate::added::{Added, note};
@@ -9,20 +9,6 @@ use lynx_entry::{Answer, Delivered, Message, Outcome, Request};
 use lynx_keep::MemoryKeeper;
 use lynx_names::{Memory, ServerId, Stamp, TryCopy};
 use std::alloc::Global;
-
-/// Want of memory was answered.
-fn is_unserved(answer: &Answer) -> bool
-    ensures { result ≡ is_unserved answer.now }
-{
-    matches!(answer, Answer::Memory)
-}
-
-/// Want of memory was answered.
-fn is_undelivered(delivered: &Delivered) -> bool
-    ensures { result ≡ is_undelivered delivered.now }
-{
-    matches!(delivered, Delivered::Memory)
-}
 
 /// A begin at this server.
 pub(crate) fn begin_at(
@@ -43,7 +29,7 @@ pub(crate) fn begin_at(
     order.reserve(1)?;
     let place = here.history().len();
     let answer = here.begin(alloc, request, seen);
-    if is_unserved(&answer) {
+    if answer.is_unserved() {
         return Err(Memory);
     }
     note(order, server, place, here.history().len());
@@ -69,7 +55,7 @@ pub(crate) fn deliver_at(
     order.reserve(1)?;
     let place = here.history().len();
     let delivered = here.deliver(alloc, message);
-    if is_undelivered(&delivered) {
+    if delivered.is_undelivered() {
         return Err(Memory);
     }
     note(order, server, place, here.history().len());
@@ -95,7 +81,7 @@ pub(crate) fn wake_at(
     let Some(woken) = here.wake(alloc) else {
         return Ok(None);
     };
-    if is_undelivered(&woken.delivered) {
+    if woken.delivered.is_undelivered() {
         return Err(Memory);
     }
     note(order, server, place, here.history().len());

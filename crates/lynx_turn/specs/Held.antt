@@ -1,9 +1,8 @@
 -- Messages that are held, and their order.
-use Rattle.std.specs.Prelude.{ℕ, ◌≤◌, ◌==◌, ◌&&◌, Bool, if◌then◌else◌, not, nat_lt, List, length, fold, slice_index, find, option_map, Option, Some, None, unwrap_or}
+use Rattle.std.specs.Prelude.{ℕ, ◌≤◌, ◌==◌, ◌&&◌, Bool, if◌then◌else◌, not, nat_lt, List, length, fold, Option, Some, None}
 use Rattle.std.specs.List.{take_while}
 use Rattle.lynx_names.specs.declared.limits.TheConstants.{MAX_HELD}
 use Rattle.lynx_names.specs.declared.chain.ChainId.{ChainId}
-use Rattle.lynx_names.specs.declared.numbers.NumberAt.{NumberAt}
 use Rattle.lynx_entry.specs.declared.message.Message.{Message}
 
 -- the same chain
@@ -36,14 +35,6 @@ least_of messages = fold lesser None messages
 -- how many of the first are before the message
 abbrev pub place_for : Message → List Message → ℕ
 place_for message held = length (take_while (λ other. is_before other message) held)
-
--- the number that a chain has for a server, 0 where it has none
-abbrev pub number_at : List NumberAt → ℕ → ℕ
-number_at numbers server = unwrap_or (option_map (λ found. found.number) (find (λ found. found.server == server) numbers)) 0
-
--- it is the message's turn at the server
-abbrev pub stands_now : ℕ → List ℕ → Message → Bool
-stands_now server turns message = number_at message.numbers server == slice_index turns message.chain.origin
 
 -- no more than the room that there is
 pub record IsHeld (messages : List Message) (capacity : ℕ) : Type 0 where

@@ -1,11 +1,10 @@
 ghost use Rattle.std.specs.Prelude.{◌≡◌, ◌<◌, ◌≤◌, [], filter, find, insert, length, not, IfOk, option_copied};
 ghost use Rattle.lynx_names.specs.declared.limits.TheConstants.{MAX_HELD};
-ghost use Rattle.lynx_turn.specs.Held.{is_before, is_for, least_of, lesser, number_at, place_for, stands_now};
+ghost use Rattle.lynx_turn.specs.Held.{is_before, is_for, lesser, place_for};
 
-use crate::turns::Turns;
-use lynx_entry::{Message, NumberAt};
+use lynx_entry::Message;
 use lynx_names::limits::MAX_HELD;
-use lynx_names::{ChainId, Memory, ServerId};
+use lynx_names::{ChainId, Memory};
 use std::alloc::Global;
 use std::marker::Model;
 
@@ -69,19 +68,6 @@ impl HeldBuffer {
             .iter()
             .find(|message| is_for(chain, hop, message))
     }
-
-    /// The least, by origin, index and hop, of those whose turn it is now at this server.
-    pub fn least_now(&self, turns: &Turns, server: ServerId) -> Option<&Message>
-        ensures { option_copied result ≡ least_of (filter (stands_now server turns.now) self.now) }
-    {
-        let mut least = None;
-        for message in &self.messages {
-            if stands_now(server, turns, message) {
-                least = lesser(least, message);
-            }
-        }
-        least
-    }
 }
 
 /// The message is for that hop of the chain.
@@ -122,22 +108,4 @@ fn place_for(held: &[Message], message: &Message) -> usize
     held.iter()
         .take_while(|other| is_before(other, message))
         .count()
-}
-
-/// The number that the chain has for the server, 0 where it has none.
-fn number_at(numbers: &[NumberAt], server: ServerId) -> u64
-    ensures { result ≡ number_at numbers.now server }
-{
-    match numbers.iter().find(|found| found.server == server) {
-        Some(found) => found.number,
-        None => 0,
-    }
-}
-
-/// It is the message's turn at the server.
-fn stands_now(server: ServerId, turns: &Turns, message: &Message) -> bool
-    ensures { result ≡ stands_now server turns.now message.now }
-{
-    let number = number_at(message.numbers.as_slice(), server);
-    number == turns.turn(message.chain.origin)
 }

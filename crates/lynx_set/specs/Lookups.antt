@@ -1,6 +1,8 @@
--- What a set says of its programs and tables, by their numbers.
-use Rattle.std.specs.Prelude.{ℕ, List, [], Option, map, slice_get, unwrap_or, option_and_then, option_map}
+-- What a set says of its programs and tables, by their numbers, and what an action says of itself.
+use Rattle.std.specs.Prelude.{ℕ, Bool, true, false, List, [], Option, Some, None, map, slice_get, unwrap_or, option_and_then, option_map}
 use Rattle.lynx_set.specs.declared.action.Action.{Action}
+use Rattle.lynx_set.specs.declared.action.Action.TheVariants.{Get, Set as SetCell, Add, Sub, Let, Need}
+use Rattle.lynx_set.specs.declared.action.Key.{Key}
 use Rattle.lynx_set.specs.declared.program.Hop.{Hop}
 use Rattle.lynx_set.specs.declared.program.Program.{Program}
 use Rattle.lynx_set.specs.Set.{Set}
@@ -28,6 +30,24 @@ server_at set program hop = option_map (λ found. found.server) (hop_at set prog
 -- the origin of a program: the server of its first hop
 abbrev pub origin_of : Set → ℕ → Option ℕ
 origin_of set program = server_at set program 0
+
+-- the table and the key of the cell that an action touches, none for `let` and `need`
+abbrev pub cell_of : Action → Option (ℕ × Key)
+cell_of (Get table key) = Some (table, key)
+cell_of (SetCell table key value) = Some (table, key)
+cell_of (Add table key value) = Some (table, key)
+cell_of (Sub table key value) = Some (table, key)
+cell_of (Let left operator right) = None
+cell_of (Need left relation right) = None
+
+-- an action binds a name: `get` and `let` do
+abbrev pub binds : Action → Bool
+binds (Get table key) = true
+binds (SetCell table key value) = false
+binds (Add table key value) = false
+binds (Sub table key value) = false
+binds (Let left operator right) = true
+binds (Need left relation right) = false
 
 -- the names of the programs
 abbrev pub program_names : Set → List (List ℕ)

@@ -1,3 +1,6 @@
+ghost use Rattle.std.specs.Prelude.{◌≡◌};
+ghost use Rattle.lynx_set.specs.Lookups.{binds, cell_of};
+
 use lynx_names::{Memory, TableId, TryCopy};
 use std::alloc::Global;
 
@@ -65,6 +68,28 @@ pub enum Action {
         relation: Relation,
         right: Operand,
     },
+}
+
+impl Action {
+    /// The table and the key of the cell that the action touches. None for `let` and `need`.
+    pub fn cell(&self) -> Option<(TableId, Key)>
+        ensures { result ≡ cell_of self.now }
+    {
+        match *self {
+            Action::Get { table, key }
+            | Action::Set { table, key, .. }
+            | Action::Add { table, key, .. }
+            | Action::Sub { table, key, .. } => Some((table, key)),
+            Action::Let { .. } | Action::Need { .. } => None,
+        }
+    }
+
+    /// Whether the action binds a name, to which it gives a value. `get` and `let` do.
+    pub fn binds(&self) -> bool
+        ensures { result ≡ binds self.now }
+    {
+        matches!(self, Action::Get { .. } | Action::Let { .. })
+    }
 }
 
 impl TryCopy for Action {

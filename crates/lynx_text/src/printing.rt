@@ -181,10 +181,7 @@ fn put_hop(
 pub fn bound_names(action: &Action) -> usize
     ensures { result ≡ bound_names action.now }
 {
-    match action {
-        Action::Get { .. } | Action::Let { .. } => 1,
-        _ => 0,
-    }
+    usize::from(action.binds())
 }
 
 /// Writes the line of an action, which binds the name at `place` if it binds one.

@@ -22,6 +22,20 @@ pub enum DecodeFault {
     Memory,
 }
 
+impl DecodeFault {
+    ghost use Rattle.std.specs.Prelude.{◌≡◌};
+
+    /// The want of memory that a fault is where nothing else can be wrong.
+    pub fn want_of_memory(self) -> Memory
+        requires { self ≡ DecodeFault.Memory }
+    {
+        match self {
+            DecodeFault::Memory => Memory,
+            _ => unreachable!(),
+        }
+    }
+}
+
 impl From<Memory> for DecodeFault {
     ghost use Rattle.std.specs.Prelude.{◌≡◌};
     ghost use Rattle.lynx_forms.specs.declared.fault.DecodeFault.TheVariants.{Memory as WantOfMemory};

@@ -3,7 +3,7 @@ ghost use Rattle.std.specs.Prelude.{◌≡◌, ◌∷◌, [], IfNone, IfOk, IfSo
 ghost use Rattle.lynx_keep.specs.Stored.{AreStored, HasEntries, IsEntry, entries_in};
 
 use lynx_entry::Entry;
-use lynx_forms::{DecodeFault, Feed, Item};
+use lynx_forms::{Feed, Item};
 use lynx_names::Memory;
 use std::alloc::Global;
 
@@ -14,16 +14,6 @@ fn entry_of(item: Item) -> Entry
 {
     match item {
         Item::Entry(entry) => entry,
-        _ => unreachable!(),
-    }
-}
-
-/// The only fault of a feed that has nothing but entries before it.
-fn want_of_memory(fault: DecodeFault) -> Memory
-    requires { fault ≡ DecodeFault.Memory }
-{
-    match fault {
-        DecodeFault::Memory => Memory,
         _ => unreachable!(),
     }
 }
@@ -39,7 +29,7 @@ fn next_entry(alloc: Global, feed: &mut Feed) -> Result<Option<Entry>, Memory>
     match feed.next(alloc) {
         Ok(Some(item)) => Ok(Some(entry_of(item))),
         Ok(None) => Ok(None),
-        Err(fault) => Err(want_of_memory(fault)),
+        Err(fault) => Err(fault.want_of_memory()),
     }
 }
 

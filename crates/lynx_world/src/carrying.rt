@@ -22,16 +22,6 @@ fn message_of(item: Item) -> Message
     }
 }
 
-/// The only fault of a feed at whose front a whole form stands.
-fn want_of_memory(fault: DecodeFault) -> Memory
-    requires { fault ≡ DecodeFault.Memory }
-{
-    match fault {
-        DecodeFault::Memory => Memory,
-        _ => unreachable!(),
-    }
-}
-
 /// What a feed of these bytes gives first.
 fn read_first(alloc: Global, bytes: &[u8]) -> Result<Option<Item>, DecodeFault>
     ensures { (item : Item) → IsItem item → bytes.now ≡ form item →
@@ -52,6 +42,6 @@ pub(crate) fn carried(alloc: Global, message: Message) -> Result<Message, Memory
         Ok(Some(item)) => Ok(message_of(item)),
         // The whole form stands there.
         Ok(None) => unreachable!(),
-        Err(fault) => Err(want_of_memory(fault)),
+        Err(fault) => Err(fault.want_of_memory()),
     }
 }

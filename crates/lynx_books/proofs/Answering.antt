@@ -2,8 +2,7 @@
 use Rattle.std.proofs.Common.{◌≡◌, ℕ, sym, ap, ◌∙◌, subst}
 use Rattle.lynx_entry.specs.declared.answer.Answer.{Answer}
 use Rattle.lynx_entry.specs.declared.request.Request.{Request}
-use Rattle.lynx_server.specs.declared.answers.Begins.{Begins}
-use Rattle.lynx_server.specs.Answers.{answer}
+use Rattle.lynx_server.specs.Answers.{Begins, answer}
 use Rattle.lynx_books.specs.Serving.{Serving, Becomes, IsAnswered}
 
 pub answered : {K : Type 0} (old new : Serving K) (request : Request) (seen : ℕ) (given : Answer) (begins : Begins) →

@@ -15,11 +15,10 @@ use Rattle.lynx_names.specs.declared.numbers.NumberAt.{NumberAt}
 use Rattle.lynx_entry.specs.declared.entry.BegunEntry.{BegunEntry}
 use Rattle.lynx_entry.specs.declared.entry.Entry.TheVariants.{Begun, Hop}
 use Rattle.lynx_entry.specs.declared.request.Request.{Request}
-use Rattle.lynx_server.specs.declared.answers.Begins.{Begins}
 use Rattle.lynx_server.specs.Turns.{begun_count, number_for, numbers_of}
 use Rattle.lynx_server.specs.Tables.{clock_of, tables_of}
 use Rattle.lynx_server.specs.Lawful.{record_of, HasRoom, IsLawful, Starts}
-use Rattle.lynx_server.specs.Answers.{answer, answer_new, answer_recorded, begun_by, is_busy, is_full, only}
+use Rattle.lynx_server.specs.Answers.{Begins, answer, answer_new, answer_recorded, begun_by, is_busy, is_full, only}
 use Rattle.lynx_server.proofs.Steps.{answer-lawful}
 use Rattle.lynx_books.specs.Books.{BooksState}
 use Rattle.lynx_books.specs.Begins.{IsDue, begun_entry, due}

@@ -10,7 +10,7 @@ use Rattle.lynx_names.specs.declared.limits.TheConstants.{MAX_SERVERS, MAX_ACTIO
 use Rattle.lynx_set.specs.declared.program.Hop.{Hop}
 use Rattle.lynx_set.specs.declared.program.Program.{Program}
 use Rattle.lynx_set.specs.Set.{Set}
-use Rattle.lynx_set.specs.Lookups.{hops_of, program_at}
+use Rattle.lynx_set.specs.Lookups.{binds, hops_of, program_at}
 use Rattle.lynx_entry.specs.declared.answer.Answer.{Answer}
 use Rattle.lynx_entry.specs.declared.answer.Answer.TheVariants.{WrongOrigin, ArgCount}
 use Rattle.lynx_entry.specs.declared.entry.Entry.{Entry}
@@ -21,7 +21,7 @@ use Rattle.lynx_entry.specs.Entry.{History}
 use Rattle.lynx_server.specs.Visits.{is_origin, starts_at, visits, visited}
 use Rattle.lynx_server.specs.Turns.{numbered}
 use Rattle.lynx_server.specs.Tables.{tables_of}
-use Rattle.lynx_server.specs.Checks.{are_keys_placed, binds, fits_hop, fits_program, request_fault_in, result_count, is_well_formed}
+use Rattle.lynx_server.specs.Checks.{are_keys_placed, fits_hop, fits_program, request_fault_in, result_count, is_well_formed}
 use Rattle.lynx_server.specs.Lawful.{IsLawful}
 use Rattle.lynx_server.specs.Messages.{next_message}
 use Rattle.lynx_forms.specs.Ranges.{IsMessageInRange}

@@ -17,8 +17,7 @@ use Rattle.lynx_entry.specs.declared.message.Message.{Message}
 use Rattle.lynx_entry.specs.declared.request.Request.{Request}
 use Rattle.lynx_entry.specs.Entry.{History}
 use Rattle.lynx_keep.specs.Kept.{HasRisen}
-use Rattle.lynx_server.specs.declared.answers.Begins.{Begins}
-use Rattle.lynx_server.specs.Answers.{answer, is_busy, is_full}
+use Rattle.lynx_server.specs.Answers.{Begins, answer, is_busy, is_full}
 use Rattle.lynx_server.specs.Deliveries.{Delivers, delivery, deliver_new, done_at, done_by, early, same_hop}
 use Rattle.lynx_server.specs.Lawful.{HasRoom, IsLawful, IsLawfulBegun, IsLawfulRefused, IsLawfulHop, MayBegin, Runs, Starts, hop_entry_of, number_at}
 use Rattle.lynx_server.specs.Tables.{clock_of, tables_of}

@@ -11,7 +11,7 @@ use Rattle.lynx_set.specs.declared.program.Hop.{Hop}
 use Rattle.lynx_set.specs.Set.{Set}
 use Rattle.lynx_set.specs.Lookups.{actions_at, hop_at}
 use Rattle.lynx_hops.specs.Meaning.{HopOutcome, after_results, run, meaning, key_of, value_of, sum_of, difference_of, result_of, is_met}
-use Rattle.lynx_server.specs.Checks.{binds}
+use Rattle.lynx_set.specs.Lookups.{binds}
 
 ok_is : (one other : List ℕ × Database) → ◌≡◌ {A = HopOutcome} (Ok one) (Ok other) → one ≡ other
 ok_is one other e = cc

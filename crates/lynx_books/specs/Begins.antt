@@ -6,12 +6,11 @@ use Rattle.lynx_names.specs.declared.numbers.NumberAt.{NumberAt}
 use Rattle.lynx_entry.specs.declared.request.Request.{Request}
 use Rattle.lynx_entry.specs.declared.entry.BegunEntry.{BegunEntry}
 use Rattle.lynx_entry.specs.declared.entry.Entry.{Entry}
-use Rattle.lynx_server.specs.declared.answers.Begins.{Begins}
 use Rattle.lynx_server.specs.Turns.{begun_count, numbers_of}
 use Rattle.lynx_server.specs.Tables.{clock_of, tables_of}
 use Rattle.lynx_server.specs.Checks.{request_fault}
 use Rattle.lynx_server.specs.Lawful.{record_of}
-use Rattle.lynx_server.specs.Answers.{is_full, is_busy, begun_by}
+use Rattle.lynx_server.specs.Answers.{Begins, is_full, is_busy, begun_by}
 use Rattle.lynx_books.specs.declared.steps.Taken.{Taken}
 use Rattle.lynx_books.specs.declared.steps.RanStep.{RanStep}
 use Rattle.lynx_books.specs.declared.steps.RefusedStep.{RefusedStep}

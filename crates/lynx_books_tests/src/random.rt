@@ -4,9 +4,7 @@ use lynx_entry::{Answer, Delivered, Entry, Message, Request};
 use lynx_keep::MemoryKeeper;
 use lynx_names::{ClientId, Memory, ProgramId, ServerId, Stamp, Values};
 use lynx_samples::texts::{CROSSING, read};
-use lynx_server::answers::answer;
-use lynx_server::deliveries::deliver;
-use lynx_server::next_of;
+use lynx_server::{View, next_of};
 use std::alloc::Global;
 
 type Held = Server<MemoryKeeper>;
@@ -39,16 +37,18 @@ fn ends_with(server: &Held, added: &Option<Entry>) -> bool {
     }
 }
 
+/// What the plain functions decide by.
+fn view_of(server: &Held) -> View<'_> {
+    View {
+        set: server.set(),
+        server: server.server(),
+        history: server.history(),
+    }
+}
+
 /// A begin is answered as by the plain function, and adds the same entry.
 fn begins_alike(alloc: Global, server: &mut Held, request: Request) -> Result<bool, Memory> {
-    let plain = answer(
-        alloc,
-        server.set(),
-        server.server(),
-        server.history(),
-        &request,
-        Stamp::zero(),
-    )?;
+    let plain = view_of(server).answer(alloc, &request, Stamp::zero())?;
     let given: Answer = server.begin(alloc, request, Stamp::zero());
     Ok(given == plain.answer && ends_with(server, &plain.added))
 }
@@ -63,17 +63,11 @@ fn is_alike(given: &Delivered, plain: &Delivered) -> bool {
 
 /// A delivery is answered as by the plain function, and adds the same entry.
 fn delivers_alike(alloc: Global, server: &mut Held, message: Message) -> Result<bool, Memory> {
-    let plain = deliver(
-        alloc,
-        server.set(),
-        server.server(),
-        server.history(),
-        &message,
-    )?;
+    let plain = view_of(server).deliver(alloc, &message)?;
     let given = server.deliver(alloc, message);
     let is_added = ends_with(server, &plain.added);
     let _ = server.wake(alloc);
-    Ok(is_alike(&given, &plain.delivered) && is_added)
+    Ok(is_alike(&given, &plain.answer) && is_added)
 }
 
 /// A message of the one server is delivered to the other, if the entry drawn sends one.

@@ -13,13 +13,12 @@ use Rattle.lynx_entry.specs.declared.entry.Entry.TheVariants.{Begun, Refused, Ho
 use Rattle.lynx_entry.specs.declared.request.Request.{Request}
 use Rattle.lynx_entry.specs.declared.message.Message.{Message}
 use Rattle.lynx_entry.specs.Entry.{History}
-use Rattle.lynx_server.specs.declared.answers.Begins.{Begins}
 use Rattle.lynx_server.specs.Visits.{starts_at, is_origin, visits}
 use Rattle.lynx_server.specs.Turns.{is_begun, begun_count, begins_visiting, number_for, turn_of}
 use Rattle.lynx_server.specs.Tables.{tables_of, clock_of}
 use Rattle.lynx_server.specs.Checks.{request_fault, request_fault_in, is_well_formed}
 use Rattle.lynx_server.specs.Lawful.{HasRoom, MayBegin, IsLawful, Runs, Starts, record_of, hop_entry_of, number_at}
-use Rattle.lynx_server.specs.Answers.{is_full, is_busy, begun_by, answer_new, answer_recorded, answer}
+use Rattle.lynx_server.specs.Answers.{Begins, is_full, is_busy, begun_by, answer_new, answer_recorded, answer}
 use Rattle.lynx_server.specs.Deliveries.{Delivers, delivery, deliver_new, deliver_by_turn, done_by, early, same_hop, same_message}
 use Rattle.lynx_set.specs.Lookups.{hops_of, program_at}
 

@@ -11,11 +11,15 @@ use Rattle.lynx_entry.specs.declared.entry.Entry.{Entry}
 use Rattle.lynx_entry.specs.declared.entry.Entry.TheVariants.{Begun, Refused, Hop}
 use Rattle.lynx_entry.specs.declared.request.Request.{Request}
 use Rattle.lynx_entry.specs.Entry.{History}
-use Rattle.lynx_server.specs.declared.answers.Begins.{Begins}
+use Rattle.lynx_server.specs.declared.decision.Decision.{Decision}
 use Rattle.lynx_server.specs.Turns.{begun_count, numbers_of, turn_of}
 use Rattle.lynx_server.specs.Tables.{tables_of, clock_of}
 use Rattle.lynx_server.specs.Checks.{request_fault}
 use Rattle.lynx_server.specs.Lawful.{record_of}
+
+-- what comes of a begin: its answer, and the entry that it adds, if it adds one
+abbrev pub Begins : Type 0
+Begins = Decision Answer
 
 -- an answer that adds nothing
 abbrev pub only : Answer → Begins

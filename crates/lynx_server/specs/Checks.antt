@@ -4,7 +4,6 @@ use Rattle.std.specs.List.{list_all, list_any}
 use Rattle.std.specs.Cmp.Lexicographic.{pointwise}
 use Rattle.std.specs.Prelude.{nat_eq}
 use Rattle.lynx_set.specs.declared.action.Action.{Action}
-use Rattle.lynx_set.specs.declared.action.Action.TheVariants.{Get, Set as SetCell, Add, Sub, Let, Need}
 use Rattle.lynx_set.specs.declared.action.Key.{Key}
 use Rattle.lynx_set.specs.declared.action.Key.TheVariants.{Literal, Param}
 use Rattle.lynx_set.specs.declared.program.Hop.{Hop}
@@ -21,20 +20,19 @@ use Rattle.lynx_entry.specs.declared.entry.Entry.{Entry}
 use Rattle.lynx_entry.specs.declared.entry.Entry.TheVariants.{Begun, Refused, Hop as HopRan}
 use Rattle.lynx_entry.specs.Entry.{History}
 use Rattle.lynx_server.specs.Visits.{is_origin, visited}
-use Rattle.lynx_set.specs.Lookups.{program_at}
+use Rattle.lynx_set.specs.Lookups.{binds, cell_of, program_at}
 
 -- a key that is a parameter names a cell of the server; a literal was judged with the set's text
 abbrev pub is_key_at : Set → ℕ → List ℕ → ℕ → Key → Bool
 is_key_at set server args table (Literal key) = true
 is_key_at set server args table (Param place) = server_of set.shards table (key_of args (Param place)) == server
 
+abbrev pub is_cell_at : Set → ℕ → List ℕ → Option (ℕ × Key) → Bool
+is_cell_at set server args (Some cell) = is_key_at set server args cell.0 cell.1
+is_cell_at set server args None = true
+
 abbrev pub is_action_at : Set → ℕ → List ℕ → Action → Bool
-is_action_at set server args (Get table key) = is_key_at set server args table key
-is_action_at set server args (SetCell table key value) = is_key_at set server args table key
-is_action_at set server args (Add table key value) = is_key_at set server args table key
-is_action_at set server args (Sub table key value) = is_key_at set server args table key
-is_action_at set server args (Let left operator right) = true
-is_action_at set server args (Need left relation right) = true
+is_action_at set server args action = is_cell_at set server args (cell_of action)
 
 -- each hop's cells are at the hop's server
 abbrev pub are_keys_placed : Set → List ℕ → List Hop → Bool
@@ -52,15 +50,7 @@ request_fault_in set server request (Some program) =
 abbrev pub request_fault : Set → ℕ → Request → Option Answer
 request_fault set server request = request_fault_in set server request (program_at set request.program)
 
--- how many values a hop gives: one for each get and let
-abbrev pub binds : Action → Bool
-binds (Get table key) = true
-binds (SetCell table key value) = false
-binds (Add table key value) = false
-binds (Sub table key value) = false
-binds (Let left operator right) = true
-binds (Need left relation right) = false
-
+-- how many values a hop gives: one for each name that it binds
 abbrev pub result_count : Hop → ℕ
 result_count hop = count_by binds hop.actions
 

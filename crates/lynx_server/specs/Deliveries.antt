@@ -10,7 +10,7 @@ use Rattle.lynx_entry.specs.declared.entry.Entry.{Entry}
 use Rattle.lynx_entry.specs.declared.entry.Entry.TheVariants.{Begun, Refused, Hop}
 use Rattle.lynx_entry.specs.declared.message.Message.{Message}
 use Rattle.lynx_entry.specs.Entry.{History}
-use Rattle.lynx_server.specs.declared.deliveries.Delivery.{Delivery}
+use Rattle.lynx_server.specs.declared.decision.Decision.{Decision}
 pub use Rattle.lynx_turn.specs.Held.{same_chain, same_hop}
 use Rattle.lynx_turn.specs.Held.{place_for}
 use Rattle.lynx_server.specs.Turns.{turn_of}
@@ -27,8 +27,8 @@ pub record Delivers : Type 0 where
   pub held : List Message
 
 -- the answer and the entry are those of the delivery
-abbrev pub Gives : Delivery → Delivers → Type 0
-Gives code delivers = (code.delivered ≡ delivers.delivered) × (code.added ≡ delivers.added)
+abbrev pub Gives : Decision Delivered → Delivers → Type 0
+Gives code delivers = (code.answer ≡ delivers.delivered) × (code.added ≡ delivers.added)
 
 -- the same message
 abbrev pub same_message : Message → Message → Bool

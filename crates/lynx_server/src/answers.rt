@@ -7,22 +7,16 @@ ghost use Rattle.lynx_server.specs.Lawful.{is_record_of, record_of};
 ghost use Rattle.lynx_server.specs.Answers.{only, same_call, recorded_answer, is_full, is_busy, begun_by, begun_with, refused_by, answer};
 
 use crate::checks::request_fault;
+use crate::decision::Decision;
 use crate::tables::{clock_of, tables_of};
-use crate::turns::{begun_count, number_for, turn_of};
+use crate::turns::begun_count;
+use crate::view::View;
 use crate::visits::visited;
 use lynx_entry::{Answer, BegunEntry, Entry, NumberAt, Numbers, RefusedEntry, Request};
 use lynx_hops::{HopFault, run_hop};
 use lynx_names::limits::MAX_ENTRIES;
 use lynx_names::{ChainId, Memory, ProgramId, ServerId, Stamp, TryCopy, Values};
-use lynx_set::ChainSet;
 use std::alloc::Global;
-
-/// What comes of a begin: its answer, and the entry that it adds, if it adds one.
-#[derive(Debug, Drop)]
-pub struct Begins {
-    pub answer: Answer,
-    pub added: Option<Entry>,
-}
 
 /// The entry keeps the answer to a request of this client and number.
 fn is_record_of(request: &Request, entry: &Entry) -> bool
@@ -85,93 +79,24 @@ pub fn next_stamp(history: &[Entry], told: Stamp) -> Option<Stamp>
     clock_of(history).above(told)
 }
 
-/// A chain begun here has still to return here.
-fn is_busy(set: &ChainSet, server: ServerId, history: &[Entry]) -> bool
-    ensures { result ≡ is_busy set.now server history.now }
+/// An answer that adds nothing.
+fn only(answer: Answer) -> Decision<Answer>
+    ensures { result ≡ only answer }
 {
-    turn_of(set, server, history, server) != begun_count(history)
-}
-
-/// One number for each of the servers.
-fn numbers_for(
-    alloc: Global,
-    set: &ChainSet,
-    history: &[Entry],
-    servers: &[ServerId],
-) -> Result<Numbers, Memory>
-    ensures { IfOk result (λ numbers. numbers ≡ map (numbered set.now history.now) servers.now) }
-{
-    let mut numbers = Numbers::new(alloc);
-    for server in servers {
-        numbers.push(NumberAt {
-            server: *server,
-            number: number_for(set, history, *server) as u64,
-        })?;
+    Decision {
+        answer,
+        added: None,
     }
-    Ok(numbers)
-}
-
-/// One number for each server that the program visits.
-fn numbers_of(
-    alloc: Global,
-    set: &ChainSet,
-    history: &[Entry],
-    program: ProgramId,
-) -> Result<Numbers, Memory>
-    ensures { IfOk result (λ numbers. numbers ≡ numbers_of set.now history.now program) }
-{
-    let servers = visited(alloc, set, program)?;
-    numbers_for(alloc, set, history, servers.as_slice())
-}
-
-/// What comes of a hop 0 that ran, as the entry with that stamp.
-fn begun(
-    alloc: Global,
-    set: &ChainSet,
-    server: ServerId,
-    history: &[Entry],
-    request: &Request,
-    seen: Stamp,
-    stamp: Stamp,
-    results: Values,
-) -> Result<Begins, Memory>
-    requires { stamp ≡ max (clock_of history.now) seen + 1 }
-    ensures { IfOk result (λ begins. begins
-        ≡ begun_with set.now server history.now request.now seen results) }
-{
-    let chain = ChainId {
-        origin: server,
-        index: begun_count(history) as u64,
-    };
-    let numbers = numbers_of(alloc, set, history, request.program)?;
-    let told = results.copy(alloc)?;
-    let entry = BegunEntry {
-        request: request.copy(alloc)?,
-        seen,
-        chain,
-        numbers,
-        stamp,
-        results,
-    };
-    Ok(Begins {
-        answer: Answer::Begun {
-            chain,
-            stamp,
-            results: told,
-            again: false,
-        },
-        added: Some(Entry::Begun(entry)),
-    })
 }
 
 /// What comes of a hop 0 that refused by that need, as the entry with that stamp.
-pub fn refused(
+fn refused(
     alloc: Global,
     request: &Request,
     seen: Stamp,
     need: u8,
     stamp: Stamp,
-) -> Result<Begins, Memory>
+) -> Result<Decision<Answer>, Memory>
     ensures { IfOk result (λ begins. begins ≡ refused_by request.now seen need stamp) }
 {
     let entry = RefusedEntry {
@@ -180,7 +105,7 @@ pub fn refused(
         need,
         stamp,
     };
-    Ok(Begins {
+    Ok(Decision {
         answer: Answer::Refused {
             need,
             stamp,
@@ -190,66 +115,125 @@ pub fn refused(
     })
 }
 
-/// Runs hop 0 of a new chain, whose entry has that stamp.
-fn begin_new(
-    alloc: Global,
-    set: &ChainSet,
-    server: ServerId,
-    history: &[Entry],
-    request: &Request,
-    seen: Stamp,
-    stamp: Stamp,
-) -> Result<Begins, Memory>
-    requires { stamp ≡ max (clock_of history.now) seen + 1 }
-    ensures { IfOk result (λ begins. begins ≡ begun_by set.now server history.now request.now seen
-        (meaning set.now request.now.program 0 request.now.args [] (tables_of set.now history.now))) }
-{
-    let cells = tables_of(alloc, set, history)?;
-    let args = request.args.as_slice();
-    match run_hop(alloc, set, request.program, 0, args, &[], &cells) {
-        Ok(ran) => {
-            let (results, _) = ran.spend();
-            begun(alloc, set, server, history, request, seen, stamp, results)
+impl View<'_> {
+    /// A chain begun here has still to return here.
+    fn is_busy(&self) -> bool
+        ensures { result ≡ is_busy self.now.set.now self.now.server self.now.history.now }
+    {
+        self.turn_of(self.server) != begun_count(self.history)
+    }
+
+    /// One number for each of the servers.
+    fn numbers_for(&self, alloc: Global, servers: &[ServerId]) -> Result<Numbers, Memory>
+        ensures { IfOk result (λ numbers. numbers
+            ≡ map (numbered self.now.set.now self.now.history.now) servers.now) }
+    {
+        let mut numbers = Numbers::new(alloc);
+        for server in servers {
+            numbers.push(NumberAt {
+                server: *server,
+                number: self.number_for(*server) as u64,
+            })?;
         }
-        Err(HopFault::Refused(need)) => refused(alloc, request, seen, need, stamp),
-        Err(HopFault::Memory) => Err(Memory),
+        Ok(numbers)
     }
-}
 
-/// What a server with this history answers to a begin, and the entry that it adds. In this order: a request that
-/// is recorded; what is wrong with it; no room; a chain that has still to return here; else hop 0 runs. The
-/// history is gone over a few times, and its tables are run from the first entry on.
-pub fn answer(
-    alloc: Global,
-    set: &ChainSet,
-    server: ServerId,
-    history: &[Entry],
-    request: &Request,
-    seen: Stamp,
-) -> Result<Begins, Memory>
-    ensures { IfOk result (λ begins. begins ≡ answer set.now server history.now request.now seen) }
-{
-    if let Some(entry) = record_of(request, history) {
-        return Ok(only(recorded_answer(alloc, entry, request)?));
+    /// One number for each server that the program visits.
+    fn numbers_of(&self, alloc: Global, program: ProgramId) -> Result<Numbers, Memory>
+        ensures { IfOk result (λ numbers. numbers
+            ≡ numbers_of self.now.set.now self.now.history.now program) }
+    {
+        let servers = visited(alloc, self.set, program)?;
+        self.numbers_for(alloc, servers.as_slice())
     }
-    if let Some(fault) = request_fault(set, server, request) {
-        return Ok(only(fault));
-    }
-    let Some(stamp) = next_stamp(history, seen) else {
-        return Ok(only(Answer::Full));
-    };
-    if is_busy(set, server, history) {
-        return Ok(only(Answer::Busy));
-    }
-    begin_new(alloc, set, server, history, request, seen, stamp)
-}
 
-/// An answer that adds nothing.
-fn only(answer: Answer) -> Begins
-    ensures { result ≡ only answer }
-{
-    Begins {
-        answer,
-        added: None,
+    /// What comes of a hop 0 that ran, as the entry with that stamp.
+    fn begun(
+        &self,
+        alloc: Global,
+        request: &Request,
+        seen: Stamp,
+        stamp: Stamp,
+        results: Values,
+    ) -> Result<Decision<Answer>, Memory>
+        requires { stamp ≡ max (clock_of self.now.history.now) seen + 1 }
+        ensures { IfOk result (λ begins. begins ≡ begun_with self.now.set.now self.now.server
+            self.now.history.now request.now seen results) }
+    {
+        let chain = ChainId {
+            origin: self.server,
+            index: begun_count(self.history) as u64,
+        };
+        let numbers = self.numbers_of(alloc, request.program)?;
+        let told = results.copy(alloc)?;
+        let entry = BegunEntry {
+            request: request.copy(alloc)?,
+            seen,
+            chain,
+            numbers,
+            stamp,
+            results,
+        };
+        Ok(Decision {
+            answer: Answer::Begun {
+                chain,
+                stamp,
+                results: told,
+                again: false,
+            },
+            added: Some(Entry::Begun(entry)),
+        })
+    }
+
+    /// Runs hop 0 of a new chain, whose entry has that stamp.
+    fn begin_new(
+        &self,
+        alloc: Global,
+        request: &Request,
+        seen: Stamp,
+        stamp: Stamp,
+    ) -> Result<Decision<Answer>, Memory>
+        requires { stamp ≡ max (clock_of self.now.history.now) seen + 1 }
+        ensures { IfOk result (λ begins. begins ≡ begun_by self.now.set.now self.now.server
+            self.now.history.now request.now seen (meaning self.now.set.now request.now.program 0
+            request.now.args [] (tables_of self.now.set.now self.now.history.now))) }
+    {
+        let cells = tables_of(alloc, self.set, self.history)?;
+        let args = request.args.as_slice();
+        match run_hop(alloc, self.set, request.program, 0, args, &[], &cells) {
+            Ok(ran) => {
+                let (results, _) = ran.spend();
+                self.begun(alloc, request, seen, stamp, results)
+            }
+            Err(HopFault::Refused(need)) => refused(alloc, request, seen, need, stamp),
+            Err(HopFault::Memory) => Err(Memory),
+        }
+    }
+
+    /// What this server answers to a begin, and the entry that it adds. In this order: a request that is recorded;
+    /// what is wrong with it; no room; a chain that has still to return here; else hop 0 runs. The history is gone
+    /// over a few times, and its tables are run from the first entry on.
+    pub fn answer(
+        &self,
+        alloc: Global,
+        request: &Request,
+        seen: Stamp,
+    ) -> Result<Decision<Answer>, Memory>
+        ensures { IfOk result (λ begins. begins
+            ≡ answer self.now.set.now self.now.server self.now.history.now request.now seen) }
+    {
+        if let Some(entry) = record_of(request, self.history) {
+            return Ok(only(recorded_answer(alloc, entry, request)?));
+        }
+        if let Some(fault) = request_fault(self.set, self.server, request) {
+            return Ok(only(fault));
+        }
+        let Some(stamp) = next_stamp(self.history, seen) else {
+            return Ok(only(Answer::Full));
+        };
+        if self.is_busy() {
+            return Ok(only(Answer::Busy));
+        }
+        self.begin_new(alloc, request, seen, stamp)
     }
 }

@@ -2,9 +2,10 @@
 ghost use Rattle.std.specs.Prelude.{◌≡◌, IfOk, Some, None, map, length, nat_eq, ◌≤◌};
 ghost use Rattle.std.specs.List.{list_all, list_any};
 ghost use Rattle.std.specs.Cmp.Lexicographic.{pointwise};
-ghost use Rattle.lynx_server.specs.Checks.{is_key_at, is_action_at, are_keys_placed, request_fault, binds, result_count, begins, fits, fits_program, has_begun, is_well_formed};
+ghost use Rattle.lynx_server.specs.Checks.{is_key_at, is_action_at, are_keys_placed, request_fault, result_count, begins, fits, fits_program, has_begun, is_well_formed};
 ghost use Rattle.lynx_set.specs.Lookups.{program_at};
 
+use crate::view::View;
 use crate::visits::{is_origin, visited};
 use lynx_entry::{Answer, Entry, Message, NumberAt, Request};
 use lynx_hops::value::key_of;
@@ -25,12 +26,9 @@ fn is_key_at(set: &ChainSet, server: ServerId, args: &[u64], table: TableId, key
 fn is_action_at(set: &ChainSet, server: ServerId, args: &[u64], action: Action) -> bool
     ensures { result ≡ is_action_at set.now server args.now action }
 {
-    match action {
-        Action::Get { table, key }
-        | Action::Set { table, key, .. }
-        | Action::Add { table, key, .. }
-        | Action::Sub { table, key, .. } => is_key_at(set, server, args, table, key),
-        Action::Let { .. } | Action::Need { .. } => true,
+    match action.cell() {
+        Some((table, key)) => is_key_at(set, server, args, table, key),
+        None => true,
     }
 }
 
@@ -69,12 +67,6 @@ pub fn request_fault(set: &ChainSet, server: ServerId, request: &Request) -> Opt
     }
 }
 
-fn binds(action: Action) -> bool
-    ensures { result ≡ binds action }
-{
-    matches!(action, Action::Get { .. } | Action::Let { .. })
-}
-
 /// How many values a hop gives.
 fn result_count(hop: &Hop) -> usize
     ensures { result ≡ result_count hop.now }
@@ -82,7 +74,7 @@ fn result_count(hop: &Hop) -> usize
     hop.actions
         .as_slice()
         .iter()
-        .filter(|action| binds(**action))
+        .filter(|action| action.binds())
         .count()
 }
 
@@ -185,16 +177,15 @@ fn began_in(history: &[Entry], message: &Message) -> bool
     history.iter().any(|entry| begins(message, entry))
 }
 
-/// The set and this server's own begins allow the message: somebody may have sent it.
-pub fn is_well_formed(
-    alloc: Global,
-    set: &ChainSet,
-    server: ServerId,
-    history: &[Entry],
-    message: &Message,
-) -> Result<bool, Memory>
-    ensures { IfOk result (λ answer. answer
-        ≡ is_well_formed set.now server history.now message.now) }
-{
-    Ok(fits_program(alloc, set, server, message)? && has_begun(server, history, message))
+impl View<'_> {
+    /// The set and this server's own begins allow the message: somebody may have sent it.
+    pub(crate) fn is_well_formed(&self, alloc: Global, message: &Message) -> Result<bool, Memory>
+        ensures { IfOk result (λ answer. answer
+            ≡ is_well_formed self.now.set.now self.now.server self.now.history.now message.now) }
+    {
+        Ok(
+            fits_program(alloc, self.set, self.server, message)?
+                && has_begun(self.server, self.history, message),
+        )
+    }
 }

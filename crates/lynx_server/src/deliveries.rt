@@ -8,30 +8,23 @@ ghost use Rattle.lynx_server.specs.Deliveries as spec;
 ghost use Rattle.lynx_server.specs.Deliveries.{repeated, done_at, done_by, deliver_new, Gives};
 
 use crate::answers::next_stamp;
-use crate::checks::is_well_formed;
+use crate::decision::Decision;
 use crate::messages::next_of;
 use crate::tables::tables_of;
-use crate::turns::turn_of;
+use crate::view::View;
 use lynx_entry::{Delivered, Entry, HopEntry, Message, NumberAt};
 use lynx_hops::{HopFault, run_hop};
 use lynx_names::{ChainId, Memory, ServerId, Stamp, TryCopy, Values};
 use lynx_set::ChainSet;
 use std::alloc::Global;
 
-/// What comes of a delivery: its answer, and the entry that it adds, if it adds one.
-#[derive(Debug, Drop)]
-pub struct Delivery {
-    pub delivered: Delivered,
-    pub added: Option<Entry>,
-}
-
 /// An answer that adds nothing.
-fn only(delivered: Delivered) -> Delivery
-    ensures delivered { result.delivered ≡ delivered }
+fn only(delivered: Delivered) -> Decision<Delivered>
+    ensures answer { result.answer ≡ delivered }
     ensures added { result.added ≡ None }
 {
-    Delivery {
-        delivered,
+    Decision {
+        answer: delivered,
         added: None,
     }
 }
@@ -89,107 +82,101 @@ pub fn repeated(
     }
 }
 
-/// What comes of a later hop that ran on this message, as the entry with that stamp.
-pub fn done(
-    alloc: Global,
-    set: &ChainSet,
-    message: &Message,
-    stamp: Stamp,
-    results: Values,
-) -> Result<Delivery, Memory>
-    ensures { IfOk result (λ delivery. Gives delivery
-        (done_at set.now [] message.now stamp results)) }
-{
-    let told = results.copy(alloc)?;
-    let message = message.copy(alloc)?;
-    let entry = Entry::Hop(HopEntry {
-        message,
-        stamp,
-        results,
-    });
-    let next = next_of(alloc, set, &entry)?;
-    Ok(Delivery {
-        delivered: Delivered::Done {
+impl View<'_> {
+    /// What comes of a later hop that ran on this message, as the entry with that stamp.
+    fn done(
+        &self,
+        alloc: Global,
+        message: &Message,
+        stamp: Stamp,
+        results: Values,
+    ) -> Result<Decision<Delivered>, Memory>
+        ensures { IfOk result (λ delivery. Gives delivery
+            (done_at self.now.set.now [] message.now stamp results)) }
+    {
+        let told = results.copy(alloc)?;
+        let message = message.copy(alloc)?;
+        let entry = Entry::Hop(HopEntry {
+            message,
             stamp,
-            results: told,
-            next,
-        },
-        added: Some(entry),
-    })
-}
+            results,
+        });
+        let next = next_of(alloc, self.set, &entry)?;
+        Ok(Decision {
+            answer: Delivered::Done {
+                stamp,
+                results: told,
+                next,
+            },
+            added: Some(entry),
+        })
+    }
 
-/// Runs a hop whose turn it is, and whose entry has that stamp.
-fn run_later_hop(
-    alloc: Global,
-    set: &ChainSet,
-    history: &[Entry],
-    message: &Message,
-    stamp: Stamp,
-) -> Result<Delivery, Memory>
-    requires { stamp ≡ max (clock_of history.now) message.now.stamp + 1 }
-    ensures { IfOk result (λ delivery. Gives delivery (done_by set.now history.now [] message.now
-        (meaning set.now message.now.program message.now.hop message.now.args message.now.results
-        (tables_of set.now history.now)))) }
-{
-    let cells = tables_of(alloc, set, history)?;
-    let hop = usize::from(message.hop);
-    let (args, earlier) = (message.args.as_slice(), message.results.as_slice());
-    match run_hop(alloc, set, message.program, hop, args, earlier, &cells) {
-        Ok(ran) => {
-            let (results, _) = ran.spend();
-            done(alloc, set, message, stamp, results)
+    /// Runs a hop whose turn it is, and whose entry has that stamp.
+    fn run_later_hop(
+        &self,
+        alloc: Global,
+        message: &Message,
+        stamp: Stamp,
+    ) -> Result<Decision<Delivered>, Memory>
+        requires { stamp ≡ max (clock_of self.now.history.now) message.now.stamp + 1 }
+        ensures { IfOk result (λ delivery. Gives delivery
+            (done_by self.now.set.now self.now.history.now [] message.now
+            (meaning self.now.set.now message.now.program message.now.hop message.now.args
+            message.now.results (tables_of self.now.set.now self.now.history.now)))) }
+    {
+        let cells = tables_of(alloc, self.set, self.history)?;
+        let hop = usize::from(message.hop);
+        let (args, earlier) = (message.args.as_slice(), message.results.as_slice());
+        match run_hop(alloc, self.set, message.program, hop, args, earlier, &cells) {
+            Ok(ran) => {
+                let (results, _) = ran.spend();
+                self.done(alloc, message, stamp, results)
+            }
+            Err(HopFault::Refused(_)) => Ok(only(Delivered::Malformed)),
+            Err(HopFault::Memory) => Err(Memory),
         }
-        Err(HopFault::Refused(_)) => Ok(only(Delivered::Malformed)),
-        Err(HopFault::Memory) => Err(Memory),
     }
-}
 
-/// What a server with this history, which holds no messages and has no room for any, answers to a delivery, and
-/// the entry that it adds. In this order: a message that nobody can have sent; a hop that ran; a hop whose turn
-/// it is not; no room; else the hop runs. The history is gone over a few times, and its tables are run from the
-/// first entry on.
-pub fn deliver(
-    alloc: Global,
-    set: &ChainSet,
-    server: ServerId,
-    history: &[Entry],
-    message: &Message,
-) -> Result<Delivery, Memory>
-    ensures { IfOk result (λ delivery. Gives delivery
-        (spec.delivery set.now server 0 history.now [] message.now)) }
-{
-    if !is_well_formed(alloc, set, server, history, message)? {
-        return Ok(only(Delivered::Malformed));
+    /// A well formed message of a hop that hasn't run.
+    fn deliver_by_turn(
+        &self,
+        alloc: Global,
+        message: &Message,
+    ) -> Result<Decision<Delivered>, Memory>
+        ensures { IfOk result (λ delivery. Gives delivery (deliver_new self.now.set.now
+            self.now.server 0 self.now.history.now [] message.now None)) }
+    {
+        let number = own_number(message, self.server);
+        let turn = self.turn_of(message.chain.origin) as u64;
+        if number < turn {
+            return Ok(only(Delivered::Malformed));
+        }
+        if number > turn {
+            return Ok(only(Delivered::Dropped));
+        }
+        let Some(stamp) = next_stamp(self.history, message.stamp) else {
+            return Ok(only(Delivered::Full));
+        };
+        self.run_later_hop(alloc, message, stamp)
     }
-    if let Some(entry) = hop_entry_of(message.chain, message.hop, history) {
-        let delivered = repeated(alloc, set, message, entry)?;
-        return Ok(only(delivered));
-    }
-    deliver_by_turn(alloc, set, server, history, message)
-}
 
-/// A well formed message of a hop that hasn't run.
-fn deliver_by_turn(
-    alloc: Global,
-    set: &ChainSet,
-    server: ServerId,
-    history: &[Entry],
-    message: &Message,
-) -> Result<Delivery, Memory>
-    ensures { IfOk result (λ delivery. Gives delivery
-        (deliver_new set.now server 0 history.now [] message.now None)) }
-{
-    let number = own_number(message, server);
-    let origin = message.chain.origin;
-    let turn = turn_of(set, server, history, origin) as u64;
-    if number < turn {
-        return Ok(only(Delivered::Malformed));
+    /// What this server, which holds no messages and has no room for any, answers to a delivery, and the entry that
+    /// it adds. In this order: a message that nobody can have sent; a hop that ran; a hop whose turn it is not; no
+    /// room; else the hop runs. The history is gone over a few times, and its tables are run from the first entry
+    /// on.
+    pub fn deliver(&self, alloc: Global, message: &Message) -> Result<Decision<Delivered>, Memory>
+        ensures { IfOk result (λ delivery. Gives delivery
+            (spec.delivery self.now.set.now self.now.server 0 self.now.history.now []
+            message.now)) }
+    {
+        if !self.is_well_formed(alloc, message)? {
+            return Ok(only(Delivered::Malformed));
+        }
+        if let Some(entry) = hop_entry_of(message.chain, message.hop, self.history) {
+            let delivered = repeated(alloc, self.set, message, entry)?;
+            return Ok(only(delivered));
+        }
+        self.deliver_by_turn(alloc, message)
     }
-    if number > turn {
-        return Ok(only(Delivered::Dropped));
-    }
-    let Some(stamp) = next_stamp(history, message.stamp) else {
-        return Ok(only(Delivered::Full));
-    };
-    run_later_hop(alloc, set, history, message, stamp)
 }

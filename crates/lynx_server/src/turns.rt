@@ -2,6 +2,7 @@
 ghost use Rattle.std.specs.Prelude.{◌≡◌, ◌∷◌, ◌++◌, count_by, IfOk, length, ◌≤◌, ◌^◌, ◌<◌};
 ghost use Rattle.lynx_server.specs.Turns.{is_begun, begun_count, begins_visiting, number_for, leaves, turn_of};
 
+use crate::view::View;
 use crate::visits::{hops_of, is_last_at, visits};
 use lynx_entry::Entry;
 use lynx_names::ServerId;
@@ -30,16 +31,6 @@ fn begins_visiting(set: &ChainSet, server: ServerId, entry: &Entry) -> bool
     }
 }
 
-/// The number that a chain which begins after this history has for a server that it visits.
-pub fn number_for(set: &ChainSet, history: &[Entry], server: ServerId) -> usize
-    ensures { result ≡ number_for set.now history.now server }
-{
-    history
-        .iter()
-        .filter(|entry| begins_visiting(set, server, entry))
-        .count()
-}
-
 /// A chain of that origin ran its last hop at the server.
 fn leaves(set: &ChainSet, server: ServerId, origin: ServerId, entry: &Entry) -> bool
     ensures { result ≡ leaves set.now server origin entry.now }
@@ -57,12 +48,24 @@ fn leaves(set: &ChainSet, server: ServerId, origin: ServerId, entry: &Entry) -> 
     }
 }
 
-/// Whose turn it is at the server, among the chains of that origin.
-pub fn turn_of(set: &ChainSet, server: ServerId, history: &[Entry], origin: ServerId) -> usize
-    ensures { result ≡ turn_of set.now server history.now origin }
-{
-    history
-        .iter()
-        .filter(|entry| leaves(set, server, origin, entry))
-        .count()
+impl View<'_> {
+    /// The number that a chain which begins after this history has for a server that it visits.
+    pub(crate) fn number_for(&self, server: ServerId) -> usize
+        ensures { result ≡ number_for self.now.set.now self.now.history.now server }
+    {
+        self.history
+            .iter()
+            .filter(|entry| begins_visiting(self.set, server, entry))
+            .count()
+    }
+
+    /// Whose turn it is at this server, among the chains of that origin.
+    pub(crate) fn turn_of(&self, origin: ServerId) -> usize
+        ensures { result ≡ turn_of self.now.set.now self.now.server self.now.history.now origin }
+    {
+        self.history
+            .iter()
+            .filter(|entry| leaves(self.set, self.server, origin, entry))
+            .count()
+    }
 }

@@ -11,8 +11,7 @@ use Rattle.lynx_entry.specs.Entry.{History}
 use Rattle.lynx_server.specs.Messages.{next_message}
 use Rattle.lynx_server.specs.Turns.{is_begun, begins_visiting, number_for, begun_count}
 use Rattle.lynx_entry.specs.declared.request.Request.{Request}
-use Rattle.lynx_server.specs.declared.answers.Begins.{Begins}
-use Rattle.lynx_server.specs.Answers.{answer}
+use Rattle.lynx_server.specs.Answers.{Begins, answer}
 use Rattle.lynx_server.specs.Deliveries.{delivery}
 use Rattle.lynx_server.specs.Lawful.{Starts, Runs, message_of}
 use Rattle.lynx_server.proofs.Steps.{begins_visiting-lawful, answer-lawful, delivery-lawful}

@@ -20,8 +20,7 @@ use Rattle.lynx_entry.specs.declared.event.Outcome.TheVariants.{Answered, Delive
 use Rattle.lynx_entry.specs.Entry.{History}
 use Rattle.lynx_keep.specs.Kept.{Kept}
 use Rattle.lynx_turn.specs.Held.{least_of}
-use Rattle.lynx_server.specs.declared.answers.Begins.{Begins}
-use Rattle.lynx_server.specs.Answers.{answer}
+use Rattle.lynx_server.specs.Answers.{Begins, answer}
 use Rattle.lynx_server.specs.Deliveries.{Delivers, delivery, same_hop}
 use Rattle.lynx_server.specs.Lawful.{number_at}
 use Rattle.lynx_server.specs.Turns.{turn_of}

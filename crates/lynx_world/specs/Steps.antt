@@ -8,10 +8,9 @@ use Rattle.lynx_entry.specs.declared.entry.Entry.{Entry}
 use Rattle.lynx_entry.specs.declared.message.Message.{Message}
 use Rattle.lynx_entry.specs.Entry.{History}
 pub use Rattle.lynx_turn.specs.Held.{least_of}
-use Rattle.lynx_server.specs.declared.answers.Begins.{Begins}
 use Rattle.lynx_server.specs.Turns.{turn_of}
 use Rattle.lynx_server.specs.Lawful.{number_at}
-use Rattle.lynx_server.specs.Answers.{answer}
+use Rattle.lynx_server.specs.Answers.{Begins, answer}
 use Rattle.lynx_server.specs.Deliveries.{Delivers, same_chain, same_hop, delivery}
 use Rattle.lynx_entry.specs.declared.event.Event.{Event}
 use Rattle.lynx_entry.specs.declared.event.Event.TheVariants.{Begin, Deliver, Wake, Lost, Restart}

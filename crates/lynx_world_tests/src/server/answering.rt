@@ -2,7 +2,7 @@
 use super::fixtures::{PAY, PUT, SEED, TRIPS, begins, begun, paid, seeded};
 use lynx_entry::{Answer, Entry};
 use lynx_names::{Memory, ServerId};
-use lynx_server::answers::Begins;
+use lynx_server::Decision;
 use lynx_set::ChainSet;
 use std::alloc::Global;
 
@@ -31,7 +31,7 @@ fn answered(
     set: &ChainSet,
     history: &[Entry],
     request: (u64, u8, &[u64]),
-) -> Result<Box<Begins>, Memory> {
+) -> Result<Box<Decision<Answer>>, Memory> {
     begins(alloc, set, ServerId::first(), history, request)
 }
 
@@ -40,7 +40,7 @@ fn after_payment(
     alloc: Global,
     set: &ChainSet,
     request: (u64, u8, &[u64]),
-) -> Result<Box<Begins>, Memory> {
+) -> Result<Box<Decision<Answer>>, Memory> {
     let history = paid(alloc, set)?;
     answered(alloc, set, history.as_slice(), request)
 }
@@ -50,7 +50,7 @@ fn after_seed(
     alloc: Global,
     set: &ChainSet,
     request: (u64, u8, &[u64]),
-) -> Result<Box<Begins>, Memory> {
+) -> Result<Box<Decision<Answer>>, Memory> {
     let history = seeded(alloc, set)?;
     answered(alloc, set, history.as_slice(), request)
 }
@@ -126,7 +126,7 @@ pub fn kinds_after_seed(alloc: Global, set: &ChainSet) -> Result<bool, Memory> {
 }
 
 /// What a second trip is answered while the first one is on its way.
-fn second_trip(alloc: Global, set: &ChainSet) -> Result<Box<Begins>, Memory> {
+fn second_trip(alloc: Global, set: &ChainSet) -> Result<Box<Decision<Answer>>, Memory> {
     let first = begun(alloc, set, (1, TRIPS, &[]))?;
     answered(alloc, set, first.as_slice(), (2, TRIPS, &[]))
 }

@@ -2,8 +2,7 @@
 use super::fixtures::{PAY, TRIPS, begun, delivered, paid};
 use lynx_entry::{Delivered, Entry, Message};
 use lynx_names::{Memory, ServerId};
-use lynx_server::deliveries::{Delivery, deliver};
-use lynx_server::next_of;
+use lynx_server::{Decision, View, next_of};
 use lynx_set::ChainSet;
 use std::alloc::Global;
 
@@ -84,12 +83,12 @@ fn answered(
     set: &ChainSet,
     history: &[Entry],
     message: &Message,
-) -> Result<Box<Delivery>, Memory> {
+) -> Result<Box<Decision<Delivered>>, Memory> {
     delivered(alloc, set, ServerId::at(1), history, message)
 }
 
 /// What the first delivery of the payment is answered.
-fn arrival(alloc: Global, set: &ChainSet) -> Result<Box<Delivery>, Memory> {
+fn arrival(alloc: Global, set: &ChainSet) -> Result<Box<Decision<Delivered>>, Memory> {
     let message = payment(alloc, set)?;
     answered(alloc, set, &[], &message)
 }
@@ -97,12 +96,17 @@ fn arrival(alloc: Global, set: &ChainSet) -> Result<Box<Delivery>, Memory> {
 /// Whether the payment runs its last hop.
 pub fn payment_arrives(alloc: Global, set: &ChainSet) -> Result<bool, Memory> {
     let delivery = arrival(alloc, set)?;
-    Ok(is_done(&delivery.delivered, 3, 0))
+    Ok(is_done(&delivery.answer, 3, 0))
 }
 
 /// The second server's history after the message.
 fn arrived(alloc: Global, set: &ChainSet, message: &Message) -> Result<Vec<Entry>, Memory> {
-    let first = deliver(alloc, set, ServerId::at(1), &[], message)?.added;
+    let view = View {
+        set,
+        server: ServerId::at(1),
+        history: &[],
+    };
+    let first = view.deliver(alloc, message)?.added;
     let entry = first.ok_or(Memory)?;
     let mut history = Vec::new(alloc);
     history.push(entry)?;
@@ -114,13 +118,13 @@ fn answered_again(
     alloc: Global,
     set: &ChainSet,
     message: &Message,
-) -> Result<Box<Delivery>, Memory> {
+) -> Result<Box<Decision<Delivered>>, Memory> {
     let history = arrived(alloc, set, message)?;
     answered(alloc, set, history.as_slice(), message)
 }
 
 /// What the second delivery of the payment is answered.
-fn second_arrival(alloc: Global, set: &ChainSet) -> Result<Box<Delivery>, Memory> {
+fn second_arrival(alloc: Global, set: &ChainSet) -> Result<Box<Decision<Delivered>>, Memory> {
     let message = payment(alloc, set)?;
     answered_again(alloc, set, &message)
 }
@@ -140,7 +144,7 @@ fn is_repeat(delivered: &Delivered) -> bool {
 /// Whether the payment runs its last hop no second time.
 pub fn payment_arrives_once(alloc: Global, set: &ChainSet) -> Result<bool, Memory> {
     let delivery = second_arrival(alloc, set)?;
-    Ok(is_repeat(&delivery.delivered))
+    Ok(is_repeat(&delivery.answer))
 }
 
 /// The message of a trip's second hop.
@@ -150,7 +154,7 @@ fn trip_message(alloc: Global, set: &ChainSet) -> Result<Box<Message>, Memory> {
 }
 
 /// What its delivery is answered.
-fn trip(alloc: Global, set: &ChainSet) -> Result<Box<Delivery>, Memory> {
+fn trip(alloc: Global, set: &ChainSet) -> Result<Box<Decision<Delivered>>, Memory> {
     let message = trip_message(alloc, set)?;
     answered(alloc, set, &[], &message)
 }
@@ -158,5 +162,5 @@ fn trip(alloc: Global, set: &ChainSet) -> Result<Box<Delivery>, Memory> {
 /// Whether the trip goes on to its third hop.
 pub fn trip_goes_on(alloc: Global, set: &ChainSet) -> Result<bool, Memory> {
     let delivery = trip(alloc, set)?;
-    Ok(is_done(&delivery.delivered, 2, 2))
+    Ok(is_done(&delivery.answer, 2, 2))
 }

@@ -1,8 +1,7 @@
 //! Payments between two servers, and trips that come back.
-use lynx_entry::{Entry, Message, Request};
+use lynx_entry::{Answer, Delivered, Entry, Message, Request};
 use lynx_names::{ClientId, Memory, ProgramId, ServerId, Stamp, Values};
-use lynx_server::answers::{Begins, answer};
-use lynx_server::deliveries::{Delivery, deliver};
+use lynx_server::{Decision, View};
 use lynx_set::ChainSet;
 use std::alloc::Global;
 
@@ -50,9 +49,14 @@ fn begins_at(
     server: ServerId,
     history: &[Entry],
     (number, program, args): (u64, u8, &[u64]),
-) -> Result<Begins, Memory> {
+) -> Result<Decision<Answer>, Memory> {
     let request = request(alloc, number, program, args)?;
-    answer(alloc, set, server, history, &request, Stamp::zero())
+    let view = View {
+        set,
+        server,
+        history,
+    };
+    view.answer(alloc, &request, Stamp::zero())
 }
 
 /// The same in a box, which is dropped by one call.
@@ -62,7 +66,7 @@ pub fn begins(
     server: ServerId,
     history: &[Entry],
     request: (u64, u8, &[u64]),
-) -> Result<Box<Begins>, Memory> {
+) -> Result<Box<Decision<Answer>>, Memory> {
     let begins = begins_at(alloc, set, server, history, request)?;
     Ok(Box::new(alloc, begins)?)
 }
@@ -109,7 +113,12 @@ pub fn delivered(
     server: ServerId,
     history: &[Entry],
     message: &Message,
-) -> Result<Box<Delivery>, Memory> {
-    let delivery = deliver(alloc, set, server, history, message)?;
+) -> Result<Box<Decision<Delivered>>, Memory> {
+    let view = View {
+        set,
+        server,
+        history,
+    };
+    let delivery = view.deliver(alloc, message)?;
     Ok(Box::new(alloc, delivery)?)
 }

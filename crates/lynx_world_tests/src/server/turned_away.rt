@@ -4,7 +4,7 @@ use super::messages::{BACK, Change, NEXT, Parts, ROUND, THERE, hop_entry, messag
 use lynx_entry::{Delivered, Entry};
 use lynx_names::limits::STAMP_LIMIT;
 use lynx_names::{Memory, ServerId};
-use lynx_server::deliveries::Delivery;
+use lynx_server::Decision;
 use lynx_set::ChainSet;
 use std::alloc::Global;
 
@@ -34,8 +34,8 @@ fn kind_of(delivered: &Delivered) -> Kind {
 pub type Case = (Change, Kind);
 
 /// Whether the answer is of that kind, and adds an entry only where the hop is done.
-fn is_kind(delivery: &Delivery, want: Kind) -> bool {
-    kind_of(&delivery.delivered) == want && delivery.added.is_some() == (want == Kind::Done)
+fn is_kind(delivery: &Decision<Delivered>, want: Kind) -> bool {
+    kind_of(&delivery.answer) == want && delivery.added.is_some() == (want == Kind::Done)
 }
 
 /// Whether the changed message is answered so, and adds an entry only where its hop is done.

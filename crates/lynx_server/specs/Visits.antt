@@ -1,5 +1,5 @@
 -- Which servers a program visits, and in which hops.
-use Rattle.std.specs.Prelude.{ℕ, ◌==◌, ◌&&◌, Bool, false, not, List, [], ◌∷◌, unwrap_or, option_map, drop, filter}
+use Rattle.std.specs.Prelude.{ℕ, ◌==◌, ◌&&◌, Bool, false, not, List, [], ◌∷◌, drop, filter}
 use Rattle.std.specs.List.{list_any, range_with_len}
 use Rattle.lynx_names.specs.declared.limits.TheConstants.{MAX_SERVERS}
 use Rattle.lynx_set.specs.declared.program.Hop.{Hop}

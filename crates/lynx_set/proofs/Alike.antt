@@ -1,11 +1,11 @@
 -- What `==` says of names, shards and programs.
-use Rattle.std.proofs.Common.{◌≡◌, ◌≤◌, length, ℕ, ◌&&◌, Bool, true, false, List, refl, sym, ap, ◌∙◌}
+use Rattle.std.proofs.Common.{◌≡◌, ◌≤◌, length, ℕ, ◌&&◌, Bool, List, sym, ap, ◌∙◌}
 use Rattle.std.specs.Bool.{Decides}
 use Rattle.std.proofs.Math.Bridge.{le_prop}
 use mathlib.Core.HLevel.{is_prop→PathP}
 use Rattle.lynx_names.specs.declared.limits.TheConstants.{MAX_ACTIONS, MAX_HOPS, MAX_PARAMETERS}
 use Rattle.std.specs.Cmp.Lexicographic.{pointwise, pointwise_decides}
-use Rattle.std.proofs.lemmas.Bool.Decides.{Decides-eqb}
+use Rattle.std.proofs.lemmas.Bool.Decides.{Decides-and, Decides-eqb}
 use denote.Enum.Bare.{same_true, true_same}
 use Rattle.lynx_shards.specs.declared.shard.Shard.{Shard}
 use Rattle.lynx_shards.specs.contracts.shard.ShardPartialEq as shards
@@ -30,10 +30,6 @@ use Rattle.lynx_set.specs.contracts.program.HopPartialEq as hops
 use Rattle.lynx_set.specs.contracts.program.ProgramPartialEq as programs
 use Rattle.lynx_set.proofs.Same.{same_name, same_name-exact, same_name-refl}
 
-both : {P Q : Type 0} (r s : Bool) → Decides r P → Decides s Q → Decides (r && s) (P × Q)
-both true s one other = (λ e. (one.0 refl, other.0 e), λ are. other.1 are.1)
-both false s one other = (λ e. cc, λ are. one.1 are.0)
-
 into : {P Q : Type 0} (r : Bool) → Decides r P → (P → Q) → (Q → P) → Decides r Q
 into r decides to from = (λ e. to (decides.0 e), λ q. decides.1 (from q))
 
@@ -56,17 +52,17 @@ same_operands (Number a) (Name b) = (λ e. cc, λ e. cc)
 same_operands (Name a) (Number b) = (λ e. cc, λ e. cc)
 
 same_actions : (a b : Action) → Decides (actions.TheImpl.ghosts.eq a b) (a ≡ b)
-same_actions (Get t k) (Get u l) = into _ (both _ _ (Decides-eqb t u) (same_keys k l)) (λ p. λ i. Get (p.0 i) (p.1 i)) (λ e. (cc, cc))
+same_actions (Get t k) (Get u l) = into _ (Decides-and _ _ (Decides-eqb t u) (same_keys k l)) (λ p. λ i. Get (p.0 i) (p.1 i)) (λ e. (cc, cc))
 same_actions (Set t k v) (Set u l w) =
-    into _ (both _ _ (Decides-eqb t u) (both _ _ (same_keys k l) (same_operands v w))) (λ p. λ i. Set (p.0 i) (p.1.0 i) (p.1.1 i)) (λ e. (cc, (cc, cc)))
+    into _ (Decides-and _ _ (Decides-eqb t u) (Decides-and _ _ (same_keys k l) (same_operands v w))) (λ p. λ i. Set (p.0 i) (p.1.0 i) (p.1.1 i)) (λ e. (cc, (cc, cc)))
 same_actions (Add t k v) (Add u l w) =
-    into _ (both _ _ (Decides-eqb t u) (both _ _ (same_keys k l) (same_operands v w))) (λ p. λ i. Add (p.0 i) (p.1.0 i) (p.1.1 i)) (λ e. (cc, (cc, cc)))
+    into _ (Decides-and _ _ (Decides-eqb t u) (Decides-and _ _ (same_keys k l) (same_operands v w))) (λ p. λ i. Add (p.0 i) (p.1.0 i) (p.1.1 i)) (λ e. (cc, (cc, cc)))
 same_actions (Sub t k v) (Sub u l w) =
-    into _ (both _ _ (Decides-eqb t u) (both _ _ (same_keys k l) (same_operands v w))) (λ p. λ i. Sub (p.0 i) (p.1.0 i) (p.1.1 i)) (λ e. (cc, (cc, cc)))
+    into _ (Decides-and _ _ (Decides-eqb t u) (Decides-and _ _ (same_keys k l) (same_operands v w))) (λ p. λ i. Sub (p.0 i) (p.1.0 i) (p.1.1 i)) (λ e. (cc, (cc, cc)))
 same_actions (Let a o b) (Let c p d) =
-    into _ (both _ _ (same_operands a c) (both _ _ (same_operators o p) (same_operands b d))) (λ q. λ i. Let (q.0 i) (q.1.0 i) (q.1.1 i)) (λ e. (cc, (cc, cc)))
+    into _ (Decides-and _ _ (same_operands a c) (Decides-and _ _ (same_operators o p) (same_operands b d))) (λ q. λ i. Let (q.0 i) (q.1.0 i) (q.1.1 i)) (λ e. (cc, (cc, cc)))
 same_actions (Need a r b) (Need c s d) =
-    into _ (both _ _ (same_operands a c) (both _ _ (same_relations r s) (same_operands b d))) (λ q. λ i. Need (q.0 i) (q.1.0 i) (q.1.1 i)) (λ e. (cc, (cc, cc)))
+    into _ (Decides-and _ _ (same_operands a c) (Decides-and _ _ (same_relations r s) (same_operands b d))) (λ q. λ i. Need (q.0 i) (q.1.0 i) (q.1.1 i)) (λ e. (cc, (cc, cc)))
 same_actions (Get x y) (Set u v w) = (λ e. cc, λ e. cc)
 same_actions (Get x y) (Add u v w) = (λ e. cc, λ e. cc)
 same_actions (Get x y) (Sub u v w) = (λ e. cc, λ e. cc)
@@ -107,7 +103,7 @@ hop_is a b servers actions = λ i. record {
 
 same_hops : (a b : Hop) → Decides (hops.TheImpl.ghosts.eq a b) (a ≡ b)
 same_hops a b =
-    into _ (both _ _ (Decides-eqb a.server b.server) (pointwise_decides same_actions a.actions b.actions))
+    into _ (Decides-and _ _ (Decides-eqb a.server b.server) (pointwise_decides same_actions a.actions b.actions))
     (λ p. hop_is a b p.0 p.1)
     (λ e. (ap (λ (h : Hop). h.server) e, ap (λ (h : Hop). h.actions) e))
 
@@ -126,20 +122,20 @@ program_is a b parameters names hops = λ i. record {
 
 same_programs : (a b : Program) → Decides (programs.TheImpl.ghosts.eq a b) (a ≡ b)
 same_programs a b =
-    into _ (both _ _ (Decides-eqb a.parameters b.parameters) (both _ _ (pointwise_decides same_names a.names b.names) (pointwise_decides same_hops a.hops b.hops)))
+    into _ (Decides-and _ _ (Decides-eqb a.parameters b.parameters) (Decides-and _ _ (pointwise_decides same_names a.names b.names) (pointwise_decides same_hops a.hops b.hops)))
     (λ p. program_is a b p.0 p.1.0 p.1.1)
     (λ e. (ap (λ (p : Program). p.parameters) e, (ap (λ (p : Program). p.names) e, ap (λ (p : Program). p.hops) e)))
 
 -- programs under their names
 pub same_entries : (a b : List ℕ × Program) → Decides (same_name a.0 b.0 && programs.TheImpl.ghosts.eq a.1 b.1) (a ≡ b)
 same_entries a b =
-    into _ (both _ _ (same_names a.0 b.0) (same_programs a.1 b.1))
+    into _ (Decides-and _ _ (same_names a.0 b.0) (same_programs a.1 b.1))
     (λ p. λ i. (p.0 i, p.1 i))
     (λ e. (ap (λ (x : List ℕ × Program). x.0) e, ap (λ (x : List ℕ × Program). x.1) e))
 
 same_shard : (a b : Shard) → Decides (shards.TheImpl.ghosts.eq a b) (a ≡ b)
 same_shard a b =
-    into _ (both _ _ (Decides-eqb a.low b.low) (both _ _ (Decides-eqb a.high b.high) (Decides-eqb a.server b.server)))
+    into _ (Decides-and _ _ (Decides-eqb a.low b.low) (Decides-and _ _ (Decides-eqb a.high b.high) (Decides-eqb a.server b.server)))
     (λ p. λ i. record { low = p.0 i; high = p.1.0 i; server = p.1.1 i })
     (λ e. (ap (λ (s : Shard). s.low) e, (ap (λ (s : Shard). s.high) e, ap (λ (s : Shard). s.server) e)))
 

@@ -3,7 +3,6 @@ ghost use Rattle.std.specs.Prelude.{◌≡◌, IfOk};
 ghost use Rattle.lynx_entry.specs.declared.entry.Entry.TheVariants.{Begun, Hop};
 ghost use Rattle.lynx_server.specs.Messages.{next_message};
 
-use crate::visits::hops_of;
 use lynx_entry::{BegunEntry, Entry, HopEntry, Message, ResultLists};
 use lynx_names::{Memory, TryCopy};
 use lynx_set::ChainSet;
@@ -13,7 +12,7 @@ use std::alloc::Global;
 fn after_begin(alloc: Global, set: &ChainSet, begun: &BegunEntry) -> Result<Option<Message>, Memory>
     ensures { IfOk result (λ next. next ≡ next_message set.now (Begun begun.now)) }
 {
-    if hops_of(set, begun.request.program).len() <= 1 {
+    if set.hops(begun.request.program).len() <= 1 {
         return Ok(None);
     }
     let args = begun.request.args.copy(alloc)?;
@@ -37,7 +36,7 @@ fn after_hop(alloc: Global, set: &ChainSet, ran: &HopEntry) -> Result<Option<Mes
 {
     let message = &ran.message;
     let next = usize::from(message.hop) + 1;
-    if next >= hops_of(set, message.program).len() {
+    if next >= set.hops(message.program).len() {
         return Ok(None);
     }
     let args = message.args.copy(alloc)?;

@@ -3,7 +3,7 @@ ghost use Rattle.std.specs.Prelude.{◌≡◌, ◌∷◌, ◌++◌, count_by, If
 ghost use Rattle.lynx_server.specs.Turns.{is_begun, begun_count, begins_visiting, number_for, leaves, turn_of};
 
 use crate::view::View;
-use crate::visits::{hops_of, is_last_at, visits};
+use crate::visits::{is_last_at, visits};
 use lynx_entry::Entry;
 use lynx_names::ServerId;
 use lynx_set::ChainSet;
@@ -26,7 +26,7 @@ fn begins_visiting(set: &ChainSet, server: ServerId, entry: &Entry) -> bool
     ensures { result ≡ begins_visiting set.now server entry.now }
 {
     match entry {
-        Entry::Begun(begun) => visits(hops_of(set, begun.request.program), server),
+        Entry::Begun(begun) => visits(set.hops(begun.request.program), server),
         Entry::Refused(_) | Entry::Hop(_) => false,
     }
 }

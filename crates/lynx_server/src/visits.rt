@@ -2,35 +2,24 @@
 ghost use Rattle.std.specs.Prelude.{◌≡◌, ◌≤◌, filter, IfOk};
 ghost use Rattle.std.specs.List.{range_with_len};
 ghost use Rattle.lynx_server.specs.Visits.{is_origin, visits, visited, is_last_at};
-ghost use Rattle.lynx_set.specs.Lookups.{hops_of};
 
 use lynx_names::limits::MAX_SERVERS;
 use lynx_names::{Memory, ProgramId, ServerId};
 use lynx_set::{ChainSet, Hop};
 use std::alloc::Global;
 
-/// The hops of the program, none where the set hasn't it.
-pub fn hops_of(set: &ChainSet, program: ProgramId) -> &[Hop]
-    ensures { result.now ≡ hops_of set.now program }
-{
-    match set.program(program) {
-        Some(program) => program.hops.as_slice(),
-        None => &[],
-    }
-}
-
 /// The server is the program's origin: that of its first hop.
-pub fn is_origin(set: &ChainSet, program: ProgramId, server: ServerId) -> bool
+pub(crate) fn is_origin(set: &ChainSet, program: ProgramId, server: ServerId) -> bool
     ensures { result ≡ is_origin set.now program server }
 {
-    match hops_of(set, program) {
+    match set.hops(program) {
         [] => false,
         [hop, ..] => hop.server == server,
     }
 }
 
 /// One of these hops is at the server.
-pub fn visits(hops: &[Hop], server: ServerId) -> bool
+pub(crate) fn visits(hops: &[Hop], server: ServerId) -> bool
     ensures { result ≡ visits hops.now server }
 {
     hops.iter().any(|hop| hop.server == server)
@@ -40,7 +29,7 @@ pub fn visits(hops: &[Hop], server: ServerId) -> bool
 pub fn is_last_at(set: &ChainSet, server: ServerId, program: ProgramId, hop: usize) -> bool
     ensures { result ≡ is_last_at set.now server program hop }
 {
-    match hops_of(set, program).get(hop..) {
+    match set.hops(program).get(hop..) {
         Some([hop, later @ ..]) => hop.server == server && !visits(later, server),
         _ => false,
     }
@@ -66,5 +55,5 @@ fn visited_below(alloc: Global, hops: &[Hop], end: u8) -> Result<Vec<ServerId>, 
 pub fn visited(alloc: Global, set: &ChainSet, program: ProgramId) -> Result<Vec<ServerId>, Memory>
     ensures { IfOk result (λ servers. servers.items ≡ visited set.now program) }
 {
-    visited_below(alloc, hops_of(set, program), MAX_SERVERS)
+    visited_below(alloc, set.hops(program), MAX_SERVERS)
 }

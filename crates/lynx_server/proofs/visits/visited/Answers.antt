@@ -9,4 +9,4 @@ pub returns : goal.returns
 unfolding visited
 returns c =
     subst (λ hops. IfOk c.visited_below.result (λ servers. servers.items ≡ filter (λ server. visits hops server) (range_with_len 0 MAX_SERVERS)))
-    c.hops_of.ensures c.visited_below.ensures
+    c.hops.ensures c.visited_below.ensures

@@ -6,6 +6,7 @@ pub mod Due
 pub mod FewVisits
 pub mod Growing
 pub mod InRange
+pub mod InHistory
 pub mod Indexing
 pub mod Lasting
 pub mod Owing

@@ -1,18 +1,16 @@
 -- What is told of kept cells that aren't those of the kept entries.
-use Rattle.std.proofs.Common.{◌≡◌, ◌∙◌, ◌↔◌, ℕ, zero, suc, Bool, false, IsTrue, [], ◌∷◌, ◌++◌, length, take, slice_get, Some, inl, inr, append_assoc, refl, sym, ap, subst}
+use Rattle.std.proofs.Common.{◌≡◌, ◌∙◌, ◌↔◌, ℕ, Bool, false, IsTrue, length, inl, inr, refl, sym, ap, subst}
 use Rattle.lynx_cells.specs.Database.{Database}
 use Rattle.lynx_set.specs.Set.{Set}
 use Rattle.lynx_entry.specs.Entry.{History}
 use Rattle.lynx_keep.specs.Kept.{Kept}
 use Rattle.lynx_server.specs.Tables.{tables_of}
-use Rattle.std.proofs.lemmas.List.{append-nil}
-use Rattle.lynx_entry.specs.declared.entry.Entry.{Entry}
-use Rattle.lynx_server.specs.Lawful.{IsLawful}
-use Rattle.lynx_books.specs.History.{IsLawfulAfter, IsLawfulHistory}
+use Rattle.lynx_books.specs.History.{IsLawfulHistory}
 use Rattle.lynx_books.specs.Keeping.{kept_of}
 use Rattle.lynx_books.specs.Opening.{HasOtherCells, IsDamaged}
 use Rattle.lynx_books.specs.Serving.{Serving}
 use Rattle.lynx_books.specs.Repeating.{IsReplayed}
+use Rattle.lynx_books.proofs.InHistory.{lawful_in}
 
 pub other_cells : {K : Type 0} (set : Set) (server : ℕ) (entries : History) (cells : Database) (kept : Kept) (replayed : Serving K) (found : Database) (same : Bool) (place : ℕ) →
     IsReplayed set server entries replayed → entries ≡ kept.entries → cells ≡ kept.cells → found ≡ tables_of replayed.set replayed.history →
@@ -29,19 +27,9 @@ other_cells set server entries cells kept replayed found same place is entries_a
     never : IsTrue same → ⊥
     never same_is = let no = sym differ ∙ same_is in cc
 
-lawful_at : (set : Set) (server : ℕ) (before history : History) (place : ℕ) (entry : Entry) → IsLawfulAfter set server before history →
-    slice_get history place ≡ Some entry → IsLawful set server (before ++ take place history) entry
-lawful_at set server before [] place entry lawful there = cc
-lawful_at set server before (first ∷ history) zero entry lawful there =
-    let same : first ≡ entry = cc in
-    subst (λ h. IsLawful set server h entry) (sym (append-nil before)) (subst (IsLawful set server before) same lawful.0)
-lawful_at set server before (first ∷ history) (suc place) entry lawful there =
-    subst (λ h. IsLawful set server h entry) (append_assoc before (first ∷ []) (take place history))
-    (lawful_at set server (before ++ first ∷ []) history place entry lawful.1 there)
-
 -- what a server keeps is never damaged
 pub never_damaged : (set : Set) (server : ℕ) (history : History) (place : ℕ) → IsLawfulHistory set server history →
     IsDamaged set server (kept_of set history) place → ⊥
 never_damaged set server history place lawful (inl first) =
-    first.unlawful (lawful_at set server [] history place first.entry lawful first.there)
+    first.unlawful (lawful_in set server history place first.entry lawful first.there)
 never_damaged set server history place lawful (inr others) = others.cells_differ refl

@@ -1,8 +1,7 @@
 -- In a lawful history stamps rise, and neither a request nor a hop of a chain has two entries.
-use Rattle.std.proofs.Common.{◌≡◌, ◌≢◌, ℕ, zero, suc, ◌+◌, ◌<◌, ◌≤◌, ◌&&◌, Bool, true, false, find, fold, [], ◌∷◌, ◌++◌, take, length, slice_get, Some, None, nat_eq, inl, inr, append_assoc, count_by, refl, sym, ap, ◌∙◌, subst, arith}
+use Rattle.std.proofs.Common.{◌≡◌, ◌≢◌, ℕ, zero, suc, ◌+◌, ◌<◌, ◌≤◌, ◌&&◌, Bool, true, false, find, fold, [], ◌∷◌, take, length, slice_get, Some, None, nat_eq, inl, inr, count_by, refl, sym, ap, ◌∙◌, arith}
 use Rattle.std.proofs.lemmas.Bool.{cases_lt, eqb-true}
 use Rattle.std.proofs.lemmas.Bool.Decides.{eqb_tells}
-use Rattle.std.proofs.lemmas.List.{append-nil}
 use Rattle.std.proofs.lemmas.List.Sums.{count_by_more_no, count_by_more_yes}
 use Rattle.std.proofs.lemmas.Option.{get_or_from_slice_get, slice_get_within}
 use Rattle.lynx_names.specs.declared.chain.ChainId.{ChainId}
@@ -20,25 +19,11 @@ use Rattle.lynx_server.specs.Turns.{is_begun}
 use Rattle.lynx_server.specs.Tables.{clock_of}
 use Rattle.lynx_server.specs.Lawful.{IsLawful, hop_entry_of, is_hop_of, is_record_of, message_of}
 use Rattle.lynx_books.specs.Acts.{is_act}
-use Rattle.lynx_books.specs.History.{IsLawfulAfter, IsLawfulHistory}
+use Rattle.lynx_books.specs.History.{IsLawfulHistory}
+use Rattle.lynx_books.proofs.InHistory.{lawful_in}
 use Rattle.lynx_books.proofs.Acting.{later}
 use Rattle.lynx_world.proofs.Once.{both, same_name}
 use Rattle.lynx_weave.proofs.Gets.{found_none, get_take, item, none_is}
-
-lawful_at : (set : Set) (server : ℕ) (before history : History) (i : ℕ) (entry : Entry) → IsLawfulAfter set server before history →
-    slice_get history i ≡ Some entry → IsLawful set server (before ++ take i history) entry
-lawful_at set server before [] i entry lawful is = cc
-lawful_at set server before (first ∷ history) zero entry lawful is =
-    let same : first ≡ entry = cc in
-    subst (λ b. IsLawful set server b entry) (sym (append-nil before)) (subst (IsLawful set server before) same lawful.0)
-lawful_at set server before (first ∷ history) (suc i) entry lawful is =
-    subst (λ b. IsLawful set server b entry) (append_assoc before (first ∷ []) (take i history))
-    (lawful_at set server (before ++ first ∷ []) history i entry lawful.1 is)
-
--- each entry is lawful after those before it
-pub lawful_in : (set : Set) (server : ℕ) (history : History) (i : ℕ) (entry : Entry) → IsLawfulHistory set server history →
-    slice_get history i ≡ Some entry → IsLawful set server (take i history) entry
-lawful_in set server history i entry lawful is = lawful_at set server [] history i entry lawful is
 
 -- ---- stamps
 

@@ -21,7 +21,8 @@ use Rattle.lynx_weave.specs.Lists.{ComesBefore, IsInOrder, IsListOf, entry_in}
 use Rattle.lynx_weave.specs.Orders.{IsLeastNext, IsNextAt, next_in}
 use Rattle.lynx_weave.specs.Senders.{AreAllSent}
 use Rattle.lynx_weave.proofs.Gets.{get_take, in_place, item, take_next, take_whole}
-use Rattle.lynx_weave.proofs.Lawfuls.{above_message, lawful_in, rises}
+use Rattle.lynx_weave.proofs.Lawfuls.{above_message, rises}
+use Rattle.lynx_books.proofs.InHistory.{lawful_in}
 use Rattle.lynx_weave.proofs.Sending.{AreLawful, entry_here, entry_there, sender_is, stamp_sent}
 
 -- as many entries of each history are in the list, which is legal and in order, and comes before what is left

@@ -19,7 +19,8 @@ use Rattle.lynx_weave.specs.Orders.{IsLeastNext, IsNextAt, IsOrderOf}
 use Rattle.lynx_weave.specs.Rebuilt.{AreRebuilt, histories_of}
 use Rattle.lynx_weave.specs.Senders.{AreAllSent}
 use Rattle.lynx_weave.proofs.Agreements.{history_there}
-use Rattle.lynx_weave.proofs.Lawfuls.{few_before, lawful_in}
+use Rattle.lynx_weave.proofs.Lawfuls.{few_before}
+use Rattle.lynx_books.proofs.InHistory.{lawful_in}
 use Rattle.lynx_weave.proofs.Merging.{IsAt, IsMergedTo, merged_end, merged_start, merged_step, some_then}
 use Rattle.lynx_weave.proofs.Servings.{lawful_all, many_of, server_of}
 

@@ -29,7 +29,8 @@ use Rattle.lynx_weave.specs.Lists.{entry_in}
 use Rattle.lynx_weave.specs.Senders.{AreAllSent, AreSent, IsSentBefore, IsUnsent, sent_before}
 use Rattle.lynx_weave.specs.Weaving.{IsUnsentAt}
 use Rattle.lynx_weave.proofs.Gets.{found_at, found_none, found_passes}
-use Rattle.lynx_weave.proofs.Lawfuls.{lawful_in, sole_act}
+use Rattle.lynx_weave.proofs.Lawfuls.{sole_act}
+use Rattle.lynx_books.proofs.InHistory.{lawful_in}
 
 -- each server's history is lawful
 abbrev pub AreLawful : Set → List History → Type 0

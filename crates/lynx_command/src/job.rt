@@ -36,7 +36,7 @@ pub enum CommandFault {
 pub const INPUT: &str = "-";
 
 /// What `run` and its words ask for: `-` alone is standard input, and any other set wants a script.
-pub fn job_of_run<'a>(set: &'a str, script: Option<&'a str>) -> Result<Job<'a>, CommandFault>
+pub(crate) fn job_of_run<'a>(set: &'a str, script: Option<&'a str>) -> Result<Job<'a>, CommandFault>
     ensures { RunsAs set.now (option_map (λ own. own.now) script.entry) result }
 {
     match script {

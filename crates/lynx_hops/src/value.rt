@@ -20,7 +20,7 @@ pub fn key_of(args: &[u64], key: Key) -> u64
     }
 }
 
-pub fn value_of(names: &[u64], operand: Operand) -> u64
+pub(crate) fn value_of(names: &[u64], operand: Operand) -> u64
     ensures { result ≡ value_of names.now operand }
 {
     match operand {
@@ -29,7 +29,7 @@ pub fn value_of(names: &[u64], operand: Operand) -> u64
     }
 }
 
-pub fn result_of(operator: Operator, left: u64, right: u64) -> u64
+pub(crate) fn result_of(operator: Operator, left: u64, right: u64) -> u64
     ensures { result ≡ result_of operator left right }
 {
     match operator {
@@ -38,7 +38,7 @@ pub fn result_of(operator: Operator, left: u64, right: u64) -> u64
     }
 }
 
-pub fn is_met(relation: Relation, left: u64, right: u64) -> bool
+pub(crate) fn is_met(relation: Relation, left: u64, right: u64) -> bool
     ensures { result ≡ is_met relation left right }
 {
     match relation {

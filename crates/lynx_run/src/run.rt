@@ -147,7 +147,7 @@ fn run_event<W: Write>(
 }
 
 /// Runs the events in order, and writes a line for each.
-pub fn run_events<W: Write>(
+fn run_events<W: Write>(
     alloc: Global,
     world: &mut World,
     events: Vec<Event>,

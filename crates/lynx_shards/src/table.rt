@@ -90,7 +90,7 @@ impl TableShards {
     }
 
     /// The shards, in order.
-    pub fn into_shards(self) -> Items<Shard>
+    pub(crate) fn into_shards(self) -> Items<Shard>
         ensures { result ≡ self }
     {
         self.shards

@@ -79,7 +79,8 @@ fn first_step(
     here: &Node,
     arrival: &Arrival,
 ) -> Option<Step>
-    ensures { result ≡ first_step nodes.now start.now table.now here.now arrival.now here.now.exits }
+    ensures { result ≡ first_step nodes.now start.now table.now here.now arrival.now
+        here.now.exits }
 {
     let exits = here.exits.as_slice();
     for exit in exits {

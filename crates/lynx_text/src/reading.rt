@@ -307,7 +307,8 @@ fn read_hops(
 ) -> Result<(), FaultKind>
     ensures value { Gives (λ _. (plain_program program.new, lines.new)) result
         (parts goes_hop (next_hop (plain_set set.now))
-        (MAX_HOPS - length (plain_program program.old).hops) (plain_program program.old) lines.old) }
+        (MAX_HOPS - length (plain_program program.old).hops) (plain_program program.old)
+        lines.old) }
     ensures shrinks { OnOk result (length lines.new ≤ length lines.old) }
 {
     'hops: while lines.begins_with(b"hop".as_slice()) {
@@ -394,7 +395,8 @@ fn add_action(
     actions: &mut Items<Action>,
 ) -> Result<(), FaultKind>
     ensures value { Gives (λ _. ((plain_program program.new, actions.new), lines.new)) result
-        (next_action (plain_set set.now) server (plain_program program.old, actions.old) lines.old) }
+        (next_action (plain_set set.now) server (plain_program program.old, actions.old)
+        lines.old) }
     ensures shrinks { OnOk result (length lines.new < length lines.old) }
     ensures count { OnOk result (length actions.new ≡ length actions.old + 1) }
     ensures few { OnOk result (length actions.new ≤ MAX_ACTIONS) }

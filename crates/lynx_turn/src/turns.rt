@@ -80,8 +80,8 @@ impl Turns {
     /// A chain of the origin is through. Takes no memory.
     pub fn done(&mut self, origin: ServerId)
         requires { slice_index self.old origin < MAX_ENTRIES }
-        ensures { (other : ℕ) → slice_index self.new other
-            ≡ (if origin == other then slice_index self.old other + 1 else slice_index self.old other) }
+        ensures { (other : ℕ) → slice_index self.new other ≡ (if origin == other
+            then slice_index self.old other + 1 else slice_index self.old other) }
     {
         self.counts[origin.index()] += 1;
     }

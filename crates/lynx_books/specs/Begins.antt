@@ -1,16 +1,19 @@
 -- The states of a begin.
-use Rattle.std.specs.Prelude.{◌≡◌, ℕ, ◌+◌, false, max, Option, Some, None, List, [], Ok, Err}
+use Rattle.std.specs.Prelude.{◌≡◌, ℕ, ◌+◌, false, max, Option, Some, None, List, [], Result, Ok, Err, IfOk, OnOk, OnErr}
 use Rattle.lynx_cells.specs.Database.{applied}
 use Rattle.lynx_hops.specs.Meaning.{meaning}
 use Rattle.lynx_names.specs.declared.numbers.NumberAt.{NumberAt}
 use Rattle.lynx_entry.specs.declared.request.Request.{Request}
 use Rattle.lynx_entry.specs.declared.entry.BegunEntry.{BegunEntry}
 use Rattle.lynx_entry.specs.declared.entry.Entry.{Entry}
+use Rattle.lynx_keep.specs.Kept as keep
+use Rattle.lynx_keep.specs.declared.fault.KeepFault.{KeepFault}
 use Rattle.lynx_server.specs.Turns.{begun_count, numbers_of}
 use Rattle.lynx_server.specs.Tables.{clock_of, tables_of}
 use Rattle.lynx_server.specs.Checks.{request_fault}
 use Rattle.lynx_server.specs.Lawful.{record_of}
 use Rattle.lynx_server.specs.Answers.{Begins, is_full, is_busy, begun_by}
+use Rattle.lynx_books.specs.declared.steps.Kept.{Kept}
 use Rattle.lynx_books.specs.declared.steps.Taken.{Taken}
 use Rattle.lynx_books.specs.declared.steps.RanStep.{RanStep}
 use Rattle.lynx_books.specs.declared.steps.RefusedStep.{RefusedStep}
@@ -18,6 +21,7 @@ use Rattle.lynx_books.specs.declared.steps.Stepped.{Stepped}
 use Rattle.lynx_books.specs.declared.steps.Stepped.TheVariants.{Ran, Refused}
 use Rattle.lynx_books.specs.Books.{BooksState}
 use Rattle.lynx_books.specs.History.{grown}
+use Rattle.lynx_books.specs.Keeping.{Commits, kept_of}
 
 -- nothing answers the request before its hop runs
 pub record IsDue (books : BooksState) (request : Request) (seen : ℕ) : Type 0 where
@@ -25,6 +29,12 @@ pub record IsDue (books : BooksState) (request : Request) (seen : ℕ) : Type 0 
   pub in_order : request_fault books.set books.server request ≡ None
   pub room : is_full books.history seen ≡ false
   pub not_busy : is_busy books.set books.server books.history ≡ false
+
+-- the request can be begun now: no draw is out, and the stamp is the next one
+pub record CanBegin (books : BooksState) (request : Request) (seen stamp : ℕ) : Type 0 where
+  pub free : books.out ≡ None
+  pub due : IsDue books request seen
+  pub stamp_is : stamp ≡ max (clock_of books.history) seen + 1
 
 -- what comes of a request that is due
 abbrev pub due : BooksState → Request → ℕ → Begins
@@ -35,6 +45,15 @@ due books request seen =
 -- the books with what was added, and no draw out
 abbrev pub books_with : BooksState → Option Entry → BooksState
 books_with books added = record { set = books.set; server = books.server; history = grown books.history added; out = None }
+
+-- a begin was answered and kept; an error leaves the books as they were, and no draw out
+pub record KeepsBegin {K : Type 0} (sound : K → Type 0) (keeps : K → keep.Kept → Type 0) (counted : K → ℕ) (keeper keeper_after : K)
+    (books : BooksState) (request : Request) (seen : ℕ) (result : Result Kept KeepFault) (books_after : BooksState) : Type 0 where
+  pub answer : IfOk result (λ kept. kept.answer ≡ (due books request seen).answer)
+  pub grows : OnOk result (books_after ≡ books_with books (due books request seen).added)
+  pub err : OnErr result (books_after ≡ books_with books None)
+  pub commits : Commits sound keeps counted keeper keeper_after (kept_of books.set books.history)
+      (kept_of books.set (grown books.history (due books request seen).added)) result
 
 -- the entry of a chain that begins next
 abbrev pub begun_entry : BooksState → Request → ℕ → ℕ → List NumberAt → List ℕ → BegunEntry

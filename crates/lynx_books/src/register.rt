@@ -1,12 +1,10 @@
 //! The books of a server with indexes: where the record of each request is, and the entry of each later hop.
-ghost use Rattle.std.specs.Prelude.{◌≡◌, ◌+◌, ◌<◌, None, IfOk, OnErr, OnOk, false, [], length, max, option_copied};
-ghost use Rattle.lynx_names.specs.declared.limits.TheConstants.{MAX_ENTRIES};
+ghost use Rattle.std.specs.Prelude.{◌≡◌, IfOk, OnErr, OnOk, [], option_copied};
 ghost use Rattle.lynx_server.specs.Lawful.{hop_entry_of, record_of};
-ghost use Rattle.lynx_server.specs.Tables.{clock_of};
 ghost use Rattle.lynx_books.specs.Acts.{act_of};
 ghost use Rattle.lynx_books.specs.Hops as hops;
 ghost use Rattle.lynx_books.specs.Hops.{came};
-ghost use Rattle.lynx_books.specs.Begins.{IsDue, books_with, due};
+ghost use Rattle.lynx_books.specs.Begins.{CanBegin, KeepsBegin};
 ghost use Rattle.lynx_books.specs.Books.{IsFoundAt};
 ghost use Rattle.lynx_books.specs.Keeping.{Commits, kept_of};
 ghost use Rattle.lynx_books.specs.History.{grown};
@@ -128,17 +126,9 @@ impl Register {
         seen: Stamp,
         stamp: Stamp,
     ) -> Result<Kept, KeepFault>
-        requires free { self.old.out ≡ None }
-        requires due { IsDue self.old request seen }
-        requires room { length self.old.history < MAX_ENTRIES }
-        requires stamp { stamp ≡ max (clock_of self.old.history) seen + 1 }
-        ensures answer { IfOk result (λ kept. kept.answer ≡ (due self.old request seen).answer) }
-        ensures grown { OnOk result (self.new ≡ books_with self.old
-            (due self.old request seen).added) }
-        ensures err { OnErr result (self.new ≡ self.old) }
-        ensures commits { Commits K.sound K.keeps K.counted keeper.old keeper.new
-            (kept_of self.old.set self.old.history)
-            (kept_of self.old.set (grown self.old.history (due self.old request seen).added)) result }
+        requires { CanBegin self.old request seen stamp }
+        ensures { KeepsBegin K.sound K.keeps K.counted keeper.old keeper.new
+            self.old request seen result self.new }
     {
         let key = (request.client, request.number);
         let place = self.books.len();

@@ -1,11 +1,9 @@
 //! The states of a begin. Each must be spent by the call that makes the next.
-ghost use Rattle.std.specs.Prelude.{◌≡◌, ◌+◌, ◌<◌, None, IfOk, OnErr, OnOk, Some, false, length, max};
+ghost use Rattle.std.specs.Prelude.{◌≡◌, ◌+◌, ◌<◌, None, IfOk, OnErr, OnOk, Some, length, max};
 ghost use Rattle.lynx_names.specs.declared.limits.TheConstants.{MAX_ENTRIES};
 ghost use Rattle.lynx_server.specs.Tables.{clock_of};
 ghost use Rattle.lynx_server.specs.Turns.{begun_count, number_for};
-ghost use Rattle.lynx_books.specs.Begins.{AreAlike, begun_entry, HasRefused, HasRun, HasStepped, IsDue, IsTaken, books_with, due};
-ghost use Rattle.lynx_books.specs.Keeping.{Commits, kept_of};
-ghost use Rattle.lynx_books.specs.History.{grown};
+ghost use Rattle.lynx_books.specs.Begins.{AreAlike, CanBegin, HasRefused, HasRun, HasStepped, IsDue, IsTaken, KeepsBegin, begun_entry};
 
 use crate::books::Books;
 use lynx_cells::Changes;
@@ -198,15 +196,8 @@ impl RanStep {
     ) -> Result<Kept, KeepFault>
         requires ran { HasRun books.old self.taken.request self.taken.seen self }
         requires due { IsDue books.old self.taken.request self.taken.seen }
-        ensures answer { IfOk result (λ kept. kept.answer ≡
-            (due books.old self.taken.request self.taken.seen).answer) }
-        ensures grown { OnOk result (books.new ≡ books_with books.old
-            (due books.old self.taken.request self.taken.seen).added) }
-        ensures err { OnErr result (books.new ≡ books_with books.old None) }
-        ensures commits { Commits K.sound K.keeps K.counted keeper.old keeper.new
-            (kept_of books.old.set books.old.history)
-            (kept_of books.old.set (grown books.old.history
-            (due books.old self.taken.request self.taken.seen).added)) result }
+        ensures { KeepsBegin K.sound K.keeps K.counted keeper.old keeper.new
+            books.old self.taken.request self.taken.seen result books.new }
     {
         let RanStep { taken, ran } = self;
         let Taken {
@@ -242,15 +233,8 @@ impl RefusedStep {
     ) -> Result<Kept, KeepFault>
         requires refused { HasRefused books.old self.request self.seen self }
         requires due { IsDue books.old self.request self.seen }
-        ensures answer { IfOk result (λ kept. kept.answer ≡
-            (due books.old self.request self.seen).answer) }
-        ensures grown { OnOk result (books.new ≡ books_with books.old
-            (due books.old self.request self.seen).added) }
-        ensures err { OnErr result (books.new ≡ books_with books.old None) }
-        ensures commits { Commits K.sound K.keeps K.counted keeper.old keeper.new
-            (kept_of books.old.set books.old.history)
-            (kept_of books.old.set (grown books.old.history
-            (due books.old self.request self.seen).added)) result }
+        ensures { KeepsBegin K.sound K.keeps K.counted keeper.old keeper.new
+            books.old self.request self.seen result books.new }
     {
         let RefusedStep {
             request,
@@ -285,17 +269,9 @@ impl Books {
         seen: Stamp,
         stamp: Stamp,
     ) -> Result<Kept, KeepFault>
-        requires free { self.old.out ≡ None }
-        requires due { IsDue self.old request seen }
-        requires room { length self.old.history < MAX_ENTRIES }
-        requires stamp { stamp ≡ max (clock_of self.old.history) seen + 1 }
-        ensures answer { IfOk result (λ kept. kept.answer ≡ (due self.old request seen).answer) }
-        ensures grown { OnOk result (self.new ≡ books_with self.old
-            (due self.old request seen).added) }
-        ensures err { OnErr result (self.new ≡ self.old) }
-        ensures commits { Commits K.sound K.keeps K.counted keeper.old keeper.new
-            (kept_of self.old.set self.old.history)
-            (kept_of self.old.set (grown self.old.history (due self.old request seen).added)) result }
+        requires { CanBegin self.old request seen stamp }
+        ensures { KeepsBegin K.sound K.keeps K.counted keeper.old keeper.new
+            self.old request seen result self.new }
     {
         let taken = self.take(alloc, request, seen, stamp)?;
         match taken.run(alloc, self)? {

@@ -13,7 +13,7 @@ invariant_of-self-in-Ok g c =
     let books = c.self.inside.books in
     let one = one_record books request c.args.seen in
     let new : record_of request books.history ≡ None = rw (← c.self.view_is) at c.requires.due.new in
-    let grew : c.begin_new.new.self.history ≡ grown books.history _ = ap (λ (s : BooksState). s.history) c.in-Ok.ensures.grown in
+    let grew : c.begin_new.new.self.history ≡ grown books.history _ = ap (λ (s : BooksState). s.history) c.in-Ok.ensures.grows in
     subst (λ (history : History). IsRegister history c.insert.new.self c.self.inside.hops) (sym (grew ∙ ap (grown books.history) one.added_is))
     (record {
       requests_are = indexed_more request_cmp keeps_request books.history one.entry (request.client, request.number) c.self.inside.requests c.insert.new.self

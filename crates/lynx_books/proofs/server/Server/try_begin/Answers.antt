@@ -38,7 +38,7 @@ returns-in-Ok-clause-tried g c =
       room = rw here at c.in-Some-next_stamp.ensures.0;
       not_busy = sym (rw here at c.if-is_busy.ensures);
     } in
-    let grew = c.in-Ok.ensures.grown in
+    let grew = c.in-Ok.ensures.grows in
     rw (← c.self.view_is)
     (answered _ _ request seen _ _ (due-answer books request seen is) (c.answer.ensures ∙ c.in-Ok.ensures.answer)
     (record {
@@ -57,4 +57,4 @@ invariant_of-self-in-Ok g c =
     let here : c.books-books.result.now ≡ books = c.books-books.ensures in
     let counted : length books.history ≡ c.len.result = ap (λ (b : BooksState). length b.history) (sym here) ∙ sym c.len.ensures in
     let room = c.in_ok-make_mark_room.ensures.room in
-    serves_on _ _ _ books _ _ _ _ _ _ _ _ c.self.invariant c.in-Ok.ensures.grown c.in-Ok.ensures.commits (omega (arith, counted, room))
+    serves_on _ _ _ books _ _ _ _ _ _ _ _ c.self.invariant c.in-Ok.ensures.grows c.in-Ok.ensures.commits (omega (arith, counted, room))

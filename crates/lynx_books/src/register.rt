@@ -20,7 +20,7 @@ use std::collections::BTreeMap;
 use std::marker::Model;
 
 /// The books of a server, and where its records are. Contracts see the books.
-#[derive(Debug, Drop)]
+#[derive(Debug)]
 pub struct Register {
     pub(crate) books: Books,
     /// The place of the entry that keeps the answer to a request, by client and number.
@@ -39,6 +39,17 @@ impl Model for Register {
 
     ghost invariant = { λ register. IsRegister register.books.history register.requests
         register.hops };
+}
+
+// Written out, so that whoever drops a server calls this, and needn't take it apart.
+impl Drop for Register {
+    fn drop(self) {
+        let Register {
+            books: _,
+            requests: _,
+            hops: _,
+        } = self;
+    }
 }
 
 impl Register {

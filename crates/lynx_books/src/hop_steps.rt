@@ -6,11 +6,13 @@ ghost use Rattle.lynx_books.specs.Hops.{HasCome, HasRun, IsDue, hop_entry};
 ghost use Rattle.lynx_books.specs.Keeping.{Commits, kept_of};
 
 use crate::books::Books;
+use crate::keeping::release;
 use lynx_entry::{Delivered, Entry, HopEntry, Message};
 use lynx_hops::{HopFault, Ran, run_hop};
 use lynx_keep::{KeepFault, Keeper};
-use lynx_names::{Memory, Stamp, TryCopy};
+use lynx_names::{Memory, Stamp, TryCopy, Values};
 use lynx_server::next_of;
+use lynx_set::ChainSet;
 use std::alloc::Global;
 
 /// A checked message, with the stamp of its entry.
@@ -75,6 +77,41 @@ impl TakenMessage {
     }
 }
 
+/// What a hop that ran will need, made before the commit.
+#[derive(Drop)]
+struct ReadyHop {
+    entry: Entry,
+    delivered: Delivered,
+}
+
+impl TakenMessage {
+    /// The entry of the hop, and the answer, with the message that the hop sends.
+    fn ready(self, alloc: Global, set: &ChainSet, results: Values) -> Result<ReadyHop, Memory>
+        ensures entry { IfOk result (λ ready. ready.entry
+            ≡ Hop (hop_entry self.message self.stamp results)) }
+        ensures delivered { IfOk result (λ ready. ready.delivered
+            ≡ (done_at set.now [] self.message self.stamp results).delivered) }
+    {
+        let TakenMessage { message, stamp } = self;
+        let told = results.copy(alloc)?;
+        let entry = Entry::Hop(HopEntry {
+            message,
+            stamp,
+            results,
+        });
+        let Ok(next) = next_of(alloc, set, &entry) else {
+            release(entry);
+            return Err(Memory);
+        };
+        let delivered = Delivered::Done {
+            stamp,
+            results: told,
+            next,
+        };
+        Ok(ReadyHop { entry, delivered })
+    }
+}
+
 impl RanMessage {
     /// What the hop did is forgotten.
     pub(crate) fn release(self) {
@@ -106,21 +143,10 @@ impl RanMessage {
             ++ Hop (hop_entry self.taken.message self.taken.stamp self.ran.0) ∷ [])) result }
     {
         let RanMessage { taken, ran } = self;
-        let TakenMessage { message, stamp } = taken;
         let (results, changes) = ran.spend();
-        let told = results.copy(alloc)?;
-        let entry = Entry::Hop(HopEntry {
-            message,
-            stamp,
-            results,
-        });
-        let next = next_of(alloc, &books.set, &entry)?;
+        let ready = taken.ready(alloc, &books.set, results)?;
+        let ReadyHop { entry, delivered } = ready;
         books.keep_other(alloc, keeper, entry, changes)?;
-        let delivered = Delivered::Done {
-            stamp,
-            results: told,
-            next,
-        };
         Ok(KeptHop { delivered })
     }
 }

@@ -35,6 +35,17 @@ fn make_room(
     Ok(())
 }
 
+/// An entry that wasn't kept is let go.
+pub(crate) fn release(entry: Entry) {
+    let _ = entry;
+}
+
+/// .. and its changes with it.
+fn release_both(entry: Entry, changes: Changes) {
+    release(entry);
+    let _ = changes;
+}
+
 impl Books {
     /// Keeps the entry of a chain that began, and binds its numbers. A fault gives them back.
     pub(crate) fn keep_begun<K: Keeper>(
@@ -71,10 +82,12 @@ impl Books {
         .is_err()
         {
             draw.give_back(&mut self.sequencer);
+            release_both(entry, changes);
             return Err(KeepFault::Memory);
         }
         if let Err(fault) = keeper.commit(alloc, &entry, &changes) {
             draw.give_back(&mut self.sequencer);
+            release_both(entry, changes);
             return Err(fault);
         }
         let _ = draw.bind(&mut self.sequencer);
@@ -108,13 +121,21 @@ impl Books {
     {
         // A lawful entry is in range where the server's number is.
         let _ = self.server().number();
-        make_room(
+        if make_room(
             &mut self.history,
             &mut self.chains,
             &mut self.cells,
             &changes,
-        )?;
-        keeper.commit(alloc, &entry, &changes)?;
+        )
+        .is_err()
+        {
+            release_both(entry, changes);
+            return Err(KeepFault::Memory);
+        }
+        if let Err(fault) = keeper.commit(alloc, &entry, &changes) {
+            release_both(entry, changes);
+            return Err(fault);
+        }
         count_turn(&self.set, self.server, &mut self.turns, &entry);
         self.cells.apply(changes);
         self.history.push_reserved(entry);

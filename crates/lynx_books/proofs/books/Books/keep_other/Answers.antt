@@ -14,10 +14,10 @@ invariant_of-self-2 g c =
     let history = c.self.inside.history.items in
     let lawful : IsLawful set server history c.args.entry = rw (← c.self.view_is) at c.requires.lawful in
     let changes : AreChangesOf set history c.args.entry c.args.changes = rw (← c.self.view_is) at c.requires.changes in
-    rw (c.push_reserved.ensures.items, c.in_ok-make_room.ensures.history)
+    rw (c.push_reserved.ensures.items, c.make_room.ensures.history)
     (books_with_other set server history c.args.entry c.self.inside.sequencer.counters c.self.inside.turns c.self.inside.chains.items c.self.inside.cells.database
-    c.args.changes _ _ _ c.self.invariant c.requires.other lawful c.count_turn.ensures c.in_ok-make_room.ensures.chains
-    (c.apply.ensures.database ∙ ap (applied c.args.changes) c.in_ok-make_room.ensures.cells) changes)
+    c.args.changes _ _ _ c.self.invariant c.requires.other lawful c.count_turn.ensures c.make_room.ensures.chains
+    (c.apply.ensures.database ∙ ap (applied c.args.changes) c.make_room.ensures.cells) changes)
 
 pub commit-requires : goal.commit-requires
 commit-requires g c = record {

@@ -46,6 +46,13 @@ pub due-by : (books : BooksState) (request : Request) (seen : ℕ) (outcome : Ho
     due books request seen ≡ begun_by books.set books.server books.history request seen outcome
 due-by books request seen outcome is = ap (begun_by books.set books.server books.history request seen) is
 
+-- equal numbers and results make the same entry
+pub same_begun : (books : BooksState) (request : Request) (seen stamp : ℕ) (begun : BegunEntry) (numbers drawn : List NumberAt) (results given : List ℕ) →
+    begun ≡ begun_entry books request seen stamp numbers results → numbers ≡ drawn → results ≡ given →
+    begun ≡ begun_entry books request seen stamp drawn given
+same_begun books request seen stamp begun numbers drawn results given is drawn_are given_are =
+    is ∙ ap (λ n. begun_entry books request seen stamp n results) drawn_are ∙ ap (begun_entry books request seen stamp drawn) given_are
+
 -- the entry of a hop 0 that ran is lawful
 pub run-lawful : (books : BooksState) (request : Request) (seen stamp : ℕ) (numbers : List NumberAt) (results : List ℕ) (db : Database) (begun : BegunEntry) →
     IsDue books request seen → number_for books.set books.history books.server ≡ begun_count books.history →

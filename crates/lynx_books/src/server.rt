@@ -93,8 +93,8 @@ impl<K: Keeper> Server<K> {
               keeper = keeper;
             }) }
     {
-        let set = set.copy(alloc)?;
         let held = HeldBuffer::new(alloc)?;
+        let set = set.copy(alloc)?;
         let opened = keeper.faults();
         Ok(Server {
             register: Register::new(alloc, Books::new(alloc, set, server)),

@@ -40,7 +40,7 @@ pub(crate) fn release(entry: Entry) {
     let _ = entry;
 }
 
-/// .. and its changes with it.
+/// An entry that wasn't kept is let go, and its changes with it.
 fn release_both(entry: Entry, changes: Changes) {
     release(entry);
     let _ = changes;

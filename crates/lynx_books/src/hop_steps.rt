@@ -112,6 +112,11 @@ impl TakenMessage {
     }
 }
 
+/// An answer that isn't given is forgotten.
+fn forget(delivered: Delivered) {
+    let _ = delivered;
+}
+
 impl RanMessage {
     /// What the hop did is forgotten.
     pub(crate) fn release(self) {
@@ -146,8 +151,13 @@ impl RanMessage {
         let (results, changes) = ran.spend();
         let ready = taken.ready(alloc, &books.set, results)?;
         let ReadyHop { entry, delivered } = ready;
-        books.keep_other(alloc, keeper, entry, changes)?;
-        Ok(KeptHop { delivered })
+        match books.keep_other(alloc, keeper, entry, changes) {
+            Ok(()) => Ok(KeptHop { delivered }),
+            Err(fault) => {
+                forget(delivered);
+                Err(fault)
+            }
+        }
     }
 }
 

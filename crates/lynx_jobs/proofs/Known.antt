@@ -7,14 +7,11 @@ use Rattle.lynx_run.specs.declared.verdict.Finding.{Finding}
 use Rattle.lynx_run.specs.Drawings.{Draws}
 use Rattle.lynx_jobs.specs.Done.{HasDrawn, HasRun, HasRunTexts}
 use Rattle.lynx_jobs.specs.Statuses.{status_of_finding}
-
--- the front of a source, as far as a text may reach
-abbrev pub IsFront : List ℕ → Option (List ℕ) → Type 0
-IsFront text known = IfSome known (λ bytes. text ≡ take MAX_FILE_BYTES bytes)
+use Rattle.lynx_jobs.specs.Stopped.{IsFront}
 
 -- a picture of one source
 pub drawn_known : (known : Option (List ℕ)) (text slice : List ℕ) (old new : Option (List ℕ)) (finding : Finding) (status : ℕ) →
-    IsFront text known → slice ≡ text → status ≡ status_of_finding finding →
+    IsFront MAX_FILE_BYTES known text → slice ≡ text → status ≡ status_of_finding finding →
     (picture : List ℕ) × Draws slice finding picture × Appends old new picture →
     IfSome known (λ bytes. HasDrawn bytes old new status)
 drawn_known None text slice old new finding status front same status_is drawn = front
@@ -35,7 +32,7 @@ both_known set script set_source script_source old new status set_is script_is r
     (subst (λ (text : List ℕ). HasRunTexts set text old new status) script_is run)
 
 pub run_known : {F : Type 0} (result : Result ℕ F) (set_known script_known : Option (List ℕ)) (set script set_slice script_slice : List ℕ) (old new : Option (List ℕ)) →
-    IsFront set set_known → IsFront script script_known → set_slice ≡ set → script_slice ≡ script →
+    IsFront MAX_FILE_BYTES set_known set → IsFront MAX_FILE_BYTES script_known script → set_slice ≡ set → script_slice ≡ script →
     IfOk result (λ status. HasRunTexts set_slice script_slice old new status) →
     IfOk result (λ status. IfSome set_known (λ set_bytes. IfSome script_known (λ script_bytes. HasRun set_bytes script_bytes old new status)))
 run_known (Err fault) set_known script_known set script set_slice script_slice old new set_is script_is s t run = run

@@ -3,6 +3,7 @@ ghost use Rattle.std.specs.Prelude.{◌≡◌, IfOk, IfErr, IfSome, Ok, Err, tak
 ghost use Rattle.lynx_input.specs.declared.source.TheConstants.{MAX_FILE_BYTES};
 ghost use Rattle.lynx_jobs.specs.Statuses.{status_of_ending, status_of_finding};
 ghost use Rattle.lynx_jobs.specs.Done.{HasChecked, HasDrawn, HasRun, HasRunInput, HasRunTexts};
+ghost use Rattle.lynx_jobs.specs.Stopped.{StopsChecking, StopsDrawing, StopsReading, StopsRun, StopsRunInput, StopsRunTexts};
 
 use crate::fault::Fault;
 use lynx_input::{MAX_FILE_BYTES, MAX_INPUT_BYTES, read_all, split_input};
@@ -42,8 +43,9 @@ pub(crate) fn read_text<'a, R: Read>(
     name: &'a str,
     source: &mut R,
 ) -> Result<Vec<u8>, Fault<'a>>
-    ensures { IfOk result (λ text. IfSome (R.remaining source.old) (λ bytes.
+    ensures ok { IfOk result (λ text. IfSome (R.remaining source.old) (λ bytes.
         text.items ≡ take MAX_FILE_BYTES bytes)) }
+    ensures err { IfErr result (StopsReading name.now) }
 {
     match read_all(alloc, source, MAX_FILE_BYTES) {
         Ok(text) => Ok(text),
@@ -58,8 +60,10 @@ pub fn check_source<'a, R: Read, W: Write>(
     source: &mut R,
     writer: &mut W,
 ) -> Result<u8, Fault<'a>>
-    ensures { IfOk result (λ status. IfSome (R.remaining source.old) (λ bytes.
+    ensures ok { IfOk result (λ status. IfSome (R.remaining source.old) (λ bytes.
         HasChecked bytes (W.contents writer.old) (W.contents writer.new) status)) }
+    ensures err { IfErr result (StopsChecking (R.remaining source.old) name.now
+        (W.contents writer.old) (W.contents writer.new)) }
 {
     let text = read_text(alloc, name, source)?;
     match check_text(alloc, text.as_slice(), writer) {
@@ -75,8 +79,10 @@ pub fn draw_source<'a, R: Read, W: Write>(
     source: &mut R,
     writer: &mut W,
 ) -> Result<u8, Fault<'a>>
-    ensures { IfOk result (λ status. IfSome (R.remaining source.old) (λ bytes.
+    ensures ok { IfOk result (λ status. IfSome (R.remaining source.old) (λ bytes.
         HasDrawn bytes (W.contents writer.old) (W.contents writer.new) status)) }
+    ensures err { IfErr result (StopsDrawing (R.remaining source.old) name.now
+        (W.contents writer.old) (W.contents writer.new)) }
 {
     let text = read_text(alloc, name, source)?;
     match draw_text(alloc, text.as_slice(), writer) {
@@ -92,8 +98,10 @@ fn run_both<'a, W: Write>(
     script: &[u8],
     writer: &mut W,
 ) -> Result<u8, Fault<'a>>
-    ensures { IfOk result (λ status.
+    ensures ok { IfOk result (λ status.
         HasRunTexts set.now script.now (W.contents writer.old) (W.contents writer.new) status) }
+    ensures err { IfErr result (StopsRunTexts set.now script.now
+        (W.contents writer.old) (W.contents writer.new)) }
 {
     match run_texts(alloc, set, script, writer) {
         Ok(ending) => Ok(status_of_ending(ending)),
@@ -110,9 +118,11 @@ pub fn run_sources<'a, R: Read, S: Read, W: Write>(
     script: &mut S,
     writer: &mut W,
 ) -> Result<u8, Fault<'a>>
-    ensures { IfOk result (λ status. IfSome (R.remaining set.old) (λ set_bytes.
+    ensures ok { IfOk result (λ status. IfSome (R.remaining set.old) (λ set_bytes.
         IfSome (S.remaining script.old) (λ script_bytes.
         HasRun set_bytes script_bytes (W.contents writer.old) (W.contents writer.new) status))) }
+    ensures err { IfErr result (StopsRun (R.remaining set.old) set_name.now
+        (S.remaining script.old) script_name.now (W.contents writer.old) (W.contents writer.new)) }
 {
     let set = read_text(alloc, set_name, set)?;
     let script = read_text(alloc, script_name, script)?;
@@ -126,8 +136,10 @@ pub fn run_input<'a, R: Read, W: Write>(
     source: &mut R,
     writer: &mut W,
 ) -> Result<u8, Fault<'a>>
-    ensures { IfOk result (λ status. IfSome (R.remaining source.old) (λ bytes.
+    ensures ok { IfOk result (λ status. IfSome (R.remaining source.old) (λ bytes.
         HasRunInput bytes (W.contents writer.old) (W.contents writer.new) status)) }
+    ensures err { IfErr result (StopsRunInput (R.remaining source.old) name.now
+        (W.contents writer.old) (W.contents writer.new)) }
 {
     let input = match read_all(alloc, source, MAX_INPUT_BYTES) {
         Ok(input) => input,

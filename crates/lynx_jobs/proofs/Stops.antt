@@ -1,0 +1,100 @@
+-- Where a fault stops a job.
+use Rattle.std.proofs.Common.{◌≡◌, ℕ, List, [], Option, Some, None, Result, Ok, Err, refl, sym, subst, inl, inr}
+use Rattle.std.specs.Prelude.{IfErr, take}
+use Rattle.std.specs.Io.KnownBytes.{Keeps}
+use Rattle.std.proofs.KnownBytes.{Keeps-refl}
+use Rattle.lynx_input.specs.declared.source.TheConstants.{MAX_FILE_BYTES, MAX_INPUT_BYTES}
+use Rattle.lynx_input.specs.Inputs.{HasNoCut}
+use Rattle.lynx_run.specs.declared.run.RunFault.{RunFault}
+use Rattle.lynx_run.specs.declared.run.RunFault.TheVariants.{Memory}
+use Rattle.lynx_run.specs.Checks.{BeginsFinding, NoVerdictFor}
+use Rattle.lynx_run.specs.Drawings.{BeginsPicture, NoPictureFor}
+use Rattle.lynx_run.specs.Runs.{StopsFor}
+use Rattle.lynx_jobs.specs.declared.fault.Fault.{Fault}
+use Rattle.lynx_jobs.specs.declared.fault.Fault.TheVariants.{Command, NoSeparator, Unread, Run}
+use Rattle.lynx_jobs.specs.Stopped.{IsFront, StopsChecking, StopsDrawing, StopsReading, StopsRun, StopsRunTexts}
+
+-- every source has a front
+front_of : (limit : ℕ) (source : Option (List ℕ)) → (read : List ℕ) × IsFront limit source read
+front_of limit None = ([], tt)
+front_of limit (Some bytes) = (take limit bytes, refl)
+
+-- a source that wasn't read
+pub check_unread : (result : Result ℕ Fault) (source : Option (List ℕ)) (name : List ℕ) (old : Option (List ℕ)) → IfErr result (StopsReading name) →
+    IfErr result (StopsChecking source name old old)
+check_unread (Ok status) source name old unread = tt
+check_unread (Err (Unread shown)) source name old same = (same, Keeps-refl old)
+check_unread (Err (Run fault)) source name old wanting =
+    let front = front_of MAX_FILE_BYTES source in
+    (front.0, front.1, subst (NoVerdictFor front.0 (Keeps old old)) (sym wanting) tt, inl (Keeps-refl old))
+check_unread (Err NoSeparator) source name old never = absurd never
+check_unread (Err (Command fault)) source name old never = absurd never
+
+pub drawing_unread : (result : Result ℕ Fault) (source : Option (List ℕ)) (name : List ℕ) (old : Option (List ℕ)) → IfErr result (StopsReading name) →
+    IfErr result (StopsDrawing source name old old)
+drawing_unread (Ok status) source name old unread = tt
+drawing_unread (Err (Unread shown)) source name old same = (same, Keeps-refl old)
+drawing_unread (Err (Run fault)) source name old wanting =
+    let front = front_of MAX_FILE_BYTES source in
+    (front.0, front.1, subst (NoPictureFor front.0 (Keeps old old)) (sym wanting) (Keeps-refl old), inl (Keeps-refl old))
+drawing_unread (Err NoSeparator) source name old never = absurd never
+drawing_unread (Err (Command fault)) source name old never = absurd never
+
+-- two sources, one of which wasn't read
+run_wanting : (set script : Option (List ℕ)) (old : Option (List ℕ)) (fault : RunFault) → fault ≡ Memory →
+    (set_text : List ℕ) × (script_text : List ℕ) × IsFront MAX_FILE_BYTES set set_text × IsFront MAX_FILE_BYTES script script_text
+    × StopsRunTexts set_text script_text old old (Run fault)
+run_wanting set script old fault wanting =
+    let first = front_of MAX_FILE_BYTES set in
+    let second = front_of MAX_FILE_BYTES script in
+    (first.0, second.0, first.1, second.1, (subst (StopsFor first.0 second.0 (Keeps old old)) (sym wanting) tt, inl (Keeps-refl old)))
+
+pub run_without_set : (result : Result ℕ Fault) (set : Option (List ℕ)) (set_name : List ℕ) (script : Option (List ℕ)) (script_name : List ℕ) (old : Option (List ℕ)) →
+    IfErr result (StopsReading set_name) → IfErr result (StopsRun set set_name script script_name old old)
+run_without_set (Ok status) set set_name script script_name old unread = tt
+run_without_set (Err (Unread shown)) set set_name script script_name old same = (inl same, Keeps-refl old)
+run_without_set (Err (Run fault)) set set_name script script_name old wanting = run_wanting set script old fault wanting
+run_without_set (Err NoSeparator) set set_name script script_name old never = absurd never
+run_without_set (Err (Command fault)) set set_name script script_name old never = absurd never
+
+pub run_without_script : (result : Result ℕ Fault) (set : Option (List ℕ)) (set_name : List ℕ) (script : Option (List ℕ)) (script_name : List ℕ) (old : Option (List ℕ)) →
+    IfErr result (StopsReading script_name) → IfErr result (StopsRun set set_name script script_name old old)
+run_without_script (Ok status) set set_name script script_name old unread = tt
+run_without_script (Err (Unread shown)) set set_name script script_name old same = (inr same, Keeps-refl old)
+run_without_script (Err (Run fault)) set set_name script script_name old wanting = run_wanting set script old fault wanting
+run_without_script (Err NoSeparator) set set_name script script_name old never = absurd never
+run_without_script (Err (Command fault)) set set_name script script_name old never = absurd never
+
+-- a source that was read
+read_front : (limit : ℕ) (source : Option (List ℕ)) (read slice : List ℕ) → IsFront limit source read → slice ≡ read → IsFront limit source slice
+read_front limit source read slice front same = subst (IsFront limit source) (sym same) front
+
+pub check_stops : (source : Option (List ℕ)) (name read slice : List ℕ) (old new : Option (List ℕ)) (fault : RunFault) → IsFront MAX_FILE_BYTES source read →
+    slice ≡ read → NoVerdictFor slice (Keeps old new) fault → BeginsFinding slice old new → StopsChecking source name old new (Run fault)
+check_stops source name read slice old new fault front same why begun = (slice, read_front MAX_FILE_BYTES source read slice front same, why, begun)
+
+pub drawing_stops : (source : Option (List ℕ)) (name read slice : List ℕ) (old new : Option (List ℕ)) (fault : RunFault) → IsFront MAX_FILE_BYTES source read →
+    slice ≡ read → NoPictureFor slice (Keeps old new) fault → BeginsPicture slice old new → StopsDrawing source name old new (Run fault)
+drawing_stops source name read slice old new fault front same why begun = (slice, read_front MAX_FILE_BYTES source read slice front same, why, begun)
+
+-- two sources that were read
+pub run_stops : (result : Result ℕ Fault) (set : Option (List ℕ)) (set_name : List ℕ) (script : Option (List ℕ)) (script_name : List ℕ)
+    (set_read script_read set_slice script_slice : List ℕ) (old new : Option (List ℕ)) →
+    IsFront MAX_FILE_BYTES set set_read → IsFront MAX_FILE_BYTES script script_read → set_slice ≡ set_read → script_slice ≡ script_read →
+    IfErr result (StopsRunTexts set_slice script_slice old new) → IfErr result (StopsRun set set_name script script_name old new)
+run_stops (Ok status) set set_name script script_name set_read script_read set_slice script_slice old new set_is script_is s t stops = tt
+run_stops (Err (Run fault)) set set_name script script_name set_read script_read set_slice script_slice old new set_is script_is s t stops = (
+  set_slice,
+  script_slice,
+  read_front MAX_FILE_BYTES set set_read set_slice set_is s,
+  read_front MAX_FILE_BYTES script script_read script_slice script_is t,
+  stops,
+)
+run_stops (Err (Unread shown)) set set_name script script_name set_read script_read set_slice script_slice old new set_is script_is s t stops = absurd stops
+run_stops (Err NoSeparator) set set_name script script_name set_read script_read set_slice script_slice old new set_is script_is s t stops = absurd stops
+run_stops (Err (Command fault)) set set_name script script_name set_read script_read set_slice script_slice old new set_is script_is s t stops = absurd stops
+
+-- an input without a separator
+pub input_uncut : (source : Option (List ℕ)) (read slice : List ℕ) (old : Option (List ℕ)) → IsFront MAX_INPUT_BYTES source read → slice ≡ read → HasNoCut slice →
+    (input : List ℕ) × IsFront MAX_INPUT_BYTES source input × HasNoCut input × Keeps old old
+input_uncut source read slice old front same none = (slice, read_front MAX_INPUT_BYTES source read slice front same, none, Keeps-refl old)

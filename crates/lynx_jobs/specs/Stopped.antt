@@ -1,0 +1,70 @@
+-- Why a job stops, and what it has written by then: told of what was read of its sources.
+use Rattle.std.specs.Prelude.{◌≡◌, ◌⊎◌, ℕ, List, Option, IfSome, take}
+use Rattle.std.specs.Io.KnownBytes.{Keeps}
+use Rattle.lynx_input.specs.declared.source.TheConstants.{MAX_FILE_BYTES, MAX_INPUT_BYTES}
+use Rattle.lynx_input.specs.Inputs.{HasNoCut, IsCut}
+use Rattle.lynx_run.specs.declared.run.RunFault.TheVariants.{Memory}
+use Rattle.lynx_run.specs.Checks.{BeginsFinding, NoVerdictFor}
+use Rattle.lynx_run.specs.Drawings.{BeginsPicture, NoPictureFor}
+use Rattle.lynx_run.specs.Runs.{StopsFor}
+use Rattle.lynx_run.specs.Written.{WritesPart}
+use Rattle.lynx_jobs.specs.declared.fault.Fault.{Fault}
+use Rattle.lynx_jobs.specs.declared.fault.Fault.TheVariants.{Command, NoSeparator, Unread, Run}
+
+-- what is read of a source, up to a limit, where the source's bytes are known
+abbrev pub IsFront : ℕ → Option (List ℕ) → List ℕ → Type 0
+IsFront limit source read = IfSome source (λ bytes. read ≡ take limit bytes)
+
+-- a reading: the source of this name can't be read, or memory is wanting
+abbrev pub StopsReading : List ℕ → Fault → Type 0
+StopsReading name (Unread shown) = shown.name.now ≡ name
+StopsReading name (Run fault) = fault ≡ Memory
+StopsReading name NoSeparator = ⊥
+StopsReading name (Command fault) = ⊥
+
+-- a check: the source of this name can't be read, and nothing is written; or the text that was read has no verdict, or
+-- memory or the writer fails, and nothing is written or a beginning of the verdict
+abbrev pub StopsChecking : Option (List ℕ) → List ℕ → Option (List ℕ) → Option (List ℕ) → Fault → Type 0
+StopsChecking source name old new (Unread shown) = (shown.name.now ≡ name) × Keeps old new
+StopsChecking source name old new (Run fault) =
+    (text : List ℕ) × IsFront MAX_FILE_BYTES source text × NoVerdictFor text (Keeps old new) fault × BeginsFinding text old new
+StopsChecking source name old new NoSeparator = ⊥
+StopsChecking source name old new (Command fault) = ⊥
+
+-- a drawing: the same of the picture, and where memory is wanting nothing is written
+abbrev pub StopsDrawing : Option (List ℕ) → List ℕ → Option (List ℕ) → Option (List ℕ) → Fault → Type 0
+StopsDrawing source name old new (Unread shown) = (shown.name.now ≡ name) × Keeps old new
+StopsDrawing source name old new (Run fault) =
+    (text : List ℕ) × IsFront MAX_FILE_BYTES source text × NoPictureFor text (Keeps old new) fault × BeginsPicture text old new
+StopsDrawing source name old new NoSeparator = ⊥
+StopsDrawing source name old new (Command fault) = ⊥
+
+-- a run of this script over this set: one of them is faulty, and nothing is written; or memory or the writer fails, and
+-- nothing is written or a beginning of the run's lines
+abbrev pub StopsRunTexts : List ℕ → List ℕ → Option (List ℕ) → Option (List ℕ) → Fault → Type 0
+StopsRunTexts set script old new (Run fault) = StopsFor set script (Keeps old new) fault × WritesPart set script old new
+StopsRunTexts set script old new (Unread shown) = ⊥
+StopsRunTexts set script old new NoSeparator = ⊥
+StopsRunTexts set script old new (Command fault) = ⊥
+
+-- a run of two sources: one of them can't be read, and nothing is written; or the run of what was read of them stops
+abbrev pub StopsRun : Option (List ℕ) → List ℕ → Option (List ℕ) → List ℕ → Option (List ℕ) → Option (List ℕ) → Fault → Type 0
+StopsRun set set_name script script_name old new (Unread shown) =
+    ((shown.name.now ≡ set_name) ⊎ (shown.name.now ≡ script_name)) × Keeps old new
+StopsRun set set_name script script_name old new (Run fault) =
+    (set_text : List ℕ) × (script_text : List ℕ) × IsFront MAX_FILE_BYTES set set_text × IsFront MAX_FILE_BYTES script script_text
+    × StopsRunTexts set_text script_text old new (Run fault)
+StopsRun set set_name script script_name old new NoSeparator = ⊥
+StopsRun set set_name script script_name old new (Command fault) = ⊥
+
+-- a run of an input: it can't be read, or memory is wanting for it, or no line of it is `--`, and nothing is written;
+-- or the run of its two parts stops
+abbrev pub StopsRunInput : Option (List ℕ) → List ℕ → Option (List ℕ) → Option (List ℕ) → Fault → Type 0
+StopsRunInput source name old new (Unread shown) = (shown.name.now ≡ name) × Keeps old new
+StopsRunInput source name old new NoSeparator =
+    (input : List ℕ) × IsFront MAX_INPUT_BYTES source input × HasNoCut input × Keeps old new
+StopsRunInput source name old new (Run fault) =
+    ((fault ≡ Memory) × Keeps old new)
+    ⊎ ((input : List ℕ) × (set : List ℕ) × (script : List ℕ) × IsFront MAX_INPUT_BYTES source input × IsCut input set script
+    × StopsRunTexts set script old new (Run fault))
+StopsRunInput source name old new (Command fault) = ⊥

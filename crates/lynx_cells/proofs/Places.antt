@@ -11,7 +11,7 @@ use Rattle.std.proofs.lemmas.List.Sorted.{searchable_from_sorted}
 use Rattle.lynx_cells.specs.Database.{cell_cmp}
 use Rattle.lynx_cells.proofs.CellOrder.{cell_cmp_total, cell_cmp_exact, first_part, second_part, is_lt_less}
 use Rattle.lynx_cells.specs.Triples.{entry_of, entries_of, RisesByCell}
-use Rattle.lynx_cells.specs.Place.{IsPlaceOf, IsGapFor}
+use Rattle.lynx_cells.specs.inner.Place.{IsPlaceOf, IsGapFor}
 
 -- the cell of a triple
 abbrev cell_of : ℕ × ℕ × ℕ → ℕ × ℕ

@@ -1,4 +1,4 @@
 pub mod Database
 pub mod Triples
 pub mod Contents
-pub mod Place
+pub mod inner

@@ -93,9 +93,9 @@ impl Cells {
     }
 
     /// Writes the changes. Takes no memory.
-    pub fn apply(&mut self, changes: Changes)
-        requires { IsStaged self.old changes }
-        ensures database { self.new.database ≡ applied changes self.old.database }
+    pub fn apply(&mut self, changes: &Changes)
+        requires { IsStaged self.old changes.now }
+        ensures database { self.new.database ≡ applied changes.now self.old.database }
         ensures staged { self.new.staged ≡ self.old.staged }
     {
         for &(table, key, value) in changes.list() {

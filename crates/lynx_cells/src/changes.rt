@@ -2,7 +2,7 @@ ghost use Rattle.std.specs.Prelude.{◌≡◌, IsSome, IsOk, OnOk, OnErr, IfOk, 
 ghost use Rattle.std.specs.FinMap as map;
 ghost use Rattle.lynx_cells.specs.Database.{cell_cmp, Database, applied, with_value};
 ghost use Rattle.lynx_cells.specs.Triples.{entries_of, triples_of, RisesByCell};
-ghost use Rattle.lynx_cells.specs.Place.{IsPlaceOf, IsGapFor};
+ghost use Rattle.lynx_cells.specs.inner.Place.{IsPlaceOf, IsGapFor};
 
 use lynx_names::{Memory, TableId};
 use std::alloc::Global;

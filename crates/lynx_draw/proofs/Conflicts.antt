@@ -8,7 +8,7 @@ use Rattle.std.proofs.lemmas.List.Elements.{All-append, All-map, All-nil, All-we
 use Rattle.lynx_set.specs.Set.{Set}
 use Rattle.lynx_foot.specs.Conflicts.{MayConflict}
 use Rattle.lynx_graph.proofs.Decides.{Decides-joins as Decides-graph_joins}
-use Rattle.lynx_draw.specs.declared.edges.Place.{Place}
+use Rattle.lynx_graph.specs.declared.meeting.Place.{Place}
 use Rattle.lynx_draw.specs.declared.edges.Edge.{Edge}
 use Rattle.lynx_draw.specs.Edges.{HasConflicts, IsConflict, edges_among, edges_from, edges_of, joins, places_of}
 

@@ -1,28 +1,11 @@
 -- The hops of a set, and which two of them may conflict.
-use Rattle.std.specs.Prelude.{◌≡◌, ◌≤◌, Bool, ◌&&◌, ℕ, List, [], ◌∷◌, ◌++◌, Contains, Some, map, filter, length, slice_get}
-use Rattle.std.specs.List.{flat_map, range_with_len}
+use Rattle.std.specs.Prelude.{◌≡◌, ◌≤◌, ℕ, List, [], ◌∷◌, ◌++◌, Contains, Some, map, filter, slice_get}
 use Rattle.lynx_set.specs.Set.{Set}
-use Rattle.lynx_set.specs.Lookups.{hops_of, server_at}
-use Rattle.lynx_foot.specs.Feet.{footprint_of}
 use Rattle.lynx_foot.specs.Conflicts.{MayConflict}
-use Rattle.lynx_foot.specs.Tests.{some_may_collide}
-use Rattle.lynx_graph.specs.Tests.{same_server}
-use Rattle.lynx_draw.specs.declared.edges.Place.{Place}
+pub use Rattle.lynx_graph.specs.declared.meeting.Place.{Place}
+pub use Rattle.lynx_graph.specs.Nodes.{places_in, places_of}
+pub use Rattle.lynx_graph.specs.Tests.{joins}
 use Rattle.lynx_draw.specs.declared.edges.Edge.{Edge}
-
--- whether the hops may conflict
-abbrev pub joins : Set → Place → Place → Bool
-joins set left right =
-    same_server (server_at set left.program left.hop) (server_at set right.program right.hop)
-    && some_may_collide (footprint_of set left.program left.hop) (footprint_of set right.program right.hop)
-
--- the hops of a program
-abbrev pub places_in : Set → ℕ → List Place
-places_in set program = map (λ hop. record { program = program; hop = hop }) (range_with_len 0 (length (hops_of set program)))
-
--- all hops, by program and then by number
-abbrev pub places_of : Set → List Place
-places_of set = flat_map (places_in set) (range_with_len 0 (length set.programs))
 
 -- a hop with each of the others that it may conflict with
 abbrev pub edges_from : Set → Place → List Place → List Edge

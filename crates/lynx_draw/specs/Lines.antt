@@ -3,7 +3,7 @@ use Rattle.std.specs.Prelude.{not, ◌+◌, ℕ, List, [], ◌∷◌, ◌++◌, 
 use Rattle.std.specs.List.{flat_map}
 use Rattle.lynx_set.specs.Set.{Set}
 use Rattle.lynx_draw.specs.declared.edges.Edge.{Edge}
-use Rattle.lynx_draw.specs.declared.edges.Place.{Place}
+use Rattle.lynx_graph.specs.declared.meeting.Place.{Place}
 use Rattle.lynx_draw.specs.declared.spot.Spot.{Spot}
 use Rattle.lynx_draw.specs.declared.steps.Step.{Step}
 use Rattle.lynx_draw.specs.declared.steps.Way.{Way}

@@ -5,7 +5,7 @@ use Rattle.lynx_set.specs.Set.{Set}
 use Rattle.lynx_foot.specs.declared.foot.Foot.{Foot}
 use Rattle.lynx_foot.specs.Feet.{footprint_of}
 use Rattle.lynx_foot.specs.Tests.{may_collide}
-use Rattle.lynx_draw.specs.declared.edges.Place.{Place}
+use Rattle.lynx_graph.specs.declared.meeting.Place.{Place}
 
 -- whether some two feet may collide in the table of that number
 abbrev pub met_at : List Foot → List Foot → ℕ → Bool

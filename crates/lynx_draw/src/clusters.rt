@@ -5,9 +5,10 @@ ghost use Rattle.lynx_words.specs.Lines.{spaced};
 ghost use Rattle.lynx_set.specs.Lookups.{program_name};
 ghost use Rattle.lynx_draw.specs.Clusters.{cluster_label, cluster_name, cluster_text, clusters_text, first_label, parameters_of, program_text, second_label};
 
-use crate::edges::{Edge, program_of};
+use crate::edges::Edge;
 use crate::nodes::put_hops;
 use crate::spot::is_drawn_twice;
+use lynx_graph::program_of;
 use lynx_names::{Memory, ProgramId};
 use lynx_set::ChainSet;
 use lynx_text::printing::put_word;

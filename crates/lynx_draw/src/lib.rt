@@ -1,7 +1,8 @@
 //! A picture of a set of chain programs, as a graph that Graphviz draws.
 #![tactic(auto)]
 
-pub use edges::{Edge, Place, conflict_edges};
+pub use edges::{Edge, conflict_edges};
+pub use lynx_graph::Place;
 pub use picture::draw;
 
 mod clusters;

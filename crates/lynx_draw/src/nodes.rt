@@ -6,8 +6,8 @@ ghost use Rattle.lynx_set.specs.Text.{bound_in};
 ghost use Rattle.lynx_draw.specs.Nodes.{action_text, actions_text, arrow_text, drawn_hops, hop_label, hop_text, node_end, node_head, node_line, spot_at};
 
 use crate::colours::colour_of;
-use crate::edges::Place;
 use crate::spot::{Spot, put_spot};
+use lynx_graph::Place;
 use lynx_names::{Memory, ProgramId, ServerId};
 use lynx_set::{Action, ChainSet, Hop};
 use lynx_text::printing::{bound_names, put_action_words, put_number};

@@ -2,33 +2,14 @@
 
 ghost use Rattle.std.specs.Prelude.{◌≡◌, ◌++◌, ◌==◌, ◌&&◌, IfOk, OnOk};
 ghost use Rattle.std.specs.List.{list_any};
-ghost use Rattle.lynx_foot.specs.Tests.{may_collide, may_meet};
+ghost use Rattle.lynx_foot.specs.Tests.{may_collide};
 ghost use Rattle.lynx_draw.specs.Tables.{listed, met_at, listed_after, tables_met};
 
-use crate::edges::Place;
-use lynx_foot::{Foot, footprint};
+use lynx_foot::{Foot, feet_may_collide, footprint};
+use lynx_graph::Place;
 use lynx_names::Memory;
-use lynx_set::{ChainSet, Key, Name};
+use lynx_set::{ChainSet, Name};
 use std::alloc::Global;
-
-/// Whether the keys aren't two different literals.
-fn keys_may_meet(left: Key, right: Key) -> bool
-    ensures { result ≡ may_meet left right }
-{
-    match (left, right) {
-        (Key::Literal(left), Key::Literal(right)) => left == right,
-        _ => true,
-    }
-}
-
-/// Whether the feet collide with some arguments.
-fn feet_may_collide(left: Foot, right: Foot) -> bool
-    ensures { result ≡ may_collide left right }
-{
-    left.table == right.table
-        && keys_may_meet(left.key, right.key)
-        && !left.kind.commutes(right.kind)
-}
 
 /// Whether the foot may collide with one of the others.
 fn collides_with_any(left: Foot, rights: &[Foot]) -> bool

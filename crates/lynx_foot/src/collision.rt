@@ -10,7 +10,7 @@ use lynx_names::ProgramId;
 use lynx_set::{Action, ChainSet};
 
 /// Whether the touches are of one cell, and their kinds don't commute.
-fn collide(left: Touch, right: Touch) -> bool
+pub fn touches_collide(left: Touch, right: Touch) -> bool
     ensures { result ≡ collide left right }
 {
     left.table == right.table && left.key == right.key && !left.kind.commutes(right.kind)
@@ -25,7 +25,7 @@ fn collides_with_any(left: Touch, actions: &[Action], args: &[u64]) -> bool
         .iter()
         .filter_map(|action| foot_of(*action))
         .map(|foot| touch_of(args, foot))
-        .any(|right| collide(left, right))
+        .any(|right| touches_collide(left, right))
 }
 
 /// Whether some two actions of the hops collide.

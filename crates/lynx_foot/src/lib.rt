@@ -1,11 +1,11 @@
 //! Which cells the hops of chain programs touch and how, and which two hops conflict or may conflict.
 #![tactic(auto)]
 
-pub use collision::conflict;
+pub use collision::{conflict, touches_collide};
 pub use foot::{Foot, footprint};
 pub use kind::Kind;
 pub use lynx_set::Key;
-pub use may_collide::may_conflict;
+pub use may_collide::{feet_may_collide, may_conflict};
 pub use touch::{Touch, touches};
 
 pub mod collision;

@@ -19,7 +19,7 @@ fn keys_may_meet(left: Key, right: Key) -> bool
 }
 
 /// Whether the feet collide with some arguments.
-fn feet_may_collide(left: Foot, right: Foot) -> bool
+pub fn feet_may_collide(left: Foot, right: Foot) -> bool
     ensures { result ≡ may_collide left right }
 {
     left.table == right.table

@@ -5,7 +5,7 @@ use Rattle.std.specs.List.{list_any}
 use Rattle.std.proofs.lemmas.Bool.{and_from, eq-eqb, false≢true, or_cases, or_left, or_right}
 use Rattle.std.proofs.lemmas.Option.{get_or_from_slice_get, slice_get_within}
 use Rattle.lynx_set.specs.Set.{Set}
-use Rattle.lynx_graph.specs.declared.joins.Place.{Place}
+use Rattle.lynx_graph.specs.declared.meeting.Place.{Place}
 use Rattle.lynx_graph.specs.declared.nodes.Exit.{Exit}
 use Rattle.lynx_graph.specs.declared.nodes.Node.{Node}
 use Rattle.lynx_graph.specs.declared.marks.Marks.{Marks}

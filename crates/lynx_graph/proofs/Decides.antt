@@ -9,7 +9,7 @@ use Rattle.lynx_set.specs.Set.{Set}
 use Rattle.lynx_foot.specs.Feet.{footprint_of}
 use Rattle.lynx_foot.specs.Conflicts.{MayCollide, MayConflict}
 use Rattle.lynx_foot.proofs.Decides.{Decides-some_may_collide}
-use Rattle.lynx_graph.specs.declared.joins.Place.{Place}
+use Rattle.lynx_graph.specs.declared.meeting.Place.{Place}
 use Rattle.lynx_graph.specs.declared.visit.Visit.{Visit}
 use Rattle.std.proofs.lemmas.List.Folds.{Any-from_list_any, list_any-from_Any}
 use Rattle.lynx_graph.specs.Walks.{Crosses, Differ, IsClosedWalk, IsOffending, Joins, JoinsAround}

@@ -6,7 +6,7 @@ use Rattle.std.proofs.lemmas.Bool.{and_from, and_parts, eqb-true, false≢true, 
 use Rattle.std.proofs.lemmas.List.Folds.{list_any-append}
 use Rattle.std.proofs.lemmas.Option.{none-some, same_Some}
 use Rattle.lynx_set.specs.Set.{Set}
-use Rattle.lynx_graph.specs.declared.joins.Place.{Place}
+use Rattle.lynx_graph.specs.declared.meeting.Place.{Place}
 use Rattle.lynx_graph.specs.declared.nodes.Exit.{Exit}
 use Rattle.lynx_graph.specs.declared.nodes.Node.{Node}
 use Rattle.lynx_graph.specs.declared.marks.Marks.{Marks}

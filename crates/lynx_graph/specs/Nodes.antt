@@ -2,7 +2,7 @@
 use Rattle.std.specs.Prelude.{Bool, ◌==◌, ℕ, List, map, filter, length}
 use Rattle.std.specs.List.{enumerate_from, flat_map, range_with_len}
 use Rattle.lynx_set.specs.Set.{Set}
-use Rattle.lynx_graph.specs.declared.joins.Place.{Place}
+use Rattle.lynx_graph.specs.declared.meeting.Place.{Place}
 use Rattle.lynx_graph.specs.declared.nodes.Exit.{Exit}
 use Rattle.lynx_graph.specs.declared.nodes.Node.{Node}
 use Rattle.lynx_graph.specs.Tests.{joins}

@@ -4,7 +4,7 @@ use Rattle.std.specs.List.{list_any}
 use Rattle.lynx_set.specs.Set.{Set}
 use Rattle.lynx_foot.specs.Feet.{footprint_of}
 use Rattle.lynx_foot.specs.Tests.{some_may_collide}
-use Rattle.lynx_graph.specs.declared.joins.Place.{Place}
+use Rattle.lynx_graph.specs.declared.meeting.Place.{Place}
 use Rattle.lynx_graph.specs.declared.visit.Visit.{Visit}
 use Rattle.lynx_set.specs.Lookups.{origin_of, server_at}
 

@@ -3,7 +3,7 @@ ghost use Rattle.std.specs.List.{list_any};
 ghost use Rattle.lynx_graph.specs.Walks.{IsOffending};
 ghost use Rattle.lynx_graph.specs.Tests.{crosses, differs, is_closed, joins_around, joins_next, leaves_origin, offends};
 
-use crate::joins::{Place, joins, same_server};
+use crate::meeting::{Place, joins, same_server};
 use crate::visit::{Visit, Walk};
 use lynx_names::ServerId;
 use lynx_set::ChainSet;

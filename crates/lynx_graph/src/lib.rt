@@ -4,15 +4,17 @@
 pub use accepted::AcceptedSet;
 pub use holds::walk_holds;
 pub use judge::check;
+pub use meeting::{Place, joins};
+pub use nodes::{places_of, program_of};
 pub use verdict::Verdict;
 pub use visit::{Visit, Walk};
 
 pub mod accepted;
 pub mod holds;
-mod joins;
 pub mod judge;
 mod marks;
-mod nodes;
+pub mod meeting;
+pub mod nodes;
 mod search;
 mod shortest;
 mod tracing;

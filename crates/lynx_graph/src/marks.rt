@@ -2,7 +2,7 @@
 ghost use Rattle.std.specs.Prelude.{◌≡◌, IfOk};
 ghost use Rattle.lynx_graph.specs.Marks.{first_marks, first_table, goes_on, is_abroad, is_goal, is_marked, leaves, leaving_marks, leaving_table, mark, mark_at, next_marks, next_table, some_marks};
 
-use crate::joins::same_server;
+use crate::meeting::same_server;
 use crate::nodes::Node;
 use lynx_names::{Items, Memory};
 use std::alloc::Global;

@@ -4,7 +4,7 @@ ghost use Rattle.std.specs.Prelude.{◌≡◌, ◌<◌, ◌++◌, IfOk, OnOk, ma
 ghost use Rattle.lynx_names.specs.declared.limits.TheConstants.{MAX_PROGRAMS};
 ghost use Rattle.lynx_graph.specs.Nodes.{exits_of, neighbours_of, node_of, nodes_of, places_in, places_of};
 
-use crate::joins::{Place, joins};
+use crate::meeting::{Place, joins};
 use lynx_names::{Items, Memory, ProgramId, ServerId};
 use lynx_set::ChainSet;
 use std::alloc::Global;
@@ -83,7 +83,7 @@ fn add_places(set: &ChainSet, program: ProgramId, places: &mut Items<Place>) -> 
 }
 
 /// The program of that number.
-fn program_of(number: usize) -> ProgramId
+pub fn program_of(number: usize) -> ProgramId
     requires { number < MAX_PROGRAMS }
     ensures { result ≡ number }
 {
@@ -91,7 +91,7 @@ fn program_of(number: usize) -> ProgramId
 }
 
 /// All hops of the set, by program and then by number.
-fn places_of(alloc: Global, set: &ChainSet) -> Result<Items<Place>, Memory>
+pub fn places_of(alloc: Global, set: &ChainSet) -> Result<Items<Place>, Memory>
     ensures { IfOk result (λ places. places ≡ places_of set.now) }
 {
     let mut places = Items::new(alloc);

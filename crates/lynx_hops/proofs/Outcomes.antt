@@ -6,7 +6,7 @@ use Rattle.lynx_cells.specs.Database.{Database, cell_cmp, applied, written}
 use Rattle.lynx_set.specs.declared.action.Action.{Action}
 use Rattle.lynx_hops.specs.declared.run.Running.{Running}
 use Rattle.lynx_hops.specs.Meaning.{HopOutcome, after_results}
-use Rattle.lynx_hops.specs.Runs.{here, outcome_of}
+use Rattle.lynx_hops.specs.inner.Runs.{here, outcome_of}
 
 pub after_no_results : (outcome : HopOutcome) → after_results [] outcome ≡ outcome
 after_no_results (Ok (results, db)) = refl

@@ -1,2 +1,2 @@
 pub mod Meaning
-pub mod Runs
+pub mod inner

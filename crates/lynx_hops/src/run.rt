@@ -45,7 +45,7 @@ struct Running<'a> {
 }
 
 impl Running<'_> {
-    ghost use Rattle.lynx_hops.specs.Runs.{outcome_of, here};
+    ghost use Rattle.lynx_hops.specs.inner.Runs.{outcome_of, here};
 
     /// What the cell holds now.
     fn read(&self, table: TableId, key: Key) -> u64

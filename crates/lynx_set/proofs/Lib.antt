@@ -1,3 +1,4 @@
 pub mod Alike
+pub mod Literals
 pub mod Same
 pub mod Sets

@@ -1,7 +1,8 @@
+pub mod Home
+pub mod Lookups
 pub mod Names
 pub mod Plain
 pub mod Rules
 pub mod Set
 pub mod Standing
 pub mod Text
-pub mod Lookups

@@ -9,6 +9,7 @@ pub use set::ChainSet;
 
 pub mod action;
 mod comparing;
+pub mod laws;
 mod lookups;
 pub mod program;
 pub mod set;

@@ -1,4 +1,4 @@
 pub mod Pieces
 pub mod Parts
-pub mod Places
 pub mod Reading
+pub mod inner

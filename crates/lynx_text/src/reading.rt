@@ -5,6 +5,7 @@ ghost use Rattle.lynx_words.specs.Gives.{Gives, IsOfLine};
 ghost use Rattle.lynx_words.specs.Lines.{texts};
 ghost use Rattle.lynx_text.specs.Pieces.{is_version, until};
 ghost use Rattle.lynx_set.specs.Plain.{plain_set, plain_program};
+ghost use Rattle.lynx_set.specs.Home.{AreLiteralsHome};
 ghost use Rattle.lynx_set.specs.Rules.{IsSet};
 ghost use Rattle.lynx_set.specs.Set.{Set};
 ghost use Rattle.lynx_set.specs.Text.{text_of};
@@ -28,6 +29,8 @@ use std::alloc::Global;
 pub fn parse(alloc: Global, text: &[u8]) -> Result<ChainSet, TextFault>
     // What is read is spelled so.
     ensures found { IfOk result (λ set. IsSet set × (text.now ≡ text_of set)) }
+    ensures home { IfOk result AreLiteralsHome }
+
     // What is spelled so is read.
     ensures only { IfErr result (λ fault. (fault.kind ≡ FaultKind.Memory) ⊎ ((set : Set)
         → IsSet set → text.now ≢ text_of set)) }

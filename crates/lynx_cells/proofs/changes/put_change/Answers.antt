@@ -1,6 +1,6 @@
 use Rattle.std.proofs.Common.{ℕ, sym, ap, ◌∙◌, subst, set, is_some}
 use Rattle.std.proofs.lemmas.Bool.{false≢true}
-use Rattle.lynx_cells.specs.Place.{IsPlaceOf, IsGapFor}
+use Rattle.lynx_cells.specs.inner.Place.{IsPlaceOf, IsGapFor}
 use Rattle.lynx_cells.specs.Triples.{entries_of}
 use Rattle.lynx_cells.proofs.Places.{put_at_place, put_in_gap, find_in_gap, read_has_cell}
 use Rattle.lynx_cells.proofs.changes.put_change.Goals as goal

@@ -1,6 +1,6 @@
 use Rattle.std.proofs.Common.{◌≡◌, ◌≤◌, drop}
 use Rattle.lynx_hops.specs.Meaning.{run}
-use Rattle.lynx_hops.specs.Runs.{outcome_of}
+use Rattle.lynx_hops.specs.inner.Runs.{outcome_of}
 use Rattle.lynx_hops.proofs.run.run_actions.Given as goal
 
 -- what the actions come to stays

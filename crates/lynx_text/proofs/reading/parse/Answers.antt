@@ -3,6 +3,8 @@ use Rattle.std.specs.Prelude.{IfOk, IfErr}
 use Rattle.lynx_words.specs.declared.fault.FaultKind.TheVariants.{Memory}
 use Rattle.lynx_words.specs.declared.fault.TextFault.{TextFault}
 use Rattle.lynx_text.specs.Parts.{read_text}
+use Rattle.lynx_set.specs.Home.{AreLiteralsHome}
+use Rattle.lynx_set.proofs.Literals.{literals_home}
 use Rattle.lynx_set.specs.Plain.{plain_set}
 use Rattle.lynx_set.specs.Rules.{IsSet}
 use Rattle.lynx_set.specs.Set.{Set}
@@ -18,6 +20,14 @@ found_in bytes (Err fault) read = tt
 
 pub returns-clause-found : goal.returns-clause-found
 returns-clause-found c = found_in c.args.text.now c.read_text.result c.read_text.ensures.read
+
+home_in : (bytes : List ℕ) (r : Result Set TextFault) → IfOk r (λ set. IsSet set × (bytes ≡ text_of set)) → IfOk r AreLiteralsHome
+home_in bytes (Ok set) read = literals_home set read.0
+home_in bytes (Err fault) read = tt
+
+pub returns-clause-home : goal.returns-clause-home
+returns-clause-home c =
+    home_in c.args.text.now c.read_text.result (found_in c.args.text.now c.read_text.result c.read_text.ensures.read)
 
 no_other : (bytes : List ℕ) → read_text bytes ≡ None → (set : Set) → IsSet set → bytes ≢ text_of set
 no_other bytes none set is e = none_some (sym none ∙ ap read_text e ∙ again set is.0 is.1)

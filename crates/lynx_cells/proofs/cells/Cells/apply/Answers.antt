@@ -11,7 +11,7 @@ use Rattle.lynx_cells.proofs.cells.Cells.apply.Goals as goal
 -- the cell of this turn has its slot
 pub overwrite-requires : goal.overwrite-requires
 overwrite-requires c =
-    let slots = HaveSlots-from_staged c.args.self.now c.args.changes c.list-table-items.result.now c.list-table-items.ensures c.requires in
+    let slots = HaveSlots-from_staged c.args.self.now c.args.changes.now c.list-table-items.result.now c.list-table-items.ensures c.requires in
     let here = slots c.loop-table.table-index c.loop-table-item.result c.loop-table-test.true in
     let item = subst (λ (t : ℕ × ℕ × ℕ). IsTrue (set.contains c.args.self.now.staged (t.0, t.1))) (sym c.loop-table-item.is) here in
     subst (λ (staged : set.FinSet cell_cmp). IsTrue (set.contains staged (c.loop-table-item.result.0, c.loop-table-item.result.1))) (sym c.loop-table.invariant.staged) item
@@ -24,4 +24,4 @@ returns-clause-database c =
     sym (at_drop_all (λ (ts : List (ℕ × ℕ × ℕ)). written (entries_of ts) c.loop-table.self.database) items c.loop-table.table-index c.loop-table-test.false)
     ∙ c.loop-table.invariant.database
     ∙ ap (λ (ts : List (ℕ × ℕ × ℕ)). written (entries_of ts) old) c.list-table-items.ensures
-    ∙ ap (λ es. written es old) (entries_of-triples_of (map.entries c.args.changes))
+    ∙ ap (λ es. written es old) (entries_of-triples_of (map.entries c.args.changes.now))

@@ -1,7 +1,7 @@
 use Rattle.std.proofs.Common.{ℕ, Some, sym, ap, ◌∙◌, subst}
 use Rattle.std.specs.FinMap as map
 use Rattle.lynx_cells.proofs.CellOrder.{cell_cmp_total}
-use Rattle.lynx_cells.specs.Place.{IsPlaceOf, IsGapFor}
+use Rattle.lynx_cells.specs.inner.Place.{IsPlaceOf, IsGapFor}
 use Rattle.lynx_cells.specs.Triples.{entries_of}
 use Rattle.lynx_cells.proofs.Places.{find_at_place, find_in_gap}
 use Rattle.lynx_cells.proofs.changes.Changes.get.Goals as goal

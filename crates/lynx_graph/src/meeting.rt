@@ -6,15 +6,15 @@ use lynx_foot::may_conflict;
 use lynx_names::{ProgramId, ServerId};
 use lynx_set::ChainSet;
 
-/// One hop of one program.
+/// One hop of one program of a set, hops counted from 0.
 #[derive(Clone, Copy, Debug, PartialEq, Eq)]
-pub(crate) struct Place {
+pub struct Place {
     pub program: ProgramId,
     pub hop: usize,
 }
 
 /// Whether the hops may conflict.
-pub(crate) fn joins(set: &ChainSet, left: &Place, right: &Place) -> bool
+pub fn joins(set: &ChainSet, left: &Place, right: &Place) -> bool
     ensures { result ≡ joins set.now left.now right.now }
 {
     may_conflict(set, left.program, left.hop, right.program, right.hop)

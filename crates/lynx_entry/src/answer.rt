@@ -1,8 +1,9 @@
 ghost use Rattle.std.specs.Prelude.{◌≡◌};
-ghost use Rattle.lynx_entry.specs.Answers.{is_undelivered, is_unserved};
+ghost use Rattle.lynx_entry.specs.Answers.{is_undelivered, is_unserved, results_of, with_results};
 
 use crate::message::Message;
-use lynx_names::{ChainId, Stamp, Values};
+use lynx_names::{ChainId, Memory, Stamp, TryCopy, Values};
+use std::alloc::Global;
 
 /// What a begin is answered.
 #[derive(Debug, PartialEq, Eq, Drop)]
@@ -46,6 +47,59 @@ impl Answer {
         ensures { result ≡ is_unserved self.now }
     {
         matches!(self, Answer::Memory)
+    }
+}
+
+impl Answer {
+    /// The results that it tells, none where no chain began.
+    pub(crate) fn results(&self) -> &[u64]
+        ensures { result.now ≡ results_of self.now }
+    {
+        match self {
+            Answer::Begun { results, .. } => results.as_slice(),
+            _ => &[],
+        }
+    }
+
+    /// The same answer with these results, where a chain began.
+    pub(crate) fn with_results(&self, results: Values) -> Answer
+        ensures { result ≡ with_results self.now results }
+    {
+        match self {
+            Answer::Begun {
+                chain,
+                stamp,
+                results: _,
+                again,
+            } => Answer::Begun {
+                chain: *chain,
+                stamp: *stamp,
+                results,
+                again: *again,
+            },
+            Answer::Refused { need, stamp, again } => Answer::Refused {
+                need: *need,
+                stamp: *stamp,
+                again: *again,
+            },
+            Answer::Clash => Answer::Clash,
+            Answer::UnknownProgram => Answer::UnknownProgram,
+            Answer::WrongOrigin => Answer::WrongOrigin,
+            Answer::ArgCount => Answer::ArgCount,
+            Answer::WrongShard => Answer::WrongShard,
+            Answer::Full => Answer::Full,
+            Answer::Busy => Answer::Busy,
+            Answer::Stopped => Answer::Stopped,
+            Answer::Memory => Answer::Memory,
+        }
+    }
+}
+
+impl TryCopy for Answer {
+    #[tactic(auto, using(crate::proofs::OwnResults::own_results))]
+    fn copy(&self, alloc: Global) -> Result<Answer, Memory> {
+        let results = Values::from_vec(Vec::from_slice(alloc, self.results())?);
+        Ok(self.with_results(results))
     }
 }
 

@@ -8,9 +8,11 @@ pub use event::{Event, Outcome};
 pub use lynx_names::{NumberAt, Numbers, TryCopy};
 pub use message::{Message, ResultLists};
 pub use request::Request;
+pub use room::AnswerRoom;
 
 pub mod answer;
 pub mod entry;
 pub mod event;
 pub mod message;
 pub mod request;
+pub mod room;

@@ -7,3 +7,4 @@ pub mod Bodies
 pub mod Front
 pub mod Adding
 pub mod Feeding
+pub mod Faults

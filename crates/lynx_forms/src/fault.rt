@@ -24,6 +24,14 @@ pub enum DecodeFault {
 
 impl DecodeFault {
     ghost use Rattle.std.specs.Prelude.{◌≡◌};
+    ghost use Rattle.lynx_forms.specs.Faults.{number_of};
+
+    /// The number by which the fault is named to others: docs/FORMATS.md.
+    pub fn number(self) -> u8
+        ensures { result ≡ number_of self }
+    {
+        self as u8
+    }
 
     /// The want of memory that a fault is where nothing else can be wrong.
     pub fn want_of_memory(self) -> Memory

@@ -1,4 +1,4 @@
-//! Copies of changes and of cells.
+//! Copies of cells.
 ghost use Rattle.std.specs.Prelude.{◌≡◌, IfOk};
 ghost use Rattle.lynx_cells.specs.Database.{Database, applied, written};
 ghost use Rattle.lynx_cells.specs.Triples.{entries_of};
@@ -19,13 +19,6 @@ fn changes_of(alloc: Global, writes: &[(TableId, u64, u64)]) -> Result<Changes, 
     Ok(changes)
 }
 
-/// Changes that write the same.
-pub(crate) fn copy_changes(alloc: Global, changes: &Changes) -> Result<Changes, Memory>
-    ensures { IfOk result (λ copied. (db : Database) → applied copied db ≡ applied changes.now db) }
-{
-    changes_of(alloc, changes.list())
-}
-
 /// Cells that hold the same.
 pub(crate) fn copy_cells(alloc: Global, cells: &Cells) -> Result<Cells, Memory>
     ensures { IfOk result (λ copied. copied.database ≡ cells.now.database) }
@@ -34,6 +27,6 @@ pub(crate) fn copy_cells(alloc: Global, cells: &Cells) -> Result<Cells, Memory>
     let changes = changes_of(alloc, list.as_slice())?;
     let mut copied = Cells::new(alloc);
     copied.stage(&changes)?;
-    copied.apply(changes);
+    copied.apply(&changes);
     Ok(copied)
 }

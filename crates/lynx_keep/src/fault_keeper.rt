@@ -73,13 +73,12 @@ impl Keeper for FaultKeeper {
     ghost use Rattle.std.specs.Prelude.{◌≡◌, ◌⊎◌};
     ghost use Rattle.std.proofs.Common.{inl, sym, rules};
 
-    ghost sound = { λ _. Unit {0} };
-
-    ghost keeps = { λ keeper kept. kept ≡ keeper.inner };
-
-    ghost leaves = { λ keeper one other. (keeper.inner ≡ one) ⊎ (keeper.inner ≡ other) };
-
-    ghost counted = { λ keeper. keeper.faults };
+    ghost terms = { record {
+      sound = λ _. Unit {0};
+      keeps = λ keeper kept. kept ≡ keeper.inner;
+      leaves = λ keeper one other. (keeper.inner ≡ one) ⊎ (keeper.inner ≡ other);
+      counted = λ keeper. keeper.faults;
+    } };
 
     fn commit(&mut self, alloc: Global, entry: &Entry, changes: &Changes) -> Result<(), KeepFault> {
         if !self.is_chosen() {

@@ -3,7 +3,7 @@ ghost use Rattle.lynx_forms.specs.Entries.{IsEntryInRange};
 ghost use Rattle.lynx_keep.specs.Kept.{nothing_kept, with_entry};
 ghost use Rattle.lynx_keep.specs.Stored.{AreStored, entries_in};
 
-use crate::copying::{copy_cells, copy_changes};
+use crate::copying::copy_cells;
 use crate::fault::KeepFault;
 use crate::keeper::{Keeper, Loaded};
 use crate::reading::read_entries;
@@ -24,10 +24,10 @@ pub struct MemoryKeeper {
 }
 
 impl Model for MemoryKeeper {
-    ghost use Rattle.lynx_keep.specs.Kept.{Kept, kept_code};
+    ghost use Rattle.lynx_keep.specs.Kept.{KeptState, kept_code};
     ghost use Rattle.lynx_keep.specs.Stored.{AreStored, entries_in};
 
-    ghost Value = { Kept };
+    ghost Value = { KeptState };
 
     ghost coded = { kept_code };
 
@@ -70,8 +70,7 @@ impl MemoryKeeper {
         ensures ok { OnOk result (self.new ≡ with_entry self.old entry.now changes.now) }
         ensures err { OnErr result (self.new ≡ self.old) }
     {
-        let changes = copy_changes(alloc, changes)?;
-        self.cells.stage(&changes)?;
+        self.cells.stage(changes)?;
         add_form(alloc, &mut self.forms, entry)?;
         self.cells.apply(changes);
         Ok(())
@@ -103,16 +102,10 @@ impl TryCopy for MemoryKeeper {
 }
 
 impl Keeper for MemoryKeeper {
-    ghost use Rattle.std.specs.Prelude.{◌≡◌, ◌⊎◌};
     ghost use Rattle.std.proofs.Common.{inl, sym, rules};
+    ghost use Rattle.lynx_keep.specs.Kept.{memory_terms};
 
-    ghost sound = { λ _. Unit {0} };
-
-    ghost keeps = { λ keeper kept. kept ≡ keeper };
-
-    ghost leaves = { λ keeper one other. (keeper ≡ one) ⊎ (keeper ≡ other) };
-
-    ghost counted = { λ _. 0 };
+    ghost terms = { memory_terms };
 
     fn commit(&mut self, alloc: Global, entry: &Entry, changes: &Changes) -> Result<(), KeepFault> {
         self.keep(alloc, entry, changes)?;

@@ -1,6 +1,6 @@
-ghost use Rattle.std.specs.Prelude.{◌≡◌, ◌+◌, ◌<◌, ◌≤◌, ◌↔◌, ℕ, All, IfOk, IsNone, IsTrue, None, OnErr, Some, if◌then◌else◌, length, slice_index};
+ghost use Rattle.std.specs.Prelude.{◌≡◌, ◌<◌, ◌≤◌, ◌↔◌, All, IfOk, IsNone, IsTrue, None, OnErr, Some, length, slice_index};
 ghost use Rattle.lynx_names.specs.declared.limits.TheConstants.{MAX_ENTRIES, MAX_SERVERS};
-ghost use Rattle.lynx_seq.specs.Counters.{IsNumber, has_number, no_counts, numbers_from, raised};
+ghost use Rattle.lynx_seq.specs.Counters.{no_counts, numbers_from, raised};
 
 use crate::draw::Draw;
 use lynx_names::limits::MAX_SERVERS;
@@ -67,18 +67,6 @@ impl Sequencer {
         let copied = numbers.copy(alloc)?;
         self.out = Some(copied);
         Ok(Draw { numbers })
-    }
-
-    /// Counts the numbers of a chain that was kept earlier, as binding them did then. Takes no memory.
-    pub fn raise(&mut self, numbers: &[NumberAt])
-        requires free { self.old.out ≡ None }
-        requires next { All (IsNumber self.old.counters) numbers.now }
-        ensures out { self.new.out ≡ None }
-        ensures each { (server : ℕ) → slice_index self.new.counters server
-            ≡ (if has_number numbers.now server then slice_index self.old.counters server + 1
-            else slice_index self.old.counters server) }
-    {
-        raise_counters(&mut self.counters, numbers);
     }
 }
 

@@ -1,4 +1,4 @@
-ghost use Rattle.std.specs.Prelude.{◌≡◌, ◌<◌, ◌≤◌, [], filter, find, insert, length, not, IfOk, option_copied};
+ghost use Rattle.std.specs.Prelude.{◌≡◌, ◌<◌, ◌≤◌, [], filter, insert, length, not, IfOk, option_copied};
 ghost use Rattle.lynx_names.specs.declared.limits.TheConstants.{MAX_HELD};
 ghost use Rattle.lynx_turn.specs.Held.{is_before, is_for, lesser, place_for};
 
@@ -8,8 +8,8 @@ use lynx_names::{ChainId, Memory};
 use std::alloc::Global;
 use std::marker::Model;
 
-/// Messages that are held, in order of origin, index and hop. There is room for [`MAX_HELD`] of them from the
-/// making on.
+/// Messages that are held, each put behind those that are before it by origin, index and hop. There is room for
+/// [`MAX_HELD`] of them from the making on.
 #[derive(Debug, Drop)]
 pub struct HeldBuffer {
     messages: Vec<Message>,
@@ -57,16 +57,6 @@ impl HeldBuffer {
         ensures { self.new ≡ filter (λ other. not (is_for chain hop other)) self.old }
     {
         self.messages.retain(|other| !is_for(chain, hop, other));
-    }
-
-    /// What is held for that hop of the chain.
-    pub fn find(&self, chain: ChainId, hop: u8) -> Option<&Message>
-        ensures { option_copied result ≡ find (is_for chain hop) self.now }
-    {
-        self.messages
-            .as_slice()
-            .iter()
-            .find(|message| is_for(chain, hop, message))
     }
 }
 

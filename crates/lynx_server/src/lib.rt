@@ -1,16 +1,28 @@
-//! What one server decides, from its set and its history alone: answers, deliveries, and the entries they add.
+//! A server with its state: its history with counters, turns, tables and indexes beside it, the states of a step, which
+//! must be spent, and its keeper.
 #![tactic(auto)]
 
-pub use decision::Decision;
-pub use messages::next_of;
-pub use view::View;
+pub use books::Books;
+pub use fault::OpenFault;
+pub use hop_steps::{KeptHop, RanMessage, TakenMessage};
+pub use opening::first_unlawful;
+pub use rebuilding::rebuild;
+pub use register::Register;
+pub use server::{Server, Woken};
+pub use steps::{Kept, RanStep, RefusedStep, Stepped, Taken};
 
-pub mod answers;
-pub mod checks;
-pub mod decision;
-pub mod deliveries;
-mod messages;
-pub mod tables;
-mod turns;
-pub mod view;
-pub mod visits;
+pub mod books;
+mod counting;
+pub mod fault;
+pub mod hop_steps;
+mod keeping;
+pub mod laws;
+mod marks;
+pub mod opening;
+mod owed;
+pub mod rebuilding;
+pub mod register;
+mod replay;
+pub mod server;
+mod sorting;
+pub mod steps;

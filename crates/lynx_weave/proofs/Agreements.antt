@@ -11,9 +11,9 @@ use Rattle.lynx_entry.specs.declared.entry.Entry.{Entry}
 use Rattle.lynx_entry.specs.declared.entry.Entry.TheVariants.{Begun, Refused, Hop}
 use Rattle.lynx_entry.specs.declared.request.Request.{Request}
 use Rattle.lynx_entry.specs.Entry.{History}
-use Rattle.lynx_keep.specs.Kept.{Kept}
-use Rattle.lynx_books.specs.History.{IsLawfulHistory}
-use Rattle.lynx_books.specs.Serving.{Serving}
+use Rattle.lynx_keep.specs.Kept.{KeptState}
+use Rattle.lynx_server.specs.History.{IsLawfulHistory}
+use Rattle.lynx_server.specs.Serving.{Serving}
 use Rattle.lynx_world.specs.Servers.{Servers}
 use Rattle.lynx_world.proofs.Once.{both}
 use Rattle.lynx_weave.specs.declared.told.ToldItem.{ToldItem}
@@ -169,11 +169,11 @@ agreed_nowhere histories told none server place =
 
 -- ---- by servers
 
-pub history_there : (servers : Servers) (server : ℕ) (here : Serving Kept) → slice_get servers server ≡ Some here →
+pub history_there : (servers : Servers) (server : ℕ) (here : Serving KeptState) → slice_get servers server ≡ Some here →
     slice_get (histories_of servers) server ≡ Some here.history
 history_there servers server here there =
-    slice_get-map (λ (h : Serving Kept). h.history) servers server ∙ ap (option_map (λ (h : Serving Kept). h.history)) there
+    slice_get-map (λ (h : Serving KeptState). h.history) servers server ∙ ap (option_map (λ (h : Serving KeptState). h.history)) there
 
 pub history_nowhere : (servers : Servers) (server : ℕ) → slice_get servers server ≡ None → slice_get (histories_of servers) server ≡ None
 history_nowhere servers server none =
-    slice_get-map (λ (h : Serving Kept). h.history) servers server ∙ ap (option_map (λ (h : Serving Kept). h.history)) none
+    slice_get-map (λ (h : Serving KeptState). h.history) servers server ∙ ap (option_map (λ (h : Serving KeptState). h.history)) none

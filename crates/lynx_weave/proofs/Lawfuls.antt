@@ -15,13 +15,13 @@ use Rattle.lynx_entry.specs.declared.message.Message.{Message}
 use Rattle.lynx_entry.specs.declared.request.Request.{Request}
 use Rattle.lynx_entry.specs.Entry.{History, stamp_of}
 use Rattle.lynx_turn.specs.Held.{same_chain}
-use Rattle.lynx_server.specs.Turns.{is_begun}
-use Rattle.lynx_server.specs.Tables.{clock_of}
-use Rattle.lynx_server.specs.Lawful.{IsLawful, hop_entry_of, is_hop_of, is_record_of, message_of}
-use Rattle.lynx_books.specs.Acts.{is_act}
-use Rattle.lynx_books.specs.History.{IsLawfulHistory}
-use Rattle.lynx_books.proofs.InHistory.{lawful_in}
-use Rattle.lynx_books.proofs.Acting.{later}
+use Rattle.lynx_rules.specs.Turns.{is_begun}
+use Rattle.lynx_rules.specs.Tables.{clock_of}
+use Rattle.lynx_rules.specs.Lawful.{IsLawful, hop_entry_of, is_hop_of, is_record_of, message_of}
+use Rattle.lynx_server.specs.Acts.{is_act}
+use Rattle.lynx_server.specs.History.{IsLawfulHistory}
+use Rattle.lynx_server.proofs.InHistory.{lawful_in}
+use Rattle.lynx_server.proofs.Acting.{later}
 use Rattle.lynx_world.proofs.Once.{both, same_name}
 use Rattle.lynx_weave.proofs.Gets.{found_none, get_take, item, none_is}
 

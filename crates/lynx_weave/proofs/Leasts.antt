@@ -5,8 +5,8 @@ use Rattle.std.proofs.lemmas.Bool.{cases_lt, ltb-true, ltb-false}
 use Rattle.std.proofs.lemmas.Option.{slice_get_past}
 use Rattle.lynx_entry.specs.declared.entry.Entry.{Entry}
 use Rattle.lynx_entry.specs.Entry.{History, stamp_of}
-use Rattle.lynx_keep.specs.Kept.{Kept}
-use Rattle.lynx_books.specs.Serving.{Serving}
+use Rattle.lynx_keep.specs.Kept.{KeptState}
+use Rattle.lynx_server.specs.Serving.{Serving}
 use Rattle.lynx_world.specs.Servers.{Servers}
 use Rattle.lynx_weave.specs.Lists.{entry_in}
 use Rattle.lynx_weave.specs.Orders.{IsNextAt, next_in, with_next}
@@ -28,7 +28,7 @@ IsLeastBelow histories places below None = (server : ℕ) → server < below →
 IsLeastBelow histories places below (Some least) = IsLeastOf histories places below least.0 least.1
 
 -- the next entry of a server
-pub next_is : (servers : Servers) (places : List ℕ) (server place : ℕ) (here : Serving Kept) → slice_get servers server ≡ Some here →
+pub next_is : (servers : Servers) (places : List ℕ) (server place : ℕ) (here : Serving KeptState) → slice_get servers server ≡ Some here →
     slice_get places server ≡ Some place → next_in (histories_of servers) places server ≡ slice_get here.history place
 next_is servers places server place here there through =
     ap (option_and_then (entry_in (histories_of servers) server)) through
@@ -121,7 +121,7 @@ least_more histories places number (Some least) (Some entry) is below = by (nat_
     by false high = least_stays histories places number least.0 least.1 entry is (ltb-false _ _ high) below
 
 -- .. as the walk over them has it
-pub least_walk : (servers : Servers) (places : List ℕ) (number place : ℕ) (here : Serving Kept) (least : Option (ℕ × ℕ)) →
+pub least_walk : (servers : Servers) (places : List ℕ) (number place : ℕ) (here : Serving KeptState) (least : Option (ℕ × ℕ)) →
     slice_get servers number ≡ Some here → slice_get places number ≡ Some place → IsLeastBelow (histories_of servers) places number least →
     IsLeastBelow (histories_of servers) places (number + 1) (with_next least number (slice_get here.history place))
 least_walk servers places number place here least there through below =

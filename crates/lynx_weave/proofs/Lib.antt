@@ -10,4 +10,5 @@ pub mod Leasts
 pub mod Rebuildings
 pub mod Servings
 pub mod Ordered
-pub mod Woven
+pub mod Weavings
+pub mod Counting

@@ -8,9 +8,9 @@ use Rattle.lynx_set.specs.Set.{Set}
 use Rattle.lynx_entry.specs.declared.entry.Entry.{Entry}
 use Rattle.lynx_entry.specs.declared.message.Message.{Message}
 use Rattle.lynx_entry.specs.Entry.{History, stamp_of}
-use Rattle.lynx_server.specs.Lawful.{IsLawful, message_of}
-use Rattle.lynx_server.specs.Messages.{next_message}
-use Rattle.lynx_books.proofs.Chains.{get_before, get_last}
+use Rattle.lynx_rules.specs.Lawful.{IsLawful, message_of}
+use Rattle.lynx_rules.specs.Messages.{next_message}
+use Rattle.lynx_server.proofs.Chains.{get_before, get_last}
 use Rattle.lynx_world.specs.Placed.{Placed}
 use Rattle.lynx_world.specs.Legal.{IsLegal, IsSent, MayFollow}
 use Rattle.lynx_world.specs.Worlds.{history_of}
@@ -22,7 +22,7 @@ use Rattle.lynx_weave.specs.Orders.{IsLeastNext, IsNextAt, next_in}
 use Rattle.lynx_weave.specs.Senders.{AreAllSent}
 use Rattle.lynx_weave.proofs.Gets.{get_take, in_place, item, take_next, take_whole}
 use Rattle.lynx_weave.proofs.Lawfuls.{above_message, rises}
-use Rattle.lynx_books.proofs.InHistory.{lawful_in}
+use Rattle.lynx_server.proofs.InHistory.{lawful_in}
 use Rattle.lynx_weave.proofs.Sending.{AreLawful, entry_here, entry_there, sender_is, stamp_sent}
 
 -- as many entries of each history are in the list, which is legal and in order, and comes before what is left

@@ -8,8 +8,8 @@ use Rattle.lynx_names.specs.declared.limits.TheConstants.{MAX_ENTRIES}
 use Rattle.lynx_set.specs.Set.{Set}
 use Rattle.lynx_entry.specs.declared.entry.Entry.{Entry}
 use Rattle.lynx_entry.specs.Entry.{History}
-use Rattle.lynx_keep.specs.Kept.{Kept}
-use Rattle.lynx_books.specs.Serving.{Serving}
+use Rattle.lynx_keep.specs.Kept.{KeptState}
+use Rattle.lynx_server.specs.Serving.{Serving}
 use Rattle.lynx_world.specs.declared.added.Added.{Added}
 use Rattle.lynx_world.specs.Placed.{Placed}
 use Rattle.lynx_world.specs.Legal.{IsSent}
@@ -20,7 +20,7 @@ use Rattle.lynx_weave.specs.Rebuilt.{AreRebuilt, histories_of}
 use Rattle.lynx_weave.specs.Senders.{AreAllSent}
 use Rattle.lynx_weave.proofs.Agreements.{history_there}
 use Rattle.lynx_weave.proofs.Lawfuls.{few_before}
-use Rattle.lynx_books.proofs.InHistory.{lawful_in}
+use Rattle.lynx_server.proofs.InHistory.{lawful_in}
 use Rattle.lynx_weave.proofs.Merging.{IsAt, IsMergedTo, merged_end, merged_start, merged_step, some_then}
 use Rattle.lynx_weave.proofs.Servings.{lawful_all, many_of, server_of}
 
@@ -40,7 +40,7 @@ remaining [] places = 0
 remaining (here ∷ servers) [] = 0
 remaining (here ∷ servers) (place ∷ places) = (length here.history - place) + remaining servers places
 
-pub fewer : (servers : Servers) (places : List ℕ) (number place : ℕ) (here : Serving Kept) → slice_get servers number ≡ Some here →
+pub fewer : (servers : Servers) (places : List ℕ) (number place : ℕ) (here : Serving KeptState) → slice_get servers number ≡ Some here →
     slice_get places number ≡ Some place → place < length here.history → remaining servers (slice_set places number (place + 1)) < remaining servers places
 unfolding remaining
 fewer [] places number place here there through within = cc
@@ -48,7 +48,7 @@ fewer (first ∷ servers) [] number place here there through within = cc
 fewer (first ∷ servers) (other ∷ places) zero place here there through within =
     let same : first ≡ here = cc in
     let at : other ≡ place = cc in
-    let long : length first.history ≡ length here.history = ap (λ (h : Serving Kept). length h.history) same in
+    let long : length first.history ≡ length here.history = ap (λ (h : Serving KeptState). length h.history) same in
     omega arith
 fewer (first ∷ servers) (other ∷ places) (suc number) place here there through within =
     let less = fewer servers places number place here there through within in omega arith
@@ -57,7 +57,7 @@ fewer (first ∷ servers) (other ∷ places) (suc number) place here there throu
 
 -- the next entry, at its server
 pub record IsNow (set : Set) (servers : Servers) (places : List ℕ) (number : ℕ) (least : IsLeastNext (histories_of servers) places number) : Type 0 where
-  pub here : Serving Kept
+  pub here : Serving KeptState
   pub there : slice_get servers number ≡ Some here
   pub at : IsAt (histories_of servers) places number least.entry
   pub found : slice_get here.history at.place ≡ Some least.entry
@@ -103,10 +103,10 @@ list_push : (servers : Servers) (order : List Added) (one : Added) (placed : Pla
 list_push servers order one placed is =
     filter_map-append (placed_of servers) order (one ∷ []) ∙ ap (λ o. list_of servers order ++ cons_option o []) is
 
-placed_there : (servers : Servers) (number place : ℕ) (here : Serving Kept) (entry : Entry) → slice_get servers number ≡ Some here →
+placed_there : (servers : Servers) (number place : ℕ) (here : Serving KeptState) (entry : Entry) → slice_get servers number ≡ Some here →
     slice_get here.history place ≡ Some entry → placed_of servers (record { server = number; place = place }) ≡ Some (record { server = number; entry = entry })
 placed_there servers number place here entry there at =
-    ap (λ o. option_map (λ (e : Entry). record { server = number; entry = e }) (option_and_then (λ (h : Serving Kept). slice_get h.history place) o)) there
+    ap (λ o. option_map (λ (e : Entry). record { server = number; entry = e }) (option_and_then (λ (h : Serving KeptState). slice_get h.history place) o)) there
     ∙ ap (option_map (λ (e : Entry). record { server = number; entry = e })) at
 
 -- what is kept from step to step

@@ -7,10 +7,10 @@ use Rattle.std.proofs.lemmas.Option.{slice_get-map, slice_get_within}
 use Rattle.lynx_set.specs.Set.{Set}
 use Rattle.lynx_entry.specs.declared.entry.Entry.{Entry}
 use Rattle.lynx_entry.specs.Entry.{History}
-use Rattle.lynx_keep.specs.Kept.{Kept}
-use Rattle.lynx_books.specs.Rebuilding.{IsRebuilt}
-use Rattle.lynx_books.specs.Serving.{Serving}
-use Rattle.lynx_books.proofs.Chains.{get_before, get_last}
+use Rattle.lynx_keep.specs.Kept.{KeptState}
+use Rattle.lynx_server.specs.Rebuilding.{IsRebuilt}
+use Rattle.lynx_server.specs.Serving.{Serving}
+use Rattle.lynx_server.proofs.Chains.{get_before, get_last}
 use Rattle.lynx_world.specs.Servers.{Servers}
 use Rattle.lynx_weave.specs.declared.fault.WeaveFault.{WeaveFault}
 use Rattle.lynx_weave.specs.declared.fault.WeaveFault.TheVariants.{Mismatch, Told, Memory}
@@ -21,13 +21,13 @@ use Rattle.lynx_weave.proofs.Gets.{take_next, take_whole}
 -- the first servers, made of the first histories
 pub record AreRebuiltBelow (set : Set) (histories : List History) (number : ℕ) (servers : Servers) : Type 0 where
   pub many : length servers ≡ number
-  pub each : (server : ℕ) (here : Serving Kept) → slice_get servers server ≡ Some here → IsRebuilt set server here.history here
+  pub each : (server : ℕ) (here : Serving KeptState) → slice_get servers server ≡ Some here → IsRebuilt set server here.history here
   pub histories_are : histories_of servers ≡ take number histories
 
 pub rebuilt_none : (set : Set) (histories : List History) → AreRebuiltBelow set histories 0 []
 rebuilt_none set histories = record { many = refl; each = λ server here is. cc; histories_are = refl }
 
-pub rebuilt_more : (set : Set) (histories : List History) (number : ℕ) (servers : Servers) (history : History) (here : Serving Kept) →
+pub rebuilt_more : (set : Set) (histories : List History) (number : ℕ) (servers : Servers) (history : History) (here : Serving KeptState) →
     slice_get histories number ≡ Some history → IsRebuilt set number history here → AreRebuiltBelow set histories number servers →
     AreRebuiltBelow set histories (number + 1) (servers ++ here ∷ [])
 rebuilt_more set histories number servers history here there is below = record {
@@ -41,11 +41,11 @@ rebuilt_more set histories number servers history here there is below = record {
         let entries : Some here ≡ Some one = sym (ap (slice_get (servers ++ here ∷ [])) last ∙ get_last servers here) ∙ at in
         let alike : here ≡ one = cc in
         let server_is : server ≡ number = last ∙ below.many in
-        subst (λ (o : Serving Kept). IsRebuilt set server o.history o) alike
+        subst (λ (o : Serving KeptState). IsRebuilt set server o.history o) alike
         (subst (λ n. IsRebuilt set n here.history here) (sym server_is) (subst (λ h. IsRebuilt set number h here) (sym is.history_is) is))
   ];
   histories_are =
-      map-append (λ (h : Serving Kept). h.history) servers (here ∷ [])
+      map-append (λ (h : Serving KeptState). h.history) servers (here ∷ [])
       ∙ ap (λ hs. hs ++ here.history ∷ []) below.histories_are
       ∙ ap (λ h. take number histories ++ h ∷ []) is.history_is
       ∙ sym (take_next histories number history there);

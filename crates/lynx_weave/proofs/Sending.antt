@@ -17,12 +17,12 @@ use Rattle.lynx_entry.specs.declared.message.Message.{Message}
 use Rattle.lynx_entry.specs.declared.request.Request.{Request}
 use Rattle.lynx_entry.specs.Entry.{History, stamp_of}
 use Rattle.lynx_turn.specs.Held.{same_chain}
-use Rattle.lynx_server.specs.Checks.{fits, fits_hop, fits_program, has_begun, request_fault_in}
-use Rattle.lynx_server.specs.Lawful.{IsLawful, message_of}
-use Rattle.lynx_server.specs.Messages.{next_message}
-use Rattle.lynx_server.specs.Visits.{is_origin, starts_at}
-use Rattle.lynx_books.specs.Acts.{act_of, is_act}
-use Rattle.lynx_books.specs.History.{IsLawfulHistory}
+use Rattle.lynx_rules.specs.Checks.{fits, fits_hop, fits_program, has_begun, request_fault_in}
+use Rattle.lynx_rules.specs.Lawful.{IsLawful, message_of}
+use Rattle.lynx_rules.specs.Messages.{next_message}
+use Rattle.lynx_rules.specs.Visits.{is_origin, starts_at}
+use Rattle.lynx_server.specs.Acts.{act_of, is_act}
+use Rattle.lynx_server.specs.History.{IsLawfulHistory}
 use Rattle.lynx_world.specs.Order.{hop_in}
 use Rattle.lynx_world.proofs.Once.{both, chosen_hop, program_of, sends_after}
 use Rattle.lynx_weave.specs.Lists.{entry_in}
@@ -30,7 +30,7 @@ use Rattle.lynx_weave.specs.Senders.{AreAllSent, AreSent, IsSentBefore, IsUnsent
 use Rattle.lynx_weave.specs.Weaving.{IsUnsentAt}
 use Rattle.lynx_weave.proofs.Gets.{found_at, found_none, found_passes}
 use Rattle.lynx_weave.proofs.Lawfuls.{sole_act}
-use Rattle.lynx_books.proofs.InHistory.{lawful_in}
+use Rattle.lynx_server.proofs.InHistory.{lawful_in}
 
 -- each server's history is lawful
 abbrev pub AreLawful : Set → List History → Type 0

@@ -3,9 +3,9 @@ use Rattle.std.proofs.Common.{◌≡◌, ℕ, suc, true, List, [], ◌∷◌, le
 use Rattle.std.proofs.lemmas.Option.{slice_get-map}
 use Rattle.lynx_set.specs.Set.{Set}
 use Rattle.lynx_entry.specs.Entry.{History}
-use Rattle.lynx_keep.specs.Kept.{Kept}
-use Rattle.lynx_books.specs.History.{IsLawfulHistory}
-use Rattle.lynx_books.specs.Serving.{Serving}
+use Rattle.lynx_keep.specs.Kept.{KeptState}
+use Rattle.lynx_server.specs.History.{IsLawfulHistory}
+use Rattle.lynx_server.specs.Serving.{Serving}
 use Rattle.lynx_world.specs.Servers.{Servers}
 use Rattle.std.specs.Global.{Vec}
 use Rattle.std.specs.List.{list_any}
@@ -22,14 +22,14 @@ use Rattle.lynx_weave.proofs.Sending.{AreLawful, unsent_at}
 
 -- the server of a history
 pub record IsServer (servers : Servers) (server : ℕ) (history : History) : Type 0 where
-  pub here : Serving Kept
+  pub here : Serving KeptState
   pub there : slice_get servers server ≡ Some here
   pub history_is : here.history ≡ history
 
 pub server_of : (servers : Servers) (server : ℕ) (history : History) → slice_get (histories_of servers) server ≡ Some history → IsServer servers server history
-server_of servers server history is = by (slice_get servers server) refl (sym (slice_get-map (λ (h : Serving Kept). h.history) servers server) ∙ is)
+server_of servers server history is = by (slice_get servers server) refl (sym (slice_get-map (λ (h : Serving KeptState). h.history) servers server) ∙ is)
   where
-    by : (o : Option (Serving Kept)) → slice_get servers server ≡ o → option_map (λ (h : Serving Kept). h.history) o ≡ Some history → IsServer servers server history
+    by : (o : Option (Serving KeptState)) → slice_get servers server ≡ o → option_map (λ (h : Serving KeptState). h.history) o ≡ Some history → IsServer servers server history
     by None there found = cc
     by (Some here) there found = record { here = here; there = there; history_is = cc }
 
@@ -39,7 +39,7 @@ lawful_all set servers are server history there =
     subst (IsLawfulHistory set server) one.history_is (are.each server one.here one.there).lawful
 
 -- a server's entry whose message nobody sent
-pub unsent_there : (set : Set) (servers : Servers) (number server place : ℕ) (here : Serving Kept) → AreRebuilt set servers →
+pub unsent_there : (set : Set) (servers : Servers) (number server place : ℕ) (here : Serving KeptState) → AreRebuilt set servers →
     slice_get servers number ≡ Some here → server ≡ here.server → IsUnsent set (histories_of servers) here.history place →
     IsUnsentAt set (histories_of servers) server place
 unsent_there set servers number server place here are there is unsent =
@@ -52,7 +52,7 @@ many_of [] = refl
 many_of (here ∷ servers) = ap suc (many_of servers)
 
 -- a server with the greatest of all stamps
-pub topped_there : (servers : Servers) (number : ℕ) (here : Serving Kept) → slice_get servers number ≡ Some here →
+pub topped_there : (servers : Servers) (number : ℕ) (here : Serving KeptState) → slice_get servers number ≡ Some here →
     list_any is_topmost here.history ≡ true → are_topped (histories_of servers) ≡ true
 topped_there servers number here there topped =
     any_of (list_any is_topmost) (histories_of servers) here.history

@@ -6,13 +6,14 @@ use Rattle.lynx_names.specs.declared.limits.TheConstants.{MAX_ENTRIES}
 use Rattle.lynx_cells.specs.Database.{cell_cmp}
 use Rattle.lynx_entry.specs.declared.entry.Entry.{Entry}
 use Rattle.lynx_entry.specs.Entry.{History}
-use Rattle.lynx_server.specs.Lawful.{is_record_of}
-use Rattle.lynx_books.specs.Acts.{is_act}
+use Rattle.lynx_rules.specs.Lawful.{is_record_of}
+use Rattle.lynx_server.specs.Acts.{is_act}
 use Rattle.lynx_weave.specs.declared.fault.WeaveFault.{WeaveFault}
 use Rattle.lynx_weave.specs.declared.fault.WeaveFault.TheVariants.{Mismatch, Told, Memory}
 use Rattle.lynx_weave.specs.declared.told.ToldItem.{ToldItem}
 use Rattle.lynx_weave.specs.declared.told.ToldItem.TheVariants.{Answered, Seen}
 use Rattle.lynx_weave.specs.Lists.{entry_in}
+use Rattle.lynx_weave.specs.Since.{IsFreshByOld}
 use Rattle.lynx_weave.specs.Told.{agrees, greatest_told, is_fresh, is_topmost, server_told, stamp_told, tells_full}
 use Rattle.lynx_weave.specs.Weaving.{all_told}
 
@@ -69,10 +70,11 @@ abbrev pub AreMarked : List History → BTreeSet (ℕ × ℕ) → List ToldItem 
 AreMarked histories old items new =
     (server place : ℕ) → marks_at new server place ≡ marks_at old server place + count_by (is_fresh_at histories server place) items
 
--- the item stands, and comes in time
-pub record IsWellTold (histories : List History) (greatest : ℕ) (item : ToldItem) : Type 0 where
+-- the item stands, comes in time, and isn't fresh by an entry from before
+pub record IsWellTold (histories : List History) (starts : List ℕ) (greatest : ℕ) (item : ToldItem) : Type 0 where
   pub stands : StandsIn histories item
   pub in_time : is_fresh item ≡ true → greatest < stamp_told item
+  pub since : IsFreshByOld histories starts item → ⊥
 
 -- the item is fresh by an entry by which as many items told before are
 pub record IsFreshAgain (histories : List History) (before : ℕ → ℕ → ℕ) (item : ToldItem) : Type 0 where
@@ -81,51 +83,52 @@ pub record IsFreshAgain (histories : List History) (before : ℕ → ℕ → ℕ
   pub is_by : is_fresh_at histories server place item ≡ true
   pub again : 1 ≤ before server place
 
--- the item doesn't stand, comes too late, or is fresh by an entry by which one before it is
-abbrev pub IsBadlyTold : List History → ℕ → (ℕ → ℕ → ℕ) → ToldItem → Type 0
-IsBadlyTold histories greatest before item =
+-- the item doesn't stand, comes too late, or is fresh by an entry by which one before it is, or by an entry from before
+abbrev pub IsBadlyTold : List History → List ℕ → ℕ → (ℕ → ℕ → ℕ) → ToldItem → Type 0
+IsBadlyTold histories starts greatest before item =
     (StandsIn histories item → ⊥)
-    ⊎ (((is_fresh item ≡ true) × (stamp_told item ≤ greatest)) ⊎ IsFreshAgain histories before item)
+    ⊎ (((is_fresh item ≡ true) × (stamp_told item ≤ greatest))
+    ⊎ (IsFreshAgain histories before item ⊎ IsFreshByOld histories starts item))
 
 -- one item was judged
-abbrev pub JudgesItem : List History → ℕ → ToldItem → BTreeSet (ℕ × ℕ) → BTreeSet (ℕ × ℕ) → Bool → Type 0
-JudgesItem histories greatest item old new true =
-    IsWellTold histories greatest item
+abbrev pub JudgesItem : List History → List ℕ → ℕ → ToldItem → BTreeSet (ℕ × ℕ) → BTreeSet (ℕ × ℕ) → Bool → Type 0
+JudgesItem histories starts greatest item old new true =
+    IsWellTold histories starts greatest item
     × ((server place : ℕ) → marks_at new server place
     ≡ marks_at old server place + (if is_fresh_at histories server place item then 1 else 0))
-JudgesItem histories greatest item old new false = IsBadlyTold histories greatest (marks_at old) item
+JudgesItem histories starts greatest item old new false = IsBadlyTold histories starts greatest (marks_at old) item
 
 -- the items of a session
-abbrev pub AreWellTold : List History → List ToldItem → Type 0
-AreWellTold histories items =
+abbrev pub AreWellTold : List History → List ℕ → List ToldItem → Type 0
+AreWellTold histories starts items =
     (place : ℕ) (item : ToldItem) → slice_get items place ≡ Some item →
-    IsWellTold histories (greatest_told (take place items)) item
+    IsWellTold histories starts (greatest_told (take place items)) item
 
 -- the first items of a session were judged well, and the one at the place badly
-pub record IsBadAt (histories : List History) (old : ℕ → ℕ → ℕ) (items : List ToldItem) (place : ℕ) : Type 0 where
+pub record IsBadAt (histories : List History) (starts : List ℕ) (old : ℕ → ℕ → ℕ) (items : List ToldItem) (place : ℕ) : Type 0 where
   pub item : ToldItem
   pub there : slice_get items place ≡ Some item
-  pub badly : IsBadlyTold histories (greatest_told (take place items))
+  pub badly : IsBadlyTold histories starts (greatest_told (take place items))
       (λ server at. old server at + count_by (is_fresh_at histories server at) (take place items)) item
 
-abbrev pub JudgesItems : List History → List ToldItem → BTreeSet (ℕ × ℕ) → BTreeSet (ℕ × ℕ) → Option ℕ → Type 0
-JudgesItems histories items old new None = AreWellTold histories items × AreMarked histories old items new
-JudgesItems histories items old new (Some place) = IsBadAt histories (marks_at old) items place
+abbrev pub JudgesItems : List History → List ℕ → List ToldItem → BTreeSet (ℕ × ℕ) → BTreeSet (ℕ × ℕ) → Option ℕ → Type 0
+JudgesItems histories starts items old new None = AreWellTold histories starts items × AreMarked histories old items new
+JudgesItems histories starts items old new (Some place) = IsBadAt histories starts (marks_at old) items place
 
 -- all that was told is well told, and no entry as fresh twice
-pub record AreAllWellTold (histories : List History) (told : List (List ToldItem)) : Type 0 where
-  pub each : (session : ℕ) (items : List ToldItem) → slice_get told session ≡ Some items → AreWellTold histories items
+pub record AreAllWellTold (histories : List History) (starts : List ℕ) (told : List (List ToldItem)) : Type 0 where
+  pub each : (session : ℕ) (items : List ToldItem) → slice_get told session ≡ Some items → AreWellTold histories starts items
   pub once : (server place : ℕ) → count_by (is_fresh_at histories server place) (all_told told) ≤ 1
 
 -- the item at that place of that session is badly told
-pub record IsBadIn (histories : List History) (told : List (List ToldItem)) (session place : ℕ) : Type 0 where
+pub record IsBadIn (histories : List History) (starts : List ℕ) (told : List (List ToldItem)) (session place : ℕ) : Type 0 where
   pub items : List ToldItem
   pub items_are : slice_get told session ≡ Some items
-  pub bad : IsBadAt histories
+  pub bad : IsBadAt histories starts
       (λ server at. count_by (is_fresh_at histories server at) (all_told (take session told))) items place
 
-abbrev pub JudgesAll : List History → List (List ToldItem) → Result (Unit {0}) WeaveFault → Type 0
-JudgesAll histories told (Ok done) = AreAllWellTold histories told
-JudgesAll histories told (Err (Mismatch server place)) = ⊥
-JudgesAll histories told (Err (Told session place)) = IsBadIn histories told session place
-JudgesAll histories told (Err Memory) = Unit {0}
+abbrev pub JudgesAll : List History → List ℕ → List (List ToldItem) → Result (Unit {0}) WeaveFault → Type 0
+JudgesAll histories starts told (Ok done) = AreAllWellTold histories starts told
+JudgesAll histories starts told (Err (Mismatch server place)) = ⊥
+JudgesAll histories starts told (Err (Told session place)) = IsBadIn histories starts told session place
+JudgesAll histories starts told (Err Memory) = Unit {0}

@@ -4,10 +4,10 @@ use Rattle.std.specs.Global.{Vec}
 use Rattle.lynx_set.specs.Set.{Set}
 use Rattle.lynx_entry.specs.declared.entry.Entry.{Entry}
 use Rattle.lynx_entry.specs.Entry.{History}
-use Rattle.lynx_keep.specs.Kept.{Kept}
-use Rattle.lynx_books.specs.Opening.{IsFirstUnlawful}
-use Rattle.lynx_books.specs.Rebuilding.{IsRebuilt}
-use Rattle.lynx_books.specs.Serving.{Serving}
+use Rattle.lynx_keep.specs.Kept.{KeptState}
+use Rattle.lynx_server.specs.History.{IsFirstUnlawful}
+use Rattle.lynx_server.specs.Rebuilding.{IsRebuilt}
+use Rattle.lynx_server.specs.Serving.{Serving}
 use Rattle.lynx_world.specs.Servers.{Servers}
 use Rattle.lynx_weave.specs.declared.fault.WeaveFault.{WeaveFault}
 use Rattle.lynx_weave.specs.declared.fault.WeaveFault.TheVariants.{Mismatch, Told, Memory}
@@ -23,16 +23,16 @@ told_in told = map (λ (items : Vec ToldItem). items.items) told
 
 -- what each server did
 abbrev pub histories_of : Servers → List History
-histories_of servers = map (λ (here : Serving Kept). here.history) servers
+histories_of servers = map (λ (here : Serving KeptState). here.history) servers
 
 -- one server for each of the set, made of its history
 pub record AreRebuilt (set : Set) (servers : Servers) : Type 0 where
   pub many : length servers ≡ set.servers
-  pub each : (server : ℕ) (here : Serving Kept) → slice_get servers server ≡ Some here →
+  pub each : (server : ℕ) (here : Serving KeptState) → slice_get servers server ≡ Some here →
       IsRebuilt set server here.history here
 
 -- a server of this history, or where that is unlawful
-abbrev pub RebuildsOne : Set → ℕ → History → Result (Serving Kept) WeaveFault → Type 0
+abbrev pub RebuildsOne : Set → ℕ → History → Result (Serving KeptState) WeaveFault → Type 0
 RebuildsOne set server history (Ok rebuilt) = IsRebuilt set server history rebuilt
 RebuildsOne set server history (Err (Mismatch found place)) =
     (found ≡ server) × IsFirstUnlawful set server history place

@@ -5,9 +5,9 @@ use Rattle.lynx_set.specs.Lookups.{server_at}
 use Rattle.lynx_entry.specs.declared.entry.Entry.{Entry}
 use Rattle.lynx_entry.specs.declared.message.Message.{Message}
 use Rattle.lynx_entry.specs.Entry.{History}
-use Rattle.lynx_server.specs.Lawful.{message_of}
-use Rattle.lynx_server.specs.Messages.{next_message}
-use Rattle.lynx_books.specs.Acts.{act_of}
+use Rattle.lynx_rules.specs.Lawful.{message_of}
+use Rattle.lynx_rules.specs.Messages.{next_message}
+use Rattle.lynx_server.specs.Acts.{act_of}
 use Rattle.lynx_weave.specs.declared.fault.WeaveFault.{WeaveFault}
 use Rattle.lynx_weave.specs.declared.fault.WeaveFault.TheVariants.{Mismatch, Told, Memory}
 use Rattle.lynx_weave.specs.Weaving.{IsUnsentAt}

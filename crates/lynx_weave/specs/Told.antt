@@ -5,13 +5,13 @@ use Rattle.std.specs.Cmp.Lexicographic.{pointwise}
 use Rattle.lynx_names.specs.declared.chain.ChainId.{ChainId}
 use Rattle.lynx_names.specs.declared.limits.TheConstants.{MAX_ENTRIES, STAMP_LIMIT}
 use Rattle.lynx_entry.specs.declared.answer.Answer.{Answer}
-use Rattle.lynx_entry.specs.declared.answer.Answer.TheVariants.{Begun as BegunAnswer, Refused as RefusedAnswer, Clash, UnknownProgram, WrongOrigin, ArgCount, WrongShard, Full, Busy, Stopped, Memory}
+use Rattle.lynx_entry.specs.declared.answer.Answer.TheVariants.{Begun as BegunAnswer, Refused as RefusedAnswer, Clash, Full}
 use Rattle.lynx_entry.specs.declared.entry.Entry.{Entry}
 use Rattle.lynx_entry.specs.declared.entry.Entry.TheVariants.{Begun, Refused, Hop}
 use Rattle.lynx_entry.specs.declared.request.Request.{Request}
 use Rattle.lynx_entry.specs.Entry.{stamp_of}
 use Rattle.lynx_turn.specs.Held.{same_chain}
-use Rattle.lynx_server.specs.Answers.{same_call}
+use Rattle.lynx_rules.specs.Answers.{same_call}
 use Rattle.lynx_world.specs.Placed.{Placed}
 use Rattle.lynx_world.specs.Worlds.{history_of}
 use Rattle.lynx_weave.specs.declared.told.ToldItem.{ToldItem}
@@ -63,14 +63,7 @@ abbrev pub bears_answer : Request → Answer → Entry → Bool
 bears_answer request (BegunAnswer chain stamp results again) entry = is_begun_as request chain stamp results entry
 bears_answer request (RefusedAnswer need stamp again) entry = is_refused_as request need stamp entry
 bears_answer request Clash entry = is_clash_of request entry
-bears_answer request UnknownProgram entry = false
-bears_answer request WrongOrigin entry = false
-bears_answer request ArgCount entry = false
-bears_answer request WrongShard entry = false
-bears_answer request Full entry = false
-bears_answer request Busy entry = false
-bears_answer request Stopped entry = false
-bears_answer request Memory entry = false
+bears_answer request answer entry = false
 
 -- the entry bears out what was told of its server
 abbrev pub bears : ToldItem → Entry → Bool
@@ -88,17 +81,8 @@ agrees item placed = (placed.server == server_told item) && bears item placed.en
 
 -- it was told that the server is full
 abbrev pub is_full_answer : Answer → Bool
-is_full_answer (BegunAnswer chain stamp results again) = false
-is_full_answer (RefusedAnswer need stamp again) = false
-is_full_answer Clash = false
-is_full_answer UnknownProgram = false
-is_full_answer WrongOrigin = false
-is_full_answer ArgCount = false
-is_full_answer WrongShard = false
 is_full_answer Full = true
-is_full_answer Busy = false
-is_full_answer Stopped = false
-is_full_answer Memory = false
+is_full_answer answer = false
 
 abbrev pub tells_full : ToldItem → Bool
 tells_full (Answered server request answer) = is_full_answer answer
@@ -121,15 +105,7 @@ stands list item = list_any (agrees item) list || (tells_full item && is_full_in
 abbrev pub is_fresh_answer : Answer → Bool
 is_fresh_answer (BegunAnswer chain stamp results again) = not again
 is_fresh_answer (RefusedAnswer need stamp again) = not again
-is_fresh_answer Clash = false
-is_fresh_answer UnknownProgram = false
-is_fresh_answer WrongOrigin = false
-is_fresh_answer ArgCount = false
-is_fresh_answer WrongShard = false
-is_fresh_answer Full = false
-is_fresh_answer Busy = false
-is_fresh_answer Stopped = false
-is_fresh_answer Memory = false
+is_fresh_answer answer = false
 
 abbrev pub is_fresh : ToldItem → Bool
 is_fresh (Answered server request answer) = is_fresh_answer answer
@@ -143,15 +119,7 @@ is_fresh_by placed item = is_fresh item && agrees item placed
 abbrev pub stamp_answered : Answer → ℕ
 stamp_answered (BegunAnswer chain stamp results again) = stamp
 stamp_answered (RefusedAnswer need stamp again) = stamp
-stamp_answered Clash = 0
-stamp_answered UnknownProgram = 0
-stamp_answered WrongOrigin = 0
-stamp_answered ArgCount = 0
-stamp_answered WrongShard = 0
-stamp_answered Full = 0
-stamp_answered Busy = 0
-stamp_answered Stopped = 0
-stamp_answered Memory = 0
+stamp_answered answer = 0
 
 abbrev pub stamp_told : ToldItem → ℕ
 stamp_told (Answered server request answer) = stamp_answered answer

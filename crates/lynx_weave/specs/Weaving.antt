@@ -5,9 +5,9 @@ use Rattle.lynx_set.specs.Set.{Set}
 use Rattle.lynx_entry.specs.declared.entry.Entry.{Entry}
 use Rattle.lynx_entry.specs.declared.message.Message.{Message}
 use Rattle.lynx_entry.specs.Entry.{History}
-use Rattle.lynx_server.specs.Lawful.{message_of}
-use Rattle.lynx_server.specs.Messages.{next_message}
-use Rattle.lynx_books.specs.Opening.{IsFirstUnlawful}
+use Rattle.lynx_rules.specs.Lawful.{message_of}
+use Rattle.lynx_rules.specs.Messages.{next_message}
+use Rattle.lynx_server.specs.History.{IsFirstUnlawful}
 use Rattle.lynx_world.specs.Placed.{Placed}
 use Rattle.lynx_world.specs.Worlds.{WorldState}
 use Rattle.lynx_weave.specs.declared.fault.WeaveFault.{WeaveFault}

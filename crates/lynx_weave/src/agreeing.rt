@@ -1,16 +1,16 @@
 //! Which entry agrees with what was told.
 ghost use Rattle.std.specs.Prelude.{◌≡◌, find};
-ghost use Rattle.lynx_books.specs.Books.{IsFoundAt};
+ghost use Rattle.lynx_server.specs.Books.{IsFoundAt};
 ghost use Rattle.lynx_weave.specs.Judging.{IsAgreedAt, IsSolePlace, is_sought, passes_at};
 ghost use Rattle.lynx_weave.specs.Rebuilt.{histories_of};
 ghost use Rattle.lynx_weave.specs.Told.{bears, bears_answer, is_begun_as, is_clash_of, is_look_at, is_other_call, is_refused_as, same_request};
 
 use crate::servers::server_at;
 use crate::told::ToldItem;
-use lynx_books::Server;
 use lynx_entry::{Answer, Entry, Request};
 use lynx_keep::MemoryKeeper;
 use lynx_names::{ChainId, Stamp};
+use lynx_server::Server;
 
 /// The same request of one client.
 fn same_request(left: &Request, right: &Request) -> bool
@@ -111,14 +111,7 @@ fn bears_answer(request: &Request, answer: &Answer, entry: &Entry) -> bool
         } => is_begun_as(request, *chain, *stamp, results.as_slice(), entry),
         Answer::Refused { need, stamp, .. } => is_refused_as(request, *need, *stamp, entry),
         Answer::Clash => is_clash_of(request, entry),
-        Answer::UnknownProgram
-        | Answer::WrongOrigin
-        | Answer::ArgCount
-        | Answer::WrongShard
-        | Answer::Full
-        | Answer::Busy
-        | Answer::Stopped
-        | Answer::Memory => false,
+        _ => false,
     }
 }
 

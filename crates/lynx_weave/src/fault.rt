@@ -11,7 +11,7 @@ pub enum WeaveFault {
     Mismatch { server: ServerId, place: u64 },
     /// The item at that place of that session, both counted from 0, doesn't stand, or is fresh and either its stamp
     /// isn't above those that its session was told before, or an item of an earlier session or place is fresh by
-    /// the same entry.
+    /// the same entry, or that entry is from before the sessions began.
     #[error("no world has item {place} of session {session}")]
     Told { session: u64, place: u64 },
     /// Want of memory.

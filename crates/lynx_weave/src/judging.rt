@@ -3,17 +3,18 @@ ghost use Rattle.std.specs.Prelude.{◌≡◌, IfOk, max};
 ghost use Rattle.std.specs.List.{list_any};
 ghost use Rattle.lynx_weave.specs.Judging.{JudgesAll, JudgesItem, JudgesItems, are_topped, is_full_here};
 ghost use Rattle.lynx_weave.specs.Rebuilt.{histories_of, told_in};
+ghost use Rattle.lynx_weave.specs.Since.{is_from_before};
 ghost use Rattle.lynx_weave.specs.Told.{is_full_answer, is_topmost, server_told, tells_full};
 
 use crate::agreeing::agreed_at;
 use crate::fault::WeaveFault;
 use crate::servers::server_at;
 use crate::told::ToldItem;
-use lynx_books::Server;
 use lynx_entry::{Answer, Entry};
 use lynx_keep::MemoryKeeper;
 use lynx_names::limits::{MAX_ENTRIES, STAMP_LIMIT};
 use lynx_names::{Memory, ServerId, Stamp};
+use lynx_server::Server;
 use std::alloc::Global;
 use std::collections::BTreeSet;
 
@@ -73,10 +74,21 @@ fn is_full_here(servers: &[Server<MemoryKeeper>], is_topped: bool, server: Serve
     }
 }
 
-/// Judges one item by the greatest stamp that its session was told before, and by the entries by which items told
-/// before are fresh.
+/// An entry at that place of that server's history is from before.
+fn is_from_before(starts: &[u64], server: ServerId, place: usize) -> bool
+    ensures { result ≡ is_from_before starts.now server place }
+{
+    match starts.get(server.index()) {
+        Some(start) => (place as u64) < *start,
+        None => false,
+    }
+}
+
+/// Judges one item by the greatest stamp that its session was told before, by the entries by which items told before
+/// are fresh, and by those that are from before.
 fn judge_item(
     servers: &[Server<MemoryKeeper>],
+    starts: &[u64],
     is_topped: bool,
     marks: &mut Marks,
     greatest: Stamp,
@@ -84,7 +96,7 @@ fn judge_item(
 ) -> Result<bool, Memory>
     requires { is_topped ≡ are_topped (histories_of servers.now) }
     ensures { IfOk result
-        (JudgesItem (histories_of servers.now) greatest item.now marks.old marks.new) }
+        (JudgesItem (histories_of servers.now) starts.now greatest item.now marks.old marks.new) }
 {
     let Some(place) = agreed_at(servers, item) else {
         return Ok(tells_full(item) && is_full_here(servers, is_topped, item.server()));
@@ -92,11 +104,14 @@ fn judge_item(
     if !item.is_fresh() {
         return Ok(true);
     }
+    let server = item.server();
+    if is_from_before(starts, server, place) {
+        return Ok(false);
+    }
     let stamp = item.stamp().time();
     if stamp <= greatest.time() {
         return Ok(false);
     }
-    let server = item.server();
     Ok(marks.insert((server, place))?)
 }
 
@@ -114,16 +129,18 @@ fn later(left: Stamp, right: Stamp) -> Stamp
 /// The place of the first item of a session that is badly told.
 fn judge_items(
     servers: &[Server<MemoryKeeper>],
+    starts: &[u64],
     is_topped: bool,
     marks: &mut Marks,
     items: &[ToldItem],
 ) -> Result<Option<usize>, Memory>
     requires { is_topped ≡ are_topped (histories_of servers.now) }
-    ensures { IfOk result (JudgesItems (histories_of servers.now) items.now marks.old marks.new) }
+    ensures { IfOk result
+        (JudgesItems (histories_of servers.now) starts.now items.now marks.old marks.new) }
 {
     let mut greatest = Stamp::zero();
     for (place, item) in items.iter().enumerate() {
-        if !judge_item(servers, is_topped, marks, greatest, item)? {
+        if !judge_item(servers, starts, is_topped, marks, greatest, item)? {
             return Ok(Some(place));
         }
         greatest = later(greatest, item.stamp());
@@ -135,14 +152,21 @@ fn judge_items(
 pub(crate) fn judge_all(
     alloc: Global,
     servers: &[Server<MemoryKeeper>],
+    starts: &[u64],
     told: &[Vec<ToldItem>],
 ) -> Result<(), WeaveFault>
-    ensures { JudgesAll (histories_of servers.now) (told_in told.now) result }
+    ensures { JudgesAll (histories_of servers.now) starts.now (told_in told.now) result }
 {
     let is_topped = are_topped(servers);
     let mut marks = BTreeSet::new(alloc);
     for (session, items) in told.iter().enumerate() {
-        if let Some(place) = judge_items(servers, is_topped, &mut marks, items.as_slice())? {
+        if let Some(place) = judge_items(
+            servers,
+            starts,
+            is_topped,
+            &mut marks,
+            items.as_slice(),
+        )? {
             return Err(WeaveFault::Told {
                 session: session as u64,
                 place: place as u64,

@@ -4,10 +4,10 @@ ghost use Rattle.lynx_weave.specs.Orders.{IsNextAt, IsOrderOf, lesser, with_next
 ghost use Rattle.lynx_weave.specs.Rebuilt.{AreRebuilt, histories_of};
 ghost use Rattle.lynx_weave.specs.Senders.{AreAllSent};
 
-use lynx_books::Server;
 use lynx_entry::Entry;
 use lynx_keep::MemoryKeeper;
 use lynx_names::{Memory, Stamp};
+use lynx_server::Server;
 use lynx_set::ChainSet;
 use lynx_world::Added;
 use std::alloc::Global;

@@ -3,10 +3,10 @@ ghost use Rattle.std.specs.Prelude.{◌≡◌, ◌∷◌, ◌++◌, [], IfErr, I
 ghost use Rattle.lynx_weave.specs.Rebuilt.{AreRebuilt, IsRebuildFault, RebuildsOne, histories_in, histories_of};
 
 use crate::fault::WeaveFault;
-use lynx_books::{OpenFault, Server, rebuild};
 use lynx_entry::Entry;
 use lynx_keep::MemoryKeeper;
 use lynx_names::{Memory, ServerId};
+use lynx_server::{OpenFault, Server, rebuild};
 use lynx_set::ChainSet;
 use std::alloc::Global;
 

@@ -5,11 +5,11 @@ ghost use Rattle.lynx_weave.specs.Senders.{FindsSenders, IsSentBefore, IsUnsentF
 
 use crate::fault::WeaveFault;
 use crate::servers::server_at;
-use lynx_books::Server;
 use lynx_entry::{Entry, Message};
 use lynx_keep::MemoryKeeper;
 use lynx_names::Memory;
-use lynx_server::next_of;
+use lynx_rules::next_of;
+use lynx_server::Server;
 use lynx_set::ChainSet;
 use std::alloc::Global;
 

@@ -1,9 +1,9 @@
 //! Servers by their numbers.
 ghost use Rattle.std.specs.Prelude.{◌≡◌, option_copied, slice_get};
 
-use lynx_books::Server;
 use lynx_keep::MemoryKeeper;
 use lynx_names::ServerId;
+use lynx_server::Server;
 
 /// The server of that number.
 pub(crate) fn server_at(

@@ -63,15 +63,7 @@ fn is_fresh_answer(answer: &Answer) -> bool
 {
     match answer {
         Answer::Begun { again, .. } | Answer::Refused { again, .. } => !*again,
-        Answer::Clash
-        | Answer::UnknownProgram
-        | Answer::WrongOrigin
-        | Answer::ArgCount
-        | Answer::WrongShard
-        | Answer::Full
-        | Answer::Busy
-        | Answer::Stopped
-        | Answer::Memory => false,
+        _ => false,
     }
 }
 
@@ -81,14 +73,6 @@ fn stamp_answered(answer: &Answer) -> Stamp
 {
     match answer {
         Answer::Begun { stamp, .. } | Answer::Refused { stamp, .. } => *stamp,
-        Answer::Clash
-        | Answer::UnknownProgram
-        | Answer::WrongOrigin
-        | Answer::ArgCount
-        | Answer::WrongShard
-        | Answer::Full
-        | Answer::Busy
-        | Answer::Stopped
-        | Answer::Memory => Stamp::zero(),
+        _ => Stamp::zero(),
     }
 }

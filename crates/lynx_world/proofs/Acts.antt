@@ -7,9 +7,9 @@ use Rattle.lynx_entry.specs.declared.entry.BegunEntry.{BegunEntry}
 use Rattle.lynx_entry.specs.declared.entry.HopEntry.{HopEntry}
 use Rattle.lynx_entry.specs.declared.entry.Entry.{Entry}
 use Rattle.lynx_entry.specs.declared.entry.Entry.TheVariants.{Begun, Refused, Hop as HopRan}
-use Rattle.lynx_server.specs.Visits.{visits}
-use Rattle.lynx_server.specs.Deliveries.{same_chain}
-use Rattle.lynx_server.proofs.Steps.{begins_visiting-lawful}
+use Rattle.lynx_rules.specs.Visits.{visits}
+use Rattle.lynx_rules.specs.Deliveries.{same_chain}
+use Rattle.lynx_rules.proofs.Steps.{begins_visiting-lawful}
 use Rattle.lynx_world.specs.Placed.{Placed}
 use Rattle.lynx_world.specs.Worlds.{history_of}
 use Rattle.lynx_world.specs.Legal.{IsLegal}

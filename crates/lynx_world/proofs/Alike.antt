@@ -3,8 +3,8 @@ use Rattle.std.proofs.Common.{◌≡◌, ℕ, Bool, true, List, [], ◌∷◌, n
 use Rattle.std.specs.Cmp.Lexicographic.{pointwise}
 use Rattle.lynx_entry.specs.declared.message.Message.{Message}
 use Rattle.lynx_names.specs.declared.numbers.NumberAt.{NumberAt}
-use Rattle.lynx_server.specs.Checks.{same_numbers}
-use Rattle.lynx_server.specs.Deliveries.{same_message}
+use Rattle.lynx_rules.specs.Checks.{same_numbers}
+use Rattle.lynx_rules.specs.Deliveries.{same_message}
 use Rattle.lynx_world.proofs.Once.{same_chain-self}
 use Rattle.lynx_world.proofs.Tests.{and-true}
 

@@ -15,12 +15,12 @@ use Rattle.lynx_entry.specs.declared.entry.Entry.{Entry}
 use Rattle.lynx_entry.specs.declared.entry.Entry.TheVariants.{Begun, Refused, Hop as HopRan}
 use Rattle.lynx_entry.specs.declared.message.Message.{Message}
 use Rattle.lynx_entry.specs.Entry.{History}
-use Rattle.lynx_server.specs.Turns.{turn_of}
-use Rattle.lynx_server.specs.Tables.{tables_of}
-use Rattle.lynx_server.specs.Messages.{next_message}
-use Rattle.lynx_server.specs.Lawful.{is_hop_of, hop_entry_of}
-use Rattle.lynx_server.specs.Answers.{is_full}
-use Rattle.lynx_server.specs.Deliveries.{Delivers, same_chain, same_hop, same_message, repeated, early, done_by, deliver_by_turn, deliver_new, delivery}
+use Rattle.lynx_rules.specs.Turns.{turn_of}
+use Rattle.lynx_rules.specs.Tables.{tables_of}
+use Rattle.lynx_rules.specs.Messages.{next_message}
+use Rattle.lynx_rules.specs.Lawful.{is_hop_of, hop_entry_of}
+use Rattle.lynx_rules.specs.Answers.{is_full}
+use Rattle.lynx_rules.specs.Deliveries.{Delivers, same_chain, same_hop, same_message, repeated, early, done_by, deliver_by_turn, deliver_new, delivery}
 use Rattle.lynx_world.specs.Placed.{Placed}
 use Rattle.lynx_world.specs.Worlds.{history_of}
 use Rattle.lynx_world.specs.Legal.{IsSent, IsLegal}

@@ -10,9 +10,9 @@ use Rattle.lynx_entry.specs.declared.entry.HopEntry.{HopEntry}
 use Rattle.lynx_entry.specs.declared.entry.Entry.{Entry}
 use Rattle.lynx_entry.specs.declared.entry.Entry.TheVariants.{Begun, Refused, Hop as HopRan}
 use Rattle.lynx_entry.specs.declared.message.Message.{Message}
-use Rattle.lynx_server.specs.Messages.{next_message}
-use Rattle.lynx_server.specs.Tables.{tables_of}
-use Rattle.lynx_server.specs.Checks.{result_count}
+use Rattle.lynx_rules.specs.Messages.{next_message}
+use Rattle.lynx_rules.specs.Tables.{tables_of}
+use Rattle.lynx_rules.specs.Checks.{result_count}
 use Rattle.lynx_world.specs.Placed.{Placed}
 use Rattle.lynx_world.specs.Worlds.{history_of}
 use Rattle.lynx_world.specs.Legal.{IsSent, MayFollow, IsLegal}

@@ -9,11 +9,11 @@ use Rattle.lynx_set.specs.Set.{Set}
 use Rattle.lynx_entry.specs.declared.entry.Entry.{Entry}
 use Rattle.lynx_entry.specs.declared.entry.Entry.TheVariants.{Begun, Refused, Hop}
 use Rattle.lynx_entry.specs.declared.message.Message.{Message}
-use Rattle.lynx_keep.specs.Kept.{Kept}
+use Rattle.lynx_keep.specs.Kept.{KeptState}
 use Rattle.lynx_turn.specs.Held.{same_chain}
-use Rattle.lynx_server.specs.Messages.{next_message}
-use Rattle.lynx_books.specs.Acts.{act_of, is_act}
-use Rattle.lynx_books.specs.Serving.{Serving}
+use Rattle.lynx_rules.specs.Messages.{next_message}
+use Rattle.lynx_server.specs.Acts.{act_of, is_act}
+use Rattle.lynx_server.specs.Serving.{Serving}
 use Rattle.lynx_world.specs.declared.added.Added.{Added}
 use Rattle.lynx_world.specs.Placed.{Placed}
 use Rattle.lynx_world.specs.Legal.{IsLegal, IsSent}
@@ -104,18 +104,18 @@ act_found set chain hop list q legal there is = by (act_in chain hop list) refl
 
 -- what the first servers that have it give stands at one of them
 act_given : (chain : ChainId) (hop : ℕ) (servers : Servers) (entry : Entry) → act_among chain hop servers ≡ Some entry →
-    (server : ℕ) × (here : Serving Kept) × (slice_get servers server ≡ Some here) × (act_of chain hop here.history ≡ Some entry)
+    (server : ℕ) × (here : Serving KeptState) × (slice_get servers server ≡ Some here) × (act_of chain hop here.history ≡ Some entry)
 act_given chain hop [] entry is = cc
 act_given chain hop (first ∷ servers) entry is = by (act_of chain hop first.history) refl is (act_given chain hop servers entry)
   where
     by : (o : Option Entry) → act_of chain hop first.history ≡ o → option_or o (act_among chain hop servers) ≡ Some entry →
-        (act_among chain hop servers ≡ Some entry → (server : ℕ) × (here : Serving Kept) × (slice_get servers server ≡ Some here) × (act_of chain hop here.history ≡ Some entry)) →
-        (server : ℕ) × (here : Serving Kept) × (slice_get (first ∷ servers) server ≡ Some here) × (act_of chain hop here.history ≡ Some entry)
+        (act_among chain hop servers ≡ Some entry → (server : ℕ) × (here : Serving KeptState) × (slice_get servers server ≡ Some here) × (act_of chain hop here.history ≡ Some entry)) →
+        (server : ℕ) × (here : Serving KeptState) × (slice_get (first ∷ servers) server ≡ Some here) × (act_of chain hop here.history ≡ Some entry)
     by None none found later = let r = later found in (suc r.0, r.1, r.2, r.3)
     by (Some other) one found later = let same : other ≡ entry = cc in (zero, first, refl, one ∙ ap Some same)
 
 -- where none of them gives it, none has it
-act_nowhere : (chain : ChainId) (hop : ℕ) (servers : Servers) (server : ℕ) (here : Serving Kept) → act_among chain hop servers ≡ None →
+act_nowhere : (chain : ChainId) (hop : ℕ) (servers : Servers) (server : ℕ) (here : Serving KeptState) → act_among chain hop servers ≡ None →
     slice_get servers server ≡ Some here → act_of chain hop here.history ≡ None
 act_nowhere chain hop [] server here none there = cc
 act_nowhere chain hop (first ∷ servers) server here none there =
@@ -125,13 +125,13 @@ act_nowhere chain hop (first ∷ servers) server here none there =
         slice_get (first ∷ servers) n ≡ Some here →
         ((n : ℕ) → act_among chain hop servers ≡ None → slice_get servers n ≡ Some here → act_of chain hop here.history ≡ None) →
         act_of chain hop here.history ≡ None
-    by None is zero rest found later = let same : first ≡ here = cc in ap (λ (h : Serving Kept). act_of chain hop h.history) (sym same) ∙ is
+    by None is zero rest found later = let same : first ≡ here = cc in ap (λ (h : Serving KeptState). act_of chain hop h.history) (sym same) ∙ is
     by None is (suc n) rest found later = later n rest found
     by (Some entry) is n rest found later = cc
 
 -- each server of the set is there
 server_there : (set : Set) (servers : Servers) (order : List Added) (server : ℕ) → AreServers set servers order → server < set.servers →
-    (here : Serving Kept) × (slice_get servers server ≡ Some here)
+    (here : Serving KeptState) × (slice_get servers server ≡ Some here)
 server_there set servers order server are within =
     elim (slice_get_cases servers server).1 [
       | inl found ↦ (found.0, found.2)

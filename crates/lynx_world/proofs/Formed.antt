@@ -12,9 +12,9 @@ use Rattle.lynx_entry.specs.declared.message.Message.{Message}
 use Rattle.lynx_names.specs.declared.numbers.NumberAt.{NumberAt}
 use Rattle.lynx_entry.specs.declared.request.Request.{Request}
 use Rattle.lynx_entry.specs.Entry.{History}
-use Rattle.lynx_server.specs.Visits.{is_origin, visited}
-use Rattle.lynx_server.specs.Turns.{numbered}
-use Rattle.lynx_server.specs.Checks.{are_keys_placed, request_fault_in, result_count, same_numbers, begins, fits, fits_hop, fits_program, has_begun, is_well_formed}
+use Rattle.lynx_rules.specs.Visits.{is_origin, visited}
+use Rattle.lynx_rules.specs.Turns.{numbered}
+use Rattle.lynx_rules.specs.Checks.{are_keys_placed, request_fault_in, result_count, same_numbers, begins, fits, fits_hop, fits_program, has_begun, is_well_formed}
 use Rattle.lynx_world.specs.Placed.{Placed}
 use Rattle.lynx_world.specs.Worlds.{history_of}
 use Rattle.lynx_world.specs.Legal.{IsLegal}

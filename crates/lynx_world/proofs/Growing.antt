@@ -9,11 +9,11 @@ use Rattle.lynx_entry.specs.declared.event.Event.{Event}
 use Rattle.lynx_entry.specs.declared.event.Event.TheVariants.{Begin, Deliver, Wake, Lost, Restart}
 use Rattle.lynx_world.specs.Placed.{Placed}
 use Rattle.lynx_world.specs.Worlds.{WorldState, history_of}
-use Rattle.lynx_world.specs.Steps.{HasGrown, Step, step, is_server, held_at, sent_message, destination_of, with_entry, deliver_sent, wake_at, least_of, stands_now}
+use Rattle.lynx_world.specs.Steps.{HasGrown, Step, step, is_server, held_at, sent_message, destination_of, list_with, deliver_sent, wake_at, least_of, stands_now}
 
-with_entry-grows : (server : ℕ) (added : Option Entry) (list : List Placed) → HasGrown list (with_entry server added list)
-with_entry-grows server None list = inl refl
-with_entry-grows server (Some entry) list = inr (record { server = server; entry = entry }, refl)
+list_with-grows : (server : ℕ) (added : Option Entry) (list : List Placed) → HasGrown list (list_with server added list)
+list_with-grows server None list = inl refl
+list_with-grows server (Some entry) list = inr (record { server = server; entry = entry }, refl)
 
 chosen_grows : (old : List Placed) (b : Bool) (x y : Step) → HasGrown old x.world.list → HasGrown old y.world.list →
     HasGrown old (if b then x else y).world.list
@@ -25,16 +25,16 @@ deliver-grows : (room : ℕ) (world : WorldState) (chain : ChainId) (hop : ℕ) 
 deliver-grows room world chain hop None = inl refl
 deliver-grows room world chain hop (Some message) =
     let server = destination_of world.set message in
-    chosen_grows world.list (is_server world server) _ _ (with_entry-grows server _ world.list) (inl refl)
+    chosen_grows world.list (is_server world server) _ _ (list_with-grows server _ world.list) (inl refl)
 
 wake-grows : (room : ℕ) (world : WorldState) (server : ℕ) (least : Option Message) →
     HasGrown world.list (wake_at room world server least).world.list
 wake-grows room world server None = inl refl
-wake-grows room world server (Some message) = with_entry-grows server _ world.list
+wake-grows room world server (Some message) = list_with-grows server _ world.list
 
 pub step-grows : (room : ℕ) (world : WorldState) (event : Event) → HasGrown world.list (step room world event).world.list
 step-grows room world (Begin server request seen) =
-    chosen_grows world.list (is_server world server) _ _ (with_entry-grows server _ world.list) (inl refl)
+    chosen_grows world.list (is_server world server) _ _ (list_with-grows server _ world.list) (inl refl)
 step-grows room world (Deliver chain hop) = deliver-grows room world chain hop (sent_message world.set chain hop world.list)
 step-grows room world (Wake server) =
     chosen_grows world.list (is_server world server) _ _

@@ -9,11 +9,11 @@ use Rattle.lynx_entry.specs.declared.entry.Entry.{Entry}
 use Rattle.lynx_entry.specs.declared.message.Message.{Message}
 use Rattle.lynx_entry.specs.Entry.{History}
 use Rattle.lynx_turn.specs.Held.{is_before, least_of, lesser, place_for}
-use Rattle.lynx_server.specs.Answers.{is_full}
-use Rattle.lynx_server.specs.Checks.{is_well_formed}
-use Rattle.lynx_server.specs.Deliveries.{Delivers, deliver_by_turn, deliver_new, delivery, done_by, early, same_hop, same_message}
-use Rattle.lynx_server.specs.Lawful.{hop_entry_of, number_at}
-use Rattle.lynx_server.specs.Turns.{turn_of}
+use Rattle.lynx_rules.specs.Answers.{is_full}
+use Rattle.lynx_rules.specs.Checks.{is_well_formed}
+use Rattle.lynx_rules.specs.Deliveries.{Delivers, deliver_by_turn, deliver_new, delivery, done_by, early, same_hop, same_message}
+use Rattle.lynx_rules.specs.Lawful.{hop_entry_of, number_at}
+use Rattle.lynx_rules.specs.Turns.{turn_of}
 
 -- all of it holds of each message that is held afterwards
 abbrev HoldsOf : (Message → Type 0) → Delivers → Type 0

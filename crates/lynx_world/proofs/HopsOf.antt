@@ -7,7 +7,7 @@ use Rattle.std.proofs.lemmas.Option.{slice_get_within, get_or_from_slice_get}
 use Rattle.lynx_set.specs.declared.program.Hop.{Hop}
 use Rattle.lynx_set.specs.declared.program.Program.{Program}
 use Rattle.lynx_set.specs.Set.{Set}
-use Rattle.lynx_server.specs.Visits.{visits}
+use Rattle.lynx_rules.specs.Visits.{visits}
 use Rattle.lynx_world.proofs.Tests.{not_both}
 use Rattle.lynx_set.specs.Lookups.{actions_at, hop_at, hops_of, program_at}
 

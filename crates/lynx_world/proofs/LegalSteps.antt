@@ -8,13 +8,13 @@ use Rattle.lynx_set.specs.Set.{Set}
 use Rattle.lynx_entry.specs.declared.entry.Entry.{Entry}
 use Rattle.lynx_entry.specs.declared.message.Message.{Message}
 use Rattle.lynx_entry.specs.Entry.{History}
-use Rattle.lynx_server.specs.Messages.{next_message}
-use Rattle.lynx_server.specs.Turns.{is_begun, begins_visiting, number_for, begun_count}
+use Rattle.lynx_rules.specs.Messages.{next_message}
+use Rattle.lynx_rules.specs.Turns.{is_begun, begins_visiting, number_for, begun_count}
 use Rattle.lynx_entry.specs.declared.request.Request.{Request}
-use Rattle.lynx_server.specs.Answers.{Begins, answer}
-use Rattle.lynx_server.specs.Deliveries.{delivery}
-use Rattle.lynx_server.specs.Lawful.{Starts, Runs, message_of}
-use Rattle.lynx_server.proofs.Steps.{begins_visiting-lawful, answer-lawful, delivery-lawful}
+use Rattle.lynx_rules.specs.Answers.{Begins, answer}
+use Rattle.lynx_rules.specs.Deliveries.{delivery}
+use Rattle.lynx_rules.specs.Lawful.{Starts, Runs, message_of}
+use Rattle.lynx_rules.proofs.Steps.{begins_visiting-lawful, answer-lawful, delivery-lawful}
 use Rattle.lynx_world.specs.Placed.{Placed}
 use Rattle.lynx_world.specs.Worlds.{history_of, messages_of}
 use Rattle.lynx_world.specs.Steps.{is_message_of, sent_message}

@@ -5,7 +5,6 @@ pub mod HeldSent
 pub mod Stepping
 pub mod Reopening
 pub mod Starting
-pub mod FewResults
 pub mod Growing
 pub mod Members
 pub mod Once

@@ -7,16 +7,12 @@ use Rattle.lynx_entry.specs.declared.entry.Entry.{Entry}
 use Rattle.lynx_names.specs.declared.chain.ChainId.{ChainId}
 use Rattle.lynx_set.specs.Set.{Set}
 use Rattle.lynx_entry.specs.declared.message.Message.{Message}
-use Rattle.lynx_server.specs.Messages.{next_message}
+use Rattle.lynx_rules.specs.Messages.{next_message}
+pub use Rattle.lynx_server.proofs.Members.{IsIn, found_in}
 use Rattle.lynx_world.specs.Placed.{Placed}
 use Rattle.lynx_world.specs.Worlds.{history_of}
 use Rattle.lynx_world.specs.Legal.{IsSent}
 use Rattle.lynx_world.specs.Order.{hop_in, done_hops}
-
--- the value is in the list
-abbrev pub IsIn : {X : Type 0} → X → List X → Type 0
-IsIn x [] = ⊥
-IsIn x (y ∷ ys) = (y ≡ x) ⊎ IsIn x ys
 
 pub in-push : {X : Type 0} (x y : X) (xs : List X) → IsIn x (xs ++ y ∷ []) → IsIn x xs ⊎ (y ≡ x)
 in-push x y [] (inl same) = inr same
@@ -34,16 +30,6 @@ in-append x (first ∷ xs) ys (inr later) = inr (in-append x xs ys later)
 pub in-last : {X : Type 0} (x y : X) (xs : List X) → y ≡ x → IsIn x (xs ++ y ∷ [])
 in-last x y [] same = inl same
 in-last x y (first ∷ xs) same = inr (in-last x y xs same)
-
--- what is found is in the list, and passes the test
-pub found_in : {X : Type 0} (test : X → Bool) (xs : List X) (x : X) → find test xs ≡ Some x → IsIn x xs × (test x ≡ true)
-found_in test [] x found = cc
-found_in {X} test (first ∷ xs) x found = by (test first) refl found (found_in test xs x)
-  where
-    by : (b : Bool) → test first ≡ b → cond b (Some first) (find test xs) ≡ Some x →
-        (find test xs ≡ Some x → IsIn x xs × (test x ≡ true)) → IsIn x (first ∷ xs) × (test x ≡ true)
-    by true is found later = let same : first ≡ x = cc in (inl same, ap test (sym same) ∙ is)
-    by false is found later = let rest = later found in (inr rest.0, rest.1)
 
 -- a test passes somewhere where it passes at a value of the list
 pub any_of : {X : Type 0} (test : X → Bool) (xs : List X) (x : X) → IsIn x xs → test x ≡ true → list_any test xs ≡ true

@@ -9,9 +9,9 @@ use Rattle.lynx_entry.specs.declared.entry.BegunEntry.{BegunEntry}
 use Rattle.lynx_entry.specs.declared.entry.Entry.TheVariants.{Begun}
 use Rattle.lynx_names.specs.declared.numbers.NumberAt.{NumberAt}
 use Rattle.lynx_entry.specs.Entry.{History}
-use Rattle.lynx_server.specs.Visits.{visits, visited}
-use Rattle.lynx_server.specs.Turns.{number_for, numbered, numbers_of}
-use Rattle.lynx_server.specs.Lawful.{IsLawfulBegun, number_at}
+use Rattle.lynx_rules.specs.Visits.{visits, visited}
+use Rattle.lynx_rules.specs.Turns.{number_for, numbered, numbers_of}
+use Rattle.lynx_rules.specs.Lawful.{IsLawfulBegun, number_at}
 use Rattle.lynx_world.specs.Placed.{Placed}
 use Rattle.lynx_world.proofs.Members.{IsIn, in_range, in-filter}
 use Rattle.lynx_set.specs.Lookups.{hops_of}

@@ -17,17 +17,17 @@ use Rattle.lynx_entry.specs.declared.entry.HopEntry.{HopEntry}
 use Rattle.lynx_entry.specs.declared.message.Message.{Message}
 use Rattle.lynx_names.specs.declared.numbers.NumberAt.{NumberAt}
 use Rattle.lynx_entry.specs.Entry.{History}
-use Rattle.lynx_server.specs.Turns.{is_begun, begun_count}
-use Rattle.lynx_server.specs.Messages.{next_message, message_after}
-use Rattle.lynx_server.specs.Checks.{fits, fits_hop, fits_program, has_begun, is_well_formed}
-use Rattle.lynx_server.specs.Lawful.{is_hop_of, message_of}
-use Rattle.lynx_server.specs.Deliveries.{same_chain}
+use Rattle.lynx_rules.specs.Turns.{is_begun, begun_count}
+use Rattle.lynx_rules.specs.Messages.{next_message, message_after}
+use Rattle.lynx_rules.specs.Checks.{fits, fits_hop, fits_program, has_begun, is_well_formed}
+use Rattle.lynx_rules.specs.Lawful.{is_hop_of, message_of}
+use Rattle.lynx_rules.specs.Deliveries.{same_chain}
 use Rattle.lynx_world.specs.Placed.{Placed}
 use Rattle.lynx_world.specs.Worlds.{history_of}
 use Rattle.lynx_world.specs.Legal.{MayFollow, IsLegalAfter, IsLegal}
 use Rattle.lynx_world.specs.Order.{hop_in, done_hops, IsOnceAndInOrder}
 use Rattle.lynx_world.proofs.Histories.{history_of-push}
-use Rattle.lynx_server.proofs.Ranges.{range_more}
+use Rattle.lynx_rules.proofs.Ranges.{range_more}
 use Rattle.lynx_world.proofs.Members.{IsIn, in-push, in_range, below_range, entry_of_done, done_of_entry, sender_of, none_of}
 use Rattle.lynx_set.specs.Lookups.{hop_at, hops_of, program_at}
 

@@ -10,9 +10,9 @@ use Rattle.lynx_names.specs.declared.limits.TheConstants.{MAX_SERVERS}
 use Rattle.lynx_set.specs.Set.{Set}
 use Rattle.lynx_entry.specs.declared.entry.Entry.{Entry}
 use Rattle.lynx_entry.specs.declared.entry.Entry.TheVariants.{Begun, Refused, Hop as HopRan}
-use Rattle.lynx_server.specs.Turns.{leaves, turn_of}
-use Rattle.lynx_server.specs.Lawful.{IsLawful}
-use Rattle.lynx_server.specs.Deliveries.{same_chain}
+use Rattle.lynx_rules.specs.Turns.{ends_visit, turn_of}
+use Rattle.lynx_rules.specs.Lawful.{IsLawful}
+use Rattle.lynx_rules.specs.Deliveries.{same_chain}
 use Rattle.lynx_world.specs.Placed.{Placed}
 use Rattle.lynx_world.specs.Worlds.{history_of}
 use Rattle.lynx_world.specs.Legal.{MayFollow, IsLegal}
@@ -61,7 +61,7 @@ turn-front : (set : Set) (server origin : ℕ) (before behind : List Placed) →
 turn-front set server origin before [] =
     let same = ap (λ l. turn_of set server (history_of server l) origin) (append-nil before) in omega arith
 turn-front set server origin before (placed ∷ behind) =
-    let first = count-grows (leaves set server origin) server before placed in
+    let first = count-grows (ends_visit set server origin) server before placed in
     let rest = turn-front set server origin (before ++ placed ∷ []) behind in
     let same = ap (λ l. turn_of set server (history_of server l) origin) (append_assoc before (placed ∷ []) behind) in
     omega arith

@@ -8,10 +8,10 @@ use Rattle.lynx_entry.specs.declared.entry.BegunEntry.{BegunEntry}
 use Rattle.lynx_entry.specs.declared.entry.Entry.{Entry}
 use Rattle.lynx_entry.specs.declared.entry.Entry.TheVariants.{Begun, Refused, Hop as HopRan}
 use Rattle.lynx_entry.specs.declared.message.Message.{Message}
-use Rattle.lynx_server.specs.Visits.{visits}
-use Rattle.lynx_server.specs.Turns.{turn_of}
-use Rattle.lynx_server.specs.Lawful.{is_hop_of, hop_entry_of}
-use Rattle.lynx_server.specs.Deliveries.{same_chain}
+use Rattle.lynx_rules.specs.Visits.{visits}
+use Rattle.lynx_rules.specs.Turns.{turn_of}
+use Rattle.lynx_rules.specs.Lawful.{is_hop_of, hop_entry_of}
+use Rattle.lynx_rules.specs.Deliveries.{same_chain}
 use Rattle.lynx_world.specs.Placed.{Placed}
 use Rattle.lynx_world.specs.Worlds.{history_of}
 use Rattle.lynx_world.specs.Legal.{IsLegal}

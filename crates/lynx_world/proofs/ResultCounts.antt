@@ -4,8 +4,8 @@ use Rattle.std.specs.List.{flat_map}
 use Rattle.lynx_cells.specs.Database.{Database}
 use Rattle.lynx_set.specs.Set.{Set}
 use Rattle.lynx_hops.specs.Meaning.{run, meaning}
-use Rattle.lynx_server.specs.Checks.{result_count}
-use Rattle.lynx_books.proofs.ResultCounts.{run-counted}
+use Rattle.lynx_rules.specs.Checks.{result_count}
+use Rattle.lynx_server.proofs.ResultCounts.{run-counted}
 use Rattle.lynx_world.proofs.HopsOf.{HasHop, actions_are}
 
 pub meaning-counted : (set : Set) (program number : ℕ) (has : HasHop set program number) (args : List ℕ) (earlier : List (List ℕ))

@@ -6,7 +6,7 @@ use Rattle.lynx_names.specs.declared.limits.TheConstants.{MAX_SERVERS}
 use Rattle.lynx_set.specs.Set.{Set}
 use Rattle.lynx_entry.specs.declared.entry.BegunEntry.{BegunEntry}
 use Rattle.lynx_entry.specs.declared.entry.Entry.TheVariants.{Begun}
-use Rattle.lynx_server.specs.Turns.{is_begun, begins_visiting, begun_count, number_for}
+use Rattle.lynx_rules.specs.Turns.{is_begun, begins_visiting, begun_count, number_for}
 use Rattle.lynx_world.specs.Placed.{Placed}
 use Rattle.lynx_world.specs.Worlds.{history_of}
 use Rattle.lynx_world.specs.Legal.{MayFollow, IsLegal}

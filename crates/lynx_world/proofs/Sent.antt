@@ -2,8 +2,8 @@
 use Rattle.std.proofs.Common.{◌≡◌, List, [], ◌∷◌, ◌++◌, Some, inl, inr, ◌⊎◌, subst}
 use Rattle.lynx_set.specs.Set.{Set}
 use Rattle.lynx_entry.specs.declared.message.Message.{Message}
-use Rattle.lynx_server.specs.Messages.{next_message}
-use Rattle.lynx_server.specs.Lawful.{message_of}
+use Rattle.lynx_rules.specs.Messages.{next_message}
+use Rattle.lynx_rules.specs.Lawful.{message_of}
 use Rattle.lynx_world.specs.Placed.{Placed}
 use Rattle.lynx_world.specs.Legal.{IsSent, IsLegal}
 use Rattle.lynx_world.proofs.Members.{IsIn}

@@ -4,7 +4,7 @@ use Rattle.lynx_names.specs.declared.limits.TheConstants.{MAX_SERVERS}
 use Rattle.lynx_set.specs.Set.{Set}
 use Rattle.lynx_entry.specs.declared.message.Message.{Message}
 use Rattle.lynx_forms.specs.Ranges.{IsMessageInRange}
-use Rattle.lynx_books.proofs.InRange.{next-in_range}
+use Rattle.lynx_server.proofs.InRange.{next-in_range}
 use Rattle.lynx_world.specs.Legal.{IsLegal, IsLegalAfter, IsSent}
 use Rattle.lynx_world.specs.Placed.{Placed}
 use Rattle.lynx_world.specs.Worlds.{history_of}

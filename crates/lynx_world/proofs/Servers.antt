@@ -13,24 +13,25 @@ use Rattle.lynx_set.specs.Set.{Set}
 use Rattle.lynx_entry.specs.declared.entry.Entry.{Entry}
 use Rattle.lynx_entry.specs.declared.message.Message.{Message}
 use Rattle.lynx_entry.specs.Entry.{History}
-use Rattle.lynx_keep.specs.Kept.{Kept}
-use Rattle.lynx_books.specs.Acts.{act_of}
-use Rattle.lynx_books.specs.History.{grown}
-use Rattle.lynx_books.specs.Repeating.{GoesOn}
-use Rattle.lynx_books.specs.Serving.{Serving}
-use Rattle.lynx_books.proofs.Chains.{get_before, get_last}
+use Rattle.lynx_keep.specs.Kept.{KeptState}
+use Rattle.lynx_server.specs.Acts.{act_of}
+use Rattle.lynx_server.specs.History.{grown}
+use Rattle.lynx_server.specs.inner.Repeating.{HasAdded}
+use Rattle.lynx_server.specs.Serving.{Serving}
+use Rattle.lynx_server.proofs.Chains.{get_before, get_last}
 use Rattle.lynx_world.specs.declared.added.Added.{Added}
 use Rattle.lynx_world.specs.Placed.{Placed}
 use Rattle.lynx_world.specs.Legal.{IsLegal, IsSent, MayFollow}
-use Rattle.lynx_world.specs.Servers.{AreServers, IsServerOf, Servers, act_among, held_of, list_of, noted, placed_of}
-use Rattle.lynx_world.specs.Steps.{with_entry}
+use Rattle.lynx_world.specs.Servers.{AreServers, IsServerOf, Servers, act_among, held_of, list_of, placed_of}
+use Rattle.lynx_world.specs.inner.Calls.{noted}
+use Rattle.lynx_world.specs.Steps.{list_with}
 use Rattle.lynx_world.specs.Worlds.{history_of}
 use Rattle.lynx_world.proofs.Histories.{history_of-push}
 use Rattle.lynx_world.proofs.LegalSteps.{legal-push}
 use Rattle.lynx_world.proofs.Sent.{sent-append}
 
 -- the first server has the entry, or those behind it
-pub act_first : (chain : ChainId) (hop : ℕ) (here : Serving Kept) (servers : Servers) →
+pub act_first : (chain : ChainId) (hop : ℕ) (here : Serving KeptState) (servers : Servers) →
     act_among chain hop (here ∷ servers) ≡ option_or (act_of chain hop here.history) (act_among chain hop servers)
 act_first chain hop here servers = refl
 
@@ -61,12 +62,12 @@ get_grown history None place entry is = is
 get_grown history (Some more) place entry is = get_before history more place (slice_get_within history place entry is) ∙ is
 
 -- the entry that was added, by its server
-abbrev placed_at : ℕ → ℕ → Option (Serving Kept) → Option Placed
+abbrev placed_at : ℕ → ℕ → Option (Serving KeptState) → Option Placed
 placed_at server place here =
-    option_map (λ entry. record { server = server; entry = entry }) (option_and_then (λ (h : Serving Kept). slice_get h.history place) here)
+    option_map (λ entry. record { server = server; entry = entry }) (option_and_then (λ (h : Serving KeptState). slice_get h.history place) here)
 
 -- an entry that is found is found when its server has one more
-found_more : (server place : ℕ) (old new : Serving Kept) (added : Option Entry) (placed : Placed) → new.history ≡ grown old.history added →
+found_more : (server place : ℕ) (old new : Serving KeptState) (added : Option Entry) (placed : Placed) → new.history ≡ grown old.history added →
     placed_at server place (Some old) ≡ Some placed → placed_at server place (Some new) ≡ Some placed
 found_more server place old new added placed grew is = by (slice_get old.history place) refl is
   where
@@ -78,7 +79,7 @@ found_more server place old new added placed grew is = by (slice_get old.history
         ∙ ap (option_map (λ e. record { server = server; entry = e })) (get_grown old.history added place entry there) ∙ found
 
 -- what was added is found where a server has one more
-pub placed_stays : (servers : Servers) (server : ℕ) (old new : Serving Kept) (added : Option Entry) (one : Added) (placed : Placed) →
+pub placed_stays : (servers : Servers) (server : ℕ) (old new : Serving KeptState) (added : Option Entry) (one : Added) (placed : Placed) →
     slice_get servers server ≡ Some old → new.history ≡ grown old.history added → placed_of servers one ≡ Some placed →
     placed_of (slice_set servers server new) one ≡ Some placed
 placed_stays servers server old new added one placed there grew is =
@@ -104,7 +105,7 @@ abbrev pub IsThere : Servers → Added → Type 0
 IsThere servers one = IsSome (placed_of servers one)
 
 -- all that was added is found, and stands in the list as it did
-pub found_stays : (servers : Servers) (server : ℕ) (old new : Serving Kept) (added : Option Entry) (order : List Added) →
+pub found_stays : (servers : Servers) (server : ℕ) (old new : Serving KeptState) (added : Option Entry) (order : List Added) →
     slice_get servers server ≡ Some old → new.history ≡ grown old.history added → All (IsThere servers) order →
     All (IsThere (slice_set servers server new)) order
 found_stays servers server old new added [] there grew found = All-nil _
@@ -113,7 +114,7 @@ found_stays servers server old new added (one ∷ order) there grew found =
     All-cons (IsThere (slice_set servers server new)) one order (is_some_of _ placed.0 (placed_stays servers server old new added one placed.0 there grew placed.1))
     (found_stays servers server old new added order there grew (All-tail (IsThere servers) one order found))
 
-pub list_stays : (servers : Servers) (server : ℕ) (old new : Serving Kept) (added : Option Entry) (order : List Added) →
+pub list_stays : (servers : Servers) (server : ℕ) (old new : Serving KeptState) (added : Option Entry) (order : List Added) →
     slice_get servers server ≡ Some old → new.history ≡ grown old.history added → All (IsThere servers) order →
     list_of (slice_set servers server new) order ≡ list_of servers order
 list_stays servers server old new added [] there grew found = refl
@@ -147,7 +148,7 @@ abbrev placed_added : ℕ → Option Entry → List Placed
 placed_added server None = []
 placed_added server (Some entry) = record { server = server; entry = entry } ∷ []
 
-with_added : (server : ℕ) (added : Option Entry) (list : List Placed) → with_entry server added list ≡ list ++ placed_added server added
+with_added : (server : ℕ) (added : Option Entry) (list : List Placed) → list_with server added list ≡ list ++ placed_added server added
 with_added server None list = sym (append-nil list)
 with_added server (Some entry) list = refl
 
@@ -164,12 +165,12 @@ noted_one server history entry =
     longer [] e = omega arith
     longer (first ∷ h) e = let more = longer h e in omega arith
 
-record IsNoted (servers : Servers) (server : ℕ) (old new : Serving Kept) (added : Option Entry) : Type 0 where
+record IsNoted (servers : Servers) (server : ℕ) (old new : Serving KeptState) (added : Option Entry) : Type 0 where
   list_is : list_of (slice_set servers server new) (noted server (length old.history) (length new.history)) ≡ placed_added server added
   found : All (IsThere (slice_set servers server new)) (noted server (length old.history) (length new.history))
 
 -- what is noted stands in the list
-is_noted : (servers : Servers) (server : ℕ) (old new : Serving Kept) (added : Option Entry) →
+is_noted : (servers : Servers) (server : ℕ) (old new : Serving KeptState) (added : Option Entry) →
     slice_get servers server ≡ Some old → new.history ≡ grown old.history added → IsNoted servers server old new added
 is_noted servers server old new None there grew =
     let none : noted server (length old.history) (length new.history) ≡ [] =
@@ -193,58 +194,58 @@ is_noted servers server old new (Some entry) there grew =
     }
 
 -- the history of a server in a list with what was added
-history_here : (server : ℕ) (added : Option Entry) (list : List Placed) → history_of server (with_entry server added list) ≡ grown (history_of server list) added
+history_here : (server : ℕ) (added : Option Entry) (list : List Placed) → history_of server (list_with server added list) ≡ grown (history_of server list) added
 history_here server None list = refl
 history_here server (Some entry) list =
     history_of-push server list (record { server = server; entry = entry })
     ∙ ap (λ b. history_of server list ++ cond b (entry ∷ []) []) (eq-eqb server server refl)
 
-history_elsewhere : (server other : ℕ) (added : Option Entry) (list : List Placed) → nat_eq server other ≡ false → history_of other (with_entry server added list) ≡ history_of other list
+history_elsewhere : (server other : ℕ) (added : Option Entry) (list : List Placed) → nat_eq server other ≡ false → history_of other (list_with server added list) ≡ history_of other list
 history_elsewhere server other None list away = refl
 history_elsewhere server other (Some entry) list away =
     history_of-push other list (record { server = server; entry = entry })
     ∙ ap (λ b. history_of other list ++ cond b (entry ∷ []) []) away ∙ append-nil (history_of other list)
 
 -- what was sent stays sent
-pub sent_with : (set : Set) (server : ℕ) (added : Option Entry) (list : List Placed) (message : Message) → IsSent set list message → IsSent set (with_entry server added list) message
+pub sent_with : (set : Set) (server : ℕ) (added : Option Entry) (list : List Placed) (message : Message) → IsSent set list message → IsSent set (list_with server added list) message
 sent_with set server None list message sent = sent
 sent_with set server (Some entry) list message sent = sent-append set list (record { server = server; entry = entry } ∷ []) message sent
 
-pub all_sent_with : (set : Set) (server : ℕ) (added : Option Entry) (list : List Placed) (held : List Message) → All (IsSent set list) held → All (IsSent set (with_entry server added list)) held
+pub all_sent_with : (set : Set) (server : ℕ) (added : Option Entry) (list : List Placed) (held : List Message) → All (IsSent set list) held → All (IsSent set (list_with server added list)) held
 all_sent_with set server added list held each = λ k d within. sent_with set server added list _ (each k d within)
 
 legal_with : (set : Set) (server : ℕ) (added : Option Entry) (list : List Placed) → IsLegal set list →
-    IfSome added (λ entry. MayFollow set list (record { server = server; entry = entry })) → IsLegal set (with_entry server added list)
+    IfSome added (λ entry. MayFollow set list (record { server = server; entry = entry })) → IsLegal set (list_with server added list)
 legal_with set server None list legal may = legal
 legal_with set server (Some entry) list legal may = legal-push set list (record { server = server; entry = entry }) legal may
 
 -- a world after a call of one of its servers
 pub record HasMoved (set : Set) (servers : Servers) (order : List Added) (server : ℕ) (added : Option Entry) (held : List Message) (after : Servers) (later : List Added) : Type 0 where
-  pub list_is : list_of after later ≡ with_entry server added (list_of servers order)
+  pub list_is : list_of after later ≡ list_with server added (list_of servers order)
   pub held_is : held_of after ≡ slice_set (held_of servers) server held
   pub are : AreServers set after later
 
 -- each server after the call is one of the list after it
-each_after : (set : Set) (servers : Servers) (order : List Added) (server : ℕ) (old new : Serving Kept) (added : Option Entry) (held : List Message) →
-    AreServers set servers order → slice_get servers server ≡ Some old → GoesOn old added held new →
-    All (IsSent set (with_entry server added (list_of servers order))) held →
-    (other : ℕ) (here : Serving Kept) → slice_get (slice_set servers server new) other ≡ Some here →
-    IsServerOf set (with_entry server added (list_of servers order)) other here
+each_after : (set : Set) (servers : Servers) (order : List Added) (server : ℕ) (old new : Serving KeptState) (added : Option Entry) (held : List Message) →
+    AreServers set servers order → slice_get servers server ≡ Some old → HasAdded old added held new →
+    All (IsSent set (list_with server added (list_of servers order))) held →
+    (other : ℕ) (here : Serving KeptState) → slice_get (slice_set servers server new) other ≡ Some here →
+    IsServerOf set (list_with server added (list_of servers order)) other here
 each_after set servers order server old new added held are there goes sent other here is =
     let list = list_of servers order in
     let was = are.each server old there in
     elim (eqb_tells server other) [
       | inl (e, same) ↦
           let new_is : new ≡ here = some_is new here (sym (get_set_same servers server old new there) ∙ ap (slice_get (slice_set servers server new)) same ∙ is) in
-          subst (λ (h : Serving Kept). IsServerOf set (with_entry server added list) other h) new_is
-          (subst (λ n. IsServerOf set (with_entry server added list) n new) same
+          subst (λ (h : Serving KeptState). IsServerOf set (list_with server added list) other h) new_is
+          (subst (λ n. IsServerOf set (list_with server added list) n new) same
           (record {
             set_is = goes.set_is ∙ was.set_is;
             server_is = goes.server_is ∙ was.server_is;
             history_is = goes.history_is ∙ ap (λ h. grown h added) was.history_is ∙ sym (history_here server added list);
             runs = goes.runs;
             unmarked = goes.acknowledged_is ∙ was.unmarked;
-            sent = subst (All (IsSent set (with_entry server added list))) (sym goes.held_is) sent;
+            sent = subst (All (IsSent set (list_with server added list))) (sym goes.held_is) sent;
           }))
       | inr (e, differs) ↦
           let stood = are.each other here (sym (get_set_other servers server other new (λ same. differs (sym same))) ∙ is) in
@@ -258,27 +259,27 @@ each_after set servers order server old new added held are there goes sent other
           }
     ]
   where
-    some_is : (a b : Serving Kept) → Some a ≡ Some b → a ≡ b
+    some_is : (a b : Serving KeptState) → Some a ≡ Some b → a ≡ b
     some_is a b e = cc
 
 -- a call of one server, which adds an entry that may follow, or none, and holds messages that were sent
-pub has_moved : (set : Set) (servers : Servers) (order : List Added) (server : ℕ) (old new : Serving Kept) (added : Option Entry) (held : List Message) →
-    AreServers set servers order → slice_get servers server ≡ Some old → GoesOn old added held new →
+pub has_moved : (set : Set) (servers : Servers) (order : List Added) (server : ℕ) (old new : Serving KeptState) (added : Option Entry) (held : List Message) →
+    AreServers set servers order → slice_get servers server ≡ Some old → HasAdded old added held new →
     IfSome added (λ entry. MayFollow set (list_of servers order) (record { server = server; entry = entry })) →
-    All (IsSent set (with_entry server added (list_of servers order))) held →
+    All (IsSent set (list_with server added (list_of servers order))) held →
     HasMoved set servers order server added held (slice_set servers server new) (order ++ noted server (length old.history) (length new.history))
 has_moved set servers order server old new added held are there goes may sent =
     let ns = slice_set servers server new in
     let more = noted server (length old.history) (length new.history) in
     let list = list_of servers order in
     let is = is_noted servers server old new added there goes.history_is in
-    let list_is : list_of ns (order ++ more) ≡ with_entry server added list =
+    let list_is : list_of ns (order ++ more) ≡ list_with server added list =
     filter_map-append (placed_of ns) order more
     ∙ ap (λ l. l ++ list_of ns more) (list_stays servers server old new added order there goes.history_is are.found)
     ∙ ap (λ l. list ++ l) is.list_is ∙ sym (with_added server added list) in
     record {
       list_is = list_is;
-      held_is = map-set (λ (h : Serving Kept). h.held) servers server new ∙ ap (slice_set (held_of servers) server) goes.held_is;
+      held_is = map-set (λ (h : Serving KeptState). h.held) servers server new ∙ ap (slice_set (held_of servers) server) goes.held_is;
       are = record {
         many = length-set servers server new ∙ are.many;
         each = λ other here found.

@@ -4,9 +4,9 @@ use Rattle.std.specs.List.{flat_map, range_with_len}
 use Rattle.std.proofs.lemmas.List.{map-append}
 use Rattle.std.proofs.lemmas.List.Elements.{All-nil}
 use Rattle.lynx_set.specs.Set.{Set}
-use Rattle.lynx_keep.specs.Kept.{Kept}
-use Rattle.lynx_server.proofs.Ranges.{range_more}
-use Rattle.lynx_books.specs.Serving.{Serving}
+use Rattle.lynx_keep.specs.Kept.{KeptState}
+use Rattle.lynx_rules.proofs.Ranges.{range_more}
+use Rattle.lynx_server.specs.Serving.{Serving}
 use Rattle.lynx_world.specs.declared.added.Added.{Added}
 use Rattle.lynx_world.specs.Legal.{IsSent}
 use Rattle.lynx_world.specs.Servers.{AreServers, IsServerOf, Servers, cells_left, held_of, list_of, new_server, new_servers}
@@ -20,7 +20,7 @@ many_from set a zero = refl
 many_from set a (suc n) = ap suc (many_from set (a + 1) n)
 
 -- each has its number
-number_from : (set : Set) (a n server : ℕ) (here : Serving Kept) → slice_get (map (new_server set) (range_with_len a n)) server ≡ Some here →
+number_from : (set : Set) (a n server : ℕ) (here : Serving KeptState) → slice_get (map (new_server set) (range_with_len a n)) server ≡ Some here →
     new_server set (a + server) ≡ here
 number_from set a zero server here is = cc
 number_from set a (suc n) zero here is = let same : new_server set a ≡ here = cc in ap (new_server set) (omega arith) ∙ same
@@ -52,7 +52,7 @@ pub new_is : (set : Set) → world_of set (new_servers set) [] ≡ new_world set
 new_is set = ap (λ held. record { set = set; list = []; held = held }) (held_from set 0 set.servers)
 
 -- one more new server
-pub one_more : (set : Set) (servers : Servers) (number : ℕ) (more : Servers) (here : Serving Kept) → servers ≡ map (new_server set) (range_with_len 0 number) →
+pub one_more : (set : Set) (servers : Servers) (number : ℕ) (more : Servers) (here : Serving KeptState) → servers ≡ map (new_server set) (range_with_len 0 number) →
     more ≡ servers ++ here ∷ [] → here ≡ new_server set number → more ≡ map (new_server set) (range_with_len 0 (number + 1))
 one_more set servers number more here are grew is =
     grew ∙ ap (λ s. s ++ here ∷ []) are ∙ ap (λ h. map (new_server set) (range_with_len 0 number) ++ h ∷ []) is ∙ ap (λ n. map (new_server set) (range_with_len 0 number) ++ new_server set n ∷ []) (omega arith)
@@ -77,7 +77,7 @@ first_alike {X} z first rest count number is within = by (count - number) is (om
 
 -- what each server gives, told by its number
 cells_from : (h : ℕ → List (ℕ × ℕ × ℕ)) (servers : Servers) (a : ℕ) →
-    ((server : ℕ) (here : Serving Kept) → slice_get servers server ≡ Some here → cells_left here ≡ h (a + server)) →
+    ((server : ℕ) (here : Serving KeptState) → slice_get servers server ≡ Some here → cells_left here ≡ h (a + server)) →
     flat_map cells_left servers ≡ flat_map h (range_with_len a (length servers))
 cells_from h [] a each = refl
 cells_from h (first ∷ servers) a each =

@@ -18,21 +18,22 @@ use Rattle.lynx_entry.specs.declared.event.Event.TheVariants.{Begin, Deliver, Wa
 use Rattle.lynx_entry.specs.declared.event.Outcome.{Outcome}
 use Rattle.lynx_entry.specs.declared.event.Outcome.TheVariants.{Answered, Delivered as DeliveredNow, Woken as WokenNow, Idle, Restarted, NoServer}
 use Rattle.lynx_entry.specs.Entry.{History}
-use Rattle.lynx_keep.specs.Kept.{Kept}
+use Rattle.lynx_keep.specs.Kept.{KeptState}
 use Rattle.lynx_turn.specs.Held.{least_of}
-use Rattle.lynx_server.specs.Answers.{Begins, answer}
-use Rattle.lynx_server.specs.Deliveries.{Delivers, delivery, same_hop}
-use Rattle.lynx_server.specs.Lawful.{number_at}
-use Rattle.lynx_server.specs.Turns.{turn_of}
-use Rattle.lynx_books.specs.Repeating.{GoesOn}
-use Rattle.lynx_books.specs.Serving.{Serving, delivery_of, is_put_off, woken_of}
-use Rattle.lynx_books.specs.declared.server.Woken.{Woken}
-use Rattle.lynx_books.proofs.Delivering.{IsPlain, delivery-plain}
+use Rattle.lynx_rules.specs.Answers.{Begins, answer}
+use Rattle.lynx_rules.specs.Deliveries.{Delivers, delivery, same_hop}
+use Rattle.lynx_rules.specs.Lawful.{number_at}
+use Rattle.lynx_rules.specs.Turns.{turn_of}
+use Rattle.lynx_server.specs.inner.Repeating.{HasAdded}
+use Rattle.lynx_server.specs.Serving.{Serving, delivery_of, is_put_off, woken_of}
+use Rattle.lynx_server.specs.declared.server.Woken.{Woken}
+use Rattle.lynx_server.proofs.Delivering.{IsPlain, delivery-plain}
 use Rattle.lynx_world.specs.declared.added.Added.{Added}
 use Rattle.lynx_world.specs.Placed.{Placed}
 use Rattle.lynx_world.specs.Legal.{IsSent, MayFollow}
-use Rattle.lynx_world.specs.Servers.{AreServers, HasBegun, HasDelivered, HasSlept, HasWoken, HasWokenOne, Servers, held_of, held_then, list_of, noted, waking}
-use Rattle.lynx_world.specs.Steps.{begin_at, deliver_sent, deliver_to, destination_of, held_at, is_full_answer, sent_message, stands_now, stays, step, wake_at, with_entry}
+use Rattle.lynx_world.specs.Servers.{AreServers, Servers, held_of, list_of, waking}
+use Rattle.lynx_world.specs.inner.Calls.{HasBegun, HasDelivered, WokeNone, HasWoken, HasWokenOne, held_then, noted}
+use Rattle.lynx_world.specs.Steps.{begin_at, deliver_sent, deliver_to, destination_of, held_at, is_full_answer, sent_message, stands_now, stays, step, wake_at, list_with}
 use Rattle.lynx_world.specs.Worlds.{WorldState, history_of}
 use Rattle.lynx_world.proofs.HeldSent.{delivery_holds, least_of_holds}
 use Rattle.lynx_world.proofs.LegalSteps.{begun-may_follow, ran-may_follow, sent_found}
@@ -48,10 +49,10 @@ pub record IsStep (set : Set) (servers : Servers) (order : List Added) (event : 
   pub is : record { outcome = outcome; world = world_of set after later } ≡ step MAX_HELD (world_of set servers order) event
 
 -- what a server holds
-held_there : (servers : Servers) (server : ℕ) (old : Serving Kept) → slice_get servers server ≡ Some old → slice_get (held_of servers) server ≡ Some old.held
-held_there servers server old there = slice_get-map (λ (h : Serving Kept). h.held) servers server ∙ ap (option_map (λ (h : Serving Kept). h.held)) there
+held_there : (servers : Servers) (server : ℕ) (old : Serving KeptState) → slice_get servers server ≡ Some old → slice_get (held_of servers) server ≡ Some old.held
+held_there servers server old there = slice_get-map (λ (h : Serving KeptState). h.held) servers server ∙ ap (option_map (λ (h : Serving KeptState). h.held)) there
 
-held_is : (servers : Servers) (server : ℕ) (old : Serving Kept) → slice_get servers server ≡ Some old → unwrap_or (slice_get (held_of servers) server) [] ≡ old.held
+held_is : (servers : Servers) (server : ℕ) (old : Serving KeptState) → slice_get servers server ≡ Some old → unwrap_or (slice_get (held_of servers) server) [] ≡ old.held
 held_is servers server old there = ap (λ o. unwrap_or o []) (held_there servers server old there)
 
 world_is : (set : Set) (a b : List Placed) (x y : List (List Message)) → a ≡ b → x ≡ y →
@@ -63,8 +64,8 @@ pub record IsStill (set : Set) (servers : Servers) (order : List Added) (after :
   pub are : AreServers set after order
   pub is : world_of set after order ≡ world_of set servers order
 
-pub still : (set : Set) (servers : Servers) (order : List Added) (server : ℕ) (old new : Serving Kept) → AreServers set servers order →
-    slice_get servers server ≡ Some old → GoesOn old None old.held new → IsStill set servers order (slice_set servers server new)
+pub still : (set : Set) (servers : Servers) (order : List Added) (server : ℕ) (old new : Serving KeptState) → AreServers set servers order →
+    slice_get servers server ≡ Some old → HasAdded old None old.held new → IsStill set servers order (slice_set servers server new)
 still set servers order server old new are there goes =
     let moved = has_moved set servers order server old new None old.held are there goes tt (are.each server old there).sent in
     let nothing : noted server (length old.history) (length new.history) ≡ [] =
@@ -79,7 +80,7 @@ still set servers order server old new are there goes =
     }
 
 -- a begin
-pub begun : (set : Set) (servers : Servers) (order : List Added) (server : ℕ) (request : Request) (seen : ℕ) (given : Answer) (old new : Serving Kept) →
+pub begun : (set : Set) (servers : Servers) (order : List Added) (server : ℕ) (request : Request) (seen : ℕ) (given : Answer) (old new : Serving KeptState) →
     AreServers set servers order → slice_get servers server ≡ Some old → nat_lt server set.servers ≡ true → HasBegun old request seen given new →
     IsStep set servers order (Begin server request seen) (Answered given) (slice_set servers server new)
     (order ++ noted server (length old.history) (length new.history))
@@ -98,14 +99,14 @@ begun set servers order server request seen given old new are there within is =
       are = moved.are;
       is = (λ i. record {
         outcome = Answered ((is.answer_is ∙ ap (λ (b : Begins). b.answer) same) i);
-        world = world_is set _ _ _ _ (moved.list_is ∙ ap (λ (b : Begins). with_entry server b.added list) same)
+        world = world_is set _ _ _ _ (moved.list_is ∙ ap (λ (b : Begins). list_with server b.added list) same)
             (moved.held_is ∙ set_same (held_of servers) server old.held (held_there servers server old there)) i;
       })
           ∙ sym (ap (λ b. if b then begin_at (world_of set servers order) server begins else stays (world_of set servers order) NoServer) within);
     }
 
 -- what a server's own delivery is in its world
-delivery_is : (set : Set) (servers : Servers) (order : List Added) (server : ℕ) (old : Serving Kept) (message : Message) → AreServers set servers order →
+delivery_is : (set : Set) (servers : Servers) (order : List Added) (server : ℕ) (old : Serving KeptState) (message : Message) → AreServers set servers order →
     slice_get servers server ≡ Some old →
     delivery_of old message ≡ delivery set server MAX_HELD (history_of server (list_of servers order)) (held_at (world_of set servers order) server) message
 delivery_is set servers order server old message are there =
@@ -116,7 +117,7 @@ delivery_is set servers order server old message are there =
     ∙ ap (λ h. delivery set server MAX_HELD (history_of server (list_of servers order)) h message) (sym (held_is servers server old there))
 
 -- the entry that a delivery adds may follow
-may_follow : (set : Set) (servers : Servers) (order : List Added) (server : ℕ) (old : Serving Kept) (message : Message) → AreServers set servers order →
+may_follow : (set : Set) (servers : Servers) (order : List Added) (server : ℕ) (old : Serving KeptState) (message : Message) → AreServers set servers order →
     slice_get servers server ≡ Some old → nat_lt server set.servers ≡ true → IsSent set (list_of servers order) message →
     IfSome (delivery_of old message).added (λ entry. MayFollow set (list_of servers order) (record { server = server; entry = entry }))
 may_follow set servers order server old message are there within sent =
@@ -124,15 +125,15 @@ may_follow set servers order server old message are there within sent =
     (ap (λ (d : Delivers). d.added) (delivery_is set servers order server old message are there))
 
 -- what is held after it was sent
-holds_sent : (set : Set) (servers : Servers) (order : List Added) (server : ℕ) (old : Serving Kept) (message : Message) → AreServers set servers order →
+holds_sent : (set : Set) (servers : Servers) (order : List Added) (server : ℕ) (old : Serving KeptState) (message : Message) → AreServers set servers order →
     slice_get servers server ≡ Some old → IsSent set (list_of servers order) message →
-    All (IsSent set (with_entry server (delivery_of old message).added (list_of servers order))) (delivery_of old message).held
+    All (IsSent set (list_with server (delivery_of old message).added (list_of servers order))) (delivery_of old message).held
 holds_sent set servers order server old message are there sent =
     all_sent_with set server (delivery_of old message).added (list_of servers order) (delivery_of old message).held
     (delivery_holds (IsSent set (list_of servers order)) old.set old.server MAX_HELD old.history old.held message (are.each server old there).sent sent)
 
 -- a delivery of a message that was sent
-pub delivered : (set : Set) (servers : Servers) (order : List Added) (server : ℕ) (chain : ChainId) (hop : ℕ) (message : Message) (given : Delivered) (old new : Serving Kept) →
+pub delivered : (set : Set) (servers : Servers) (order : List Added) (server : ℕ) (chain : ChainId) (hop : ℕ) (message : Message) (given : Delivered) (old new : Serving KeptState) →
     AreServers set servers order → slice_get servers server ≡ Some old → nat_lt server set.servers ≡ true → HasDelivered old message given new →
     sent_message set chain hop (list_of servers order) ≡ Some message → server ≡ destination_of set message →
     IsStep set servers order (Deliver chain hop) (DeliveredNow chain hop given) (slice_set servers server new)
@@ -149,7 +150,7 @@ delivered set servers order server chain hop message given old new are there wit
       are = moved.are;
       is = (λ i. record {
         outcome = DeliveredNow chain hop ((is.delivered_is ∙ ap (λ (d : Delivers). d.delivered) same) i);
-        world = world_is set _ _ _ _ (moved.list_is ∙ ap (λ (d : Delivers). with_entry server d.added list) same)
+        world = world_is set _ _ _ _ (moved.list_is ∙ ap (λ (d : Delivers). list_with server d.added list) same)
             (moved.held_is ∙ ap (λ (d : Delivers). slice_set (held_of servers) server d.held) same) i;
       })
           ∙ sym (ap (deliver_sent MAX_HELD world chain hop) found
@@ -158,7 +159,7 @@ delivered set servers order server chain hop message given old new are there wit
     }
 
 -- the message that a server wakes is the one of the world
-woken_is : (set : Set) (servers : Servers) (order : List Added) (server : ℕ) (old : Serving Kept) → AreServers set servers order → slice_get servers server ≡ Some old →
+woken_is : (set : Set) (servers : Servers) (order : List Added) (server : ℕ) (old : Serving KeptState) → AreServers set servers order → slice_get servers server ≡ Some old →
     woken_of old ≡ least_of (filter (stands_now set server (history_of server (list_of servers order))) (held_at (world_of set servers order) server))
 woken_is set servers order server old are there =
     let was = are.each server old there in
@@ -169,8 +170,8 @@ woken_is set servers order server old are there =
     ∙ ap (λ h. least_of (filter (now set server (history_of server (list_of servers order))) h)) (sym (held_is servers server old there))
 
 -- a waking of none
-slept : (set : Set) (servers : Servers) (order : List Added) (server : ℕ) (old new : Serving Kept) →
-    AreServers set servers order → slice_get servers server ≡ Some old → nat_lt server set.servers ≡ true → HasSlept old new →
+slept : (set : Set) (servers : Servers) (order : List Added) (server : ℕ) (old new : Serving KeptState) →
+    AreServers set servers order → slice_get servers server ≡ Some old → nat_lt server set.servers ≡ true → WokeNone old new →
     IsStep set servers order (Wake server) (Idle server) (slice_set servers server new)
     (order ++ noted server (length old.history) (length new.history))
 slept set servers order server old new are there within is =
@@ -207,7 +208,7 @@ held_on_all P message delivers true each = each
 held_on_all P message delivers false each = All-filter (λ other. not (same_hop other message)) P delivers.held each
 
 -- a waking of a message
-woken : (set : Set) (servers : Servers) (order : List Added) (server : ℕ) (one : Woken) (old new : Serving Kept) →
+woken : (set : Set) (servers : Servers) (order : List Added) (server : ℕ) (one : Woken) (old new : Serving KeptState) →
     AreServers set servers order → slice_get servers server ≡ Some old → nat_lt server set.servers ≡ true → HasWokenOne old one new →
     IsStep set servers order (Wake server) (WokenNow one.chain one.hop one.delivered) (slice_set servers server new)
     (order ++ noted server (length old.history) (length new.history))
@@ -227,13 +228,13 @@ woken set servers order server one old new are there within is =
     let holds = holds_sent set servers order server old message are there sent in
     let moved = has_moved set servers order server old new (delivery_of old message).added (held_then old message one.delivered) are there is.goes
     (may_follow set servers order server old message are there within sent)
-    (held_on_all (IsSent set (with_entry server (delivery_of old message).added list)) message (delivery_of old message) (is_put_off one.delivered) holds) in
+    (held_on_all (IsSent set (list_with server (delivery_of old message).added list)) message (delivery_of old message) (is_put_off one.delivered) holds) in
     let least = least_of (filter (stands_now set server (history_of server list)) (held_at world server)) in
     record {
       are = moved.are;
       is = (λ i. record {
         outcome = WokenNow (is.chain_is i) (is.hop_is i) ((is.delivered_is ∙ ap (λ (d : Delivers). d.delivered) same) i);
-        world = world_is set _ _ _ _ (moved.list_is ∙ ap (λ (d : Delivers). with_entry server d.added list) same)
+        world = world_is set _ _ _ _ (moved.list_is ∙ ap (λ (d : Delivers). list_with server d.added list) same)
             (moved.held_is ∙ ap (λ b. slice_set (held_of servers) server (held_on message (delivery_of old message) b)) full
             ∙ ap (λ (d : Delivers). slice_set (held_of servers) server (held_on message d (is_full_answer delivers.delivered))) same) i;
       })
@@ -242,7 +243,7 @@ woken set servers order server one old new are there within is =
     }
 
 -- a waking, of a message or of none
-pub wakes : (set : Set) (servers : Servers) (order : List Added) (server : ℕ) (one : Option Woken) (old new : Serving Kept) →
+pub wakes : (set : Set) (servers : Servers) (order : List Added) (server : ℕ) (one : Option Woken) (old new : Serving KeptState) →
     AreServers set servers order → slice_get servers server ≡ Some old → nat_lt server set.servers ≡ true → HasWoken old one new →
     IsStep set servers order (Wake server) (waking server one) (slice_set servers server new)
     (order ++ noted server (length old.history) (length new.history))
@@ -250,8 +251,8 @@ wakes set servers order server None old new are there within is = slept set serv
 wakes set servers order server (Some one) old new are there within is = woken set servers order server one old new are there within is
 
 -- a restart
-pub restarted : (set : Set) (servers : Servers) (order : List Added) (server : ℕ) (old new : Serving Kept) →
-    AreServers set servers order → slice_get servers server ≡ Some old → nat_lt server set.servers ≡ true → GoesOn old None [] new →
+pub restarted : (set : Set) (servers : Servers) (order : List Added) (server : ℕ) (old new : Serving KeptState) →
+    AreServers set servers order → slice_get servers server ≡ Some old → nat_lt server set.servers ≡ true → HasAdded old None [] new →
     IsStep set servers order (Restart server) (Restarted server) (slice_set servers server new) order
 restarted set servers order server old new are there within goes =
     let world = world_of set servers order in
@@ -271,7 +272,7 @@ restarted set servers order server old new are there within goes =
     }
 
 -- the server that is called is one of the world
-pub server_found : (set : Set) (servers : Servers) (order : List Added) (index server : ℕ) (old : Serving Kept) → AreServers set servers order →
+pub server_found : (set : Set) (servers : Servers) (order : List Added) (index server : ℕ) (old : Serving KeptState) → AreServers set servers order →
     index ≡ server → nat_lt server set.servers ≡ true → old ≡ get_or servers index old → slice_get servers server ≡ Some old
 server_found set servers order index server old are same within is =
     let many = are.many in
@@ -279,14 +280,14 @@ server_found set servers order index server old are same within is =
     slice_get_read servers (length servers) server old refl (omega arith) (is ∙ ap (λ n. get_or servers n old) same)
 
 -- the step of a call, told by what the code has
-pub taken : (set : Set) (servers : Servers) (order : List Added) (event : Event) (outcome : Outcome) (index server : ℕ) (new : Serving Kept) (later more : List Added) →
+pub taken : (set : Set) (servers : Servers) (order : List Added) (event : Event) (outcome : Outcome) (index server : ℕ) (new : Serving KeptState) (later more : List Added) →
     IsStep set servers order event outcome (slice_set servers server new) later → index ≡ server → more ≡ later →
     IsStep set servers order event outcome (slice_set servers index new) more
 taken set servers order event outcome index server new later more is same alike =
     subst (IsStep set servers order event outcome (slice_set servers index new)) (sym alike)
     (subst (λ n. IsStep set servers order event outcome (slice_set servers n new) later) (sym same) is)
 
-pub stilled : (set : Set) (servers : Servers) (order more : List Added) (index server : ℕ) (new : Serving Kept) →
+pub stilled : (set : Set) (servers : Servers) (order more : List Added) (index server : ℕ) (new : Serving KeptState) →
     IsStill set servers order (slice_set servers server new) → index ≡ server → more ≡ order →
     AreServers set (slice_set servers index new) more × (world_of set (slice_set servers index new) more ≡ world_of set servers order)
 stilled set servers order more index server new is same alike =

@@ -8,11 +8,11 @@ use Rattle.lynx_entry.specs.declared.entry.Entry.{Entry}
 use Rattle.lynx_entry.specs.declared.entry.Entry.TheVariants.{Begun, Refused, Hop as HopRan}
 use Rattle.lynx_entry.specs.Entry.{History}
 use Rattle.lynx_set.specs.declared.program.Hop.{Hop as HopOf}
-use Rattle.lynx_server.specs.Visits.{visits, is_last_at, leaves_by_first}
-use Rattle.lynx_server.specs.Turns.{leaves, turn_of}
-use Rattle.lynx_server.specs.Lawful.{IsLawful}
-use Rattle.lynx_server.specs.Deliveries.{same_chain}
-use Rattle.lynx_server.proofs.Steps.{begins_visiting-lawful}
+use Rattle.lynx_rules.specs.Visits.{visits, is_last_at, leaves_by_first}
+use Rattle.lynx_rules.specs.Turns.{ends_visit, turn_of}
+use Rattle.lynx_rules.specs.Lawful.{IsLawful}
+use Rattle.lynx_rules.specs.Deliveries.{same_chain}
+use Rattle.lynx_rules.proofs.Steps.{begins_visiting-lawful}
 use Rattle.lynx_world.specs.Placed.{Placed}
 use Rattle.lynx_world.specs.Worlds.{history_of}
 use Rattle.lynx_world.specs.Legal.{MayFollow, IsLegal}
@@ -59,7 +59,7 @@ pub record IsLeaving (set : Set) (server origin : ℕ) (entry : Entry) : Type 0 
   pub last : visits (drop (hop + 1) (hops_of set (program_of entry))) server ≡ false
 
 -- an entry that leaves is of a chain of the origin, and no later hop of its program is at the server
-pub leaving : (set : Set) (server origin : ℕ) (entry : Entry) → leaves set server origin entry ≡ true → IsLeaving set server origin entry
+pub leaving : (set : Set) (server origin : ℕ) (entry : Entry) → ends_visit set server origin entry ≡ true → IsLeaving set server origin entry
 leaving set server origin (Begun begun) left =
     let tests = both (nat_eq begun.chain.origin origin) (is_last_at set server begun.request.program 0) left in
     record {
@@ -84,14 +84,14 @@ leaving set server origin (HopRan ran) left =
 pub record HasLeft (set : Set) (list : List Placed) (server origin k : ℕ) : Type 0 where
   pub entry : Entry
   pub there : IsIn (record { server = server; entry = entry }) list
-  pub leaves_by : leaves set server origin entry ≡ true
+  pub leaves_by : ends_visit set server origin entry ≡ true
   pub number : number_of entry server ≡ k
 
 -- each number below the turn still is one of a chain that has left, with one more entry
 has_left-push : (set : Set) (server origin : ℕ) (list : List Placed) (last : Placed) (k : ℕ) → server < MAX_SERVERS →
     MayFollow set list last → (k < turn_of set server (history_of server list) origin → HasLeft set list server origin k) →
     (k < turn_of set server (history_of server list) origin)
-    ⊎ ((k ≡ turn_of set server (history_of server list) origin) × (last.server ≡ server) × (leaves set server origin last.entry ≡ true)) →
+    ⊎ ((k ≡ turn_of set server (history_of server list) origin) × (last.server ≡ server) × (ends_visit set server origin last.entry ≡ true)) →
     HasLeft set (list ++ last ∷ []) server origin k
 has_left-push set server origin list last k below may old (inl before) =
     let had = old before in
@@ -115,5 +115,5 @@ has_left set server origin list k below legal =
     legal_induction set (λ l. k < turn_of set server (history_of server l) origin → HasLeft set l server origin k)
     (λ never. absurd (omega arith))
     (λ before last was old may below_turn. has_left-push set server origin before last k below may old
-    (count-last (leaves set server origin) server before last k below_turn))
+    (count-last (ends_visit set server origin) server before last k below_turn))
     list legal

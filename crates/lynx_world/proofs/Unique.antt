@@ -5,7 +5,7 @@ use Rattle.std.specs.List.{cons_option, range_with_len}
 use Rattle.lynx_names.specs.declared.chain.ChainId.{ChainId}
 use Rattle.lynx_set.specs.Set.{Set}
 use Rattle.lynx_entry.specs.declared.message.Message.{Message}
-use Rattle.lynx_server.specs.Messages.{next_message}
+use Rattle.lynx_rules.specs.Messages.{next_message}
 use Rattle.lynx_world.specs.Placed.{Placed}
 use Rattle.lynx_world.specs.Legal.{IsSent, IsLegal}
 use Rattle.lynx_world.specs.Order.{hop_in, done_hops}

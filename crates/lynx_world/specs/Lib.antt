@@ -5,3 +5,4 @@ pub mod Steps
 pub mod Tables
 pub mod Legal
 pub mod Order
+pub mod inner

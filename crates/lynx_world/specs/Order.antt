@@ -4,7 +4,7 @@ use Rattle.std.specs.List.{filter_map, range_with_len}
 use Rattle.lynx_names.specs.declared.chain.ChainId.{ChainId}
 use Rattle.lynx_entry.specs.declared.entry.Entry.{Entry}
 use Rattle.lynx_entry.specs.declared.entry.Entry.TheVariants.{Begun, Refused, Hop}
-use Rattle.lynx_server.specs.Deliveries.{same_chain}
+use Rattle.lynx_rules.specs.Deliveries.{same_chain}
 use Rattle.lynx_world.specs.Placed.{Placed}
 
 -- the hop of the chain that an entry is, if it is one

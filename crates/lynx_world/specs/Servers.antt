@@ -2,7 +2,7 @@
 use Rattle.std.specs.Prelude.{◌≡◌, ℕ, false, not, if◌then◌else◌, nat_lt, filter, length, map, slice_get, List, [], ◌∷◌, Option, Some, None, IsSome, All, find, option_map}
 use Rattle.std.specs.List.{filter_map, range_with_len}
 use Rattle.std.specs.Option.{option_and_then, option_or}
-use Rattle.lynx_keep.specs.Kept.{Kept, nothing_kept}
+use Rattle.lynx_keep.specs.Kept.{KeptState, nothing_kept}
 use Rattle.lynx_names.specs.declared.chain.ChainId.{ChainId}
 use Rattle.lynx_set.specs.Set.{Set}
 use Rattle.lynx_entry.specs.declared.answer.Answer.{Answer}
@@ -13,11 +13,11 @@ use Rattle.lynx_entry.specs.declared.entry.Entry.{Entry}
 use Rattle.lynx_entry.specs.declared.message.Message.{Message}
 use Rattle.lynx_entry.specs.declared.request.Request.{Request}
 use Rattle.lynx_turn.specs.Held.{is_for}
-use Rattle.lynx_server.specs.Answers.{answer}
-use Rattle.lynx_books.specs.Acts.{act_of, is_act}
-use Rattle.lynx_books.specs.Repeating.{GoesOn}
-use Rattle.lynx_books.specs.Serving.{Serving, delivery_of, is_put_off, woken_of}
-use Rattle.lynx_books.specs.declared.server.Woken.{Woken}
+use Rattle.lynx_rules.specs.Answers.{answer}
+use Rattle.lynx_server.specs.Acts.{act_of, is_act}
+use Rattle.lynx_server.specs.inner.Repeating.{HasAdded}
+use Rattle.lynx_server.specs.Serving.{Serving, delivery_of, is_put_off, woken_of}
+use Rattle.lynx_server.specs.declared.server.Woken.{Woken}
 use Rattle.lynx_world.specs.declared.added.Added.{Added}
 use Rattle.lynx_world.specs.Placed.{Placed}
 use Rattle.lynx_world.specs.declared.listed.Listed.{Listed}
@@ -27,13 +27,13 @@ use Rattle.lynx_world.specs.Legal.{IsLegal, IsSent}
 
 -- servers over what is kept in memory
 abbrev pub Servers : Type 0
-Servers = List (Serving Kept)
+Servers = List (Serving KeptState)
 
 -- the entry that was added
 abbrev pub placed_of : Servers → Added → Option Placed
 placed_of servers added =
     option_map (λ entry. record { server = added.server; entry = entry })
-    (option_and_then (λ (here : Serving Kept). slice_get here.history added.place) (slice_get servers added.server))
+    (option_and_then (λ (here : Serving KeptState). slice_get here.history added.place) (slice_get servers added.server))
 
 -- the entries in the order in which they were added
 abbrev pub list_of : Servers → List Added → List Placed
@@ -41,10 +41,10 @@ list_of servers order = filter_map (placed_of servers) order
 
 -- what each server holds
 abbrev pub held_of : Servers → List (List Message)
-held_of servers = map (λ (here : Serving Kept). here.held) servers
+held_of servers = map (λ (here : Serving KeptState). here.held) servers
 
 -- a server of a world: it runs, its history is its part of the list, what it holds was sent, and nobody acknowledges
-pub record IsServerOf (set : Set) (list : List Placed) (server : ℕ) (here : Serving Kept) : Type 0 where
+pub record IsServerOf (set : Set) (list : List Placed) (server : ℕ) (here : Serving KeptState) : Type 0 where
   pub set_is : here.set ≡ set
   pub server_is : here.server ≡ server
   pub history_is : here.history ≡ history_of server list
@@ -55,47 +55,9 @@ pub record IsServerOf (set : Set) (list : List Placed) (server : ℕ) (here : Se
 -- the servers of a world: one for each of the set, and a legal list of all that they added
 pub record AreServers (set : Set) (servers : Servers) (order : List Added) : Type 0 where
   pub many : length servers ≡ set.servers
-  pub each : (server : ℕ) (here : Serving Kept) → slice_get servers server ≡ Some here → IsServerOf set (list_of servers order) server here
+  pub each : (server : ℕ) (here : Serving KeptState) → slice_get servers server ≡ Some here → IsServerOf set (list_of servers order) server here
   pub found : All (λ added. IsSome (placed_of servers added)) order
   pub is_legal : IsLegal set (list_of servers order)
-
--- the entry at the place of a history that has come to this length, if it has it
-abbrev pub noted : ℕ → ℕ → ℕ → List Added
-noted server place len = if nat_lt place len then record { server = server; place = place } ∷ [] else []
-
--- a begin was answered by its definition
-pub record HasBegun (old : Serving Kept) (request : Request) (seen : ℕ) (given : Answer) (new : Serving Kept) : Type 0 where
-  pub answer_is : given ≡ (answer old.set old.server old.history request seen).answer
-  pub goes : GoesOn old (answer old.set old.server old.history request seen).added old.held new
-
--- .. and a delivery
-pub record HasDelivered (old : Serving Kept) (message : Message) (given : Delivered) (new : Serving Kept) : Type 0 where
-  pub delivered_is : given ≡ (delivery_of old message).delivered
-  pub goes : GoesOn old (delivery_of old message).added (delivery_of old message).held new
-
--- what is held after a waking: the message is let go unless it was put off
-abbrev pub held_then : Serving Kept → Message → Delivered → List Message
-held_then old message given =
-    if is_put_off given then (delivery_of old message).held
-    else filter (λ other. not (is_for message.chain message.hop other)) (delivery_of old message).held
-
--- .. and the waking of that message
-pub record HasWokenOne (old : Serving Kept) (woken : Woken) (new : Serving Kept) : Type 0 where
-  pub message : Message
-  pub message_is : woken_of old ≡ Some message
-  pub chain_is : woken.chain ≡ message.chain
-  pub hop_is : woken.hop ≡ message.hop
-  pub delivered_is : woken.delivered ≡ (delivery_of old message).delivered
-  pub goes : GoesOn old (delivery_of old message).added (held_then old message woken.delivered) new
-
--- .. or of none
-pub record HasSlept (old new : Serving Kept) : Type 0 where
-  pub none : woken_of old ≡ None
-  pub goes : GoesOn old None old.held new
-
-abbrev pub HasWoken : Serving Kept → Option Woken → Serving Kept → Type 0
-HasWoken old None new = HasSlept old new
-HasWoken old (Some woken) new = HasWokenOne old woken new
 
 -- the entry of that hop of the chain at the first of these servers that has it
 abbrev pub act_among : ChainId → ℕ → Servers → Option Entry
@@ -111,11 +73,11 @@ abbrev pub placed_as : Option Listed → Option Placed
 placed_as listed = option_map (λ (one : Listed). record { server = one.server; entry = one.entry.now }) listed
 
 -- the nonzero cells of a server, each a table, a key and a value
-abbrev pub cells_left : Serving Kept → List (ℕ × ℕ × ℕ)
+abbrev pub cells_left : Serving KeptState → List (ℕ × ℕ × ℕ)
 cells_left here = cells_after here.set here.history
 
 -- a server in which nothing happened yet
-abbrev pub new_server : Set → ℕ → Serving Kept
+abbrev pub new_server : Set → ℕ → Serving KeptState
 new_server set server = record {
   set = set;
   server = server;

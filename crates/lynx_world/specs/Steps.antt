@@ -3,15 +3,15 @@ use Rattle.std.specs.Prelude.{◌≡◌, ◌⊎◌, ℕ, ◌==◌, ◌&&◌, Boo
 use Rattle.lynx_names.specs.declared.chain.ChainId.{ChainId}
 use Rattle.lynx_set.specs.Set.{Set}
 use Rattle.lynx_entry.specs.declared.answer.Delivered.{Delivered}
-use Rattle.lynx_entry.specs.declared.answer.Delivered.TheVariants.{Done, Repeat, Held, Dropped, Malformed, Full, Stopped, Memory}
+use Rattle.lynx_entry.specs.declared.answer.Delivered.TheVariants.{Full}
 use Rattle.lynx_entry.specs.declared.entry.Entry.{Entry}
 use Rattle.lynx_entry.specs.declared.message.Message.{Message}
 use Rattle.lynx_entry.specs.Entry.{History}
 pub use Rattle.lynx_turn.specs.Held.{least_of}
-use Rattle.lynx_server.specs.Turns.{turn_of}
-use Rattle.lynx_server.specs.Lawful.{number_at}
-use Rattle.lynx_server.specs.Answers.{Begins, answer}
-use Rattle.lynx_server.specs.Deliveries.{Delivers, same_chain, same_hop, delivery}
+use Rattle.lynx_rules.specs.Turns.{turn_of}
+use Rattle.lynx_rules.specs.Lawful.{number_at}
+use Rattle.lynx_rules.specs.Answers.{Begins, answer}
+use Rattle.lynx_rules.specs.Deliveries.{Delivers, same_chain, same_hop, delivery}
 use Rattle.lynx_entry.specs.declared.event.Event.{Event}
 use Rattle.lynx_entry.specs.declared.event.Event.TheVariants.{Begin, Deliver, Wake, Lost, Restart}
 use Rattle.lynx_entry.specs.declared.event.Outcome.{Outcome}
@@ -34,9 +34,9 @@ abbrev pub is_server : WorldState → ℕ → Bool
 is_server world server = nat_lt server world.set.servers
 
 -- the entry is added at the end, if there is one
-abbrev pub with_entry : ℕ → Option Entry → List Placed → List Placed
-with_entry server None list = list
-with_entry server (Some entry) list = list ++ record { server = server; entry = entry } ∷ []
+abbrev pub list_with : ℕ → Option Entry → List Placed → List Placed
+list_with server None list = list
+list_with server (Some entry) list = list ++ record { server = server; entry = entry } ∷ []
 
 -- what the server holds
 abbrev pub held_at : WorldState → ℕ → List Message
@@ -58,7 +58,7 @@ destination_of set message = unwrap_or (option_map (λ hop. hop.server) (hop_at 
 abbrev pub after_delivery : WorldState → ℕ → Delivers → List Message → WorldState
 after_delivery world server delivers held =
     record world {
-      list = with_entry server delivers.added world.list;
+      list = list_with server delivers.added world.list;
       held = slice_set world.held server held;
     }
 
@@ -83,14 +83,8 @@ stands_now set server history message =
     unwrap_or (number_at message.numbers server) 0 == turn_of set server history message.chain.origin
 
 abbrev pub is_full_answer : Delivered → Bool
-is_full_answer (Done stamp results next) = false
-is_full_answer (Repeat stamp results next) = false
-is_full_answer Held = false
-is_full_answer Dropped = false
-is_full_answer Malformed = false
 is_full_answer Full = true
-is_full_answer Stopped = false
-is_full_answer Memory = false
+is_full_answer given = false
 
 -- a held message is delivered; it is held no longer, unless there was no room for its entry
 abbrev pub wake_at : ℕ → WorldState → ℕ → Option Message → Step
@@ -108,7 +102,7 @@ abbrev pub begin_at : WorldState → ℕ → Begins → Step
 begin_at world server begins =
     record {
       outcome = Answered begins.answer;
-      world = record world { list = with_entry server begins.added world.list };
+      world = record world { list = list_with server begins.added world.list };
     }
 
 -- The step of a world, whose servers each have room to hold so many messages. An entry that is added goes last.

@@ -7,7 +7,7 @@ use Rattle.std.specs.FinMap.{entries}
 use Rattle.lynx_cells.specs.Triples.{triples_of}
 use Rattle.lynx_set.specs.Set.{Set}
 use Rattle.lynx_entry.specs.Entry.{History}
-use Rattle.lynx_server.specs.Tables.{tables_of}
+use Rattle.lynx_rules.specs.Tables.{tables_of}
 use Rattle.lynx_world.specs.Worlds.{WorldState, history_of}
 
 -- the nonzero cells that a history leaves, each a table, a key and a value

@@ -5,7 +5,7 @@ use Rattle.lynx_set.specs.Set.{Set}
 use Rattle.lynx_entry.specs.declared.entry.Entry.{Entry}
 use Rattle.lynx_entry.specs.declared.message.Message.{Message}
 use Rattle.lynx_entry.specs.Entry.{History}
-use Rattle.lynx_server.specs.Messages.{next_message}
+use Rattle.lynx_rules.specs.Messages.{next_message}
 use Rattle.lynx_world.specs.Placed.{Placed}
 
 -- A set, the entries of all its servers in one list, and what each server holds: one list of messages for each.

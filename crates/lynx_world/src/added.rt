@@ -1,6 +1,6 @@
 //! In which order servers added their entries.
 ghost use Rattle.std.specs.Prelude.{◌≡◌, ◌<◌, ◌++◌, vec_capacity, vec_len};
-ghost use Rattle.lynx_world.specs.Servers.{noted};
+ghost use Rattle.lynx_world.specs.inner.Calls.{noted};
 
 use lynx_names::ServerId;
 

@@ -2,10 +2,10 @@
 ghost use Rattle.std.specs.Prelude.{◌≡◌, option_copied};
 ghost use Rattle.lynx_world.specs.Servers.{act_among};
 
-use lynx_books::Server;
 use lynx_entry::Entry;
 use lynx_keep::MemoryKeeper;
 use lynx_names::ChainId;
+use lynx_server::Server;
 
 /// The entry of that hop of the chain, at the first of these servers where it ran: two look-ups at each.
 #[tactic(auto, using(crate::proofs::Servers::act_first))]

@@ -3,9 +3,9 @@ ghost use Rattle.std.specs.Prelude.{◌≡◌, IfOk};
 ghost use Rattle.std.specs.List.{flat_map};
 ghost use Rattle.lynx_world.specs.Servers.{cells_left};
 
-use lynx_books::Server;
 use lynx_keep::MemoryKeeper;
 use lynx_names::{Memory, TableId};
+use lynx_server::Server;
 use std::alloc::Global;
 
 /// The nonzero cells of each of the servers, one server after another.

@@ -1,17 +1,11 @@
 //! Laws of legal worlds, each the contract of a function that does nothing.
-ghost use Rattle.std.specs.Prelude.{◌≡◌, ◌≢◌, ◌≤◌, ℕ, Bool, List, All, length};
-ghost use Rattle.lynx_names.specs.declared.chain.ChainId.{ChainId};
-ghost use Rattle.lynx_names.specs.declared.limits.TheConstants.{MAX_ACTIONS, MAX_SERVERS};
+ghost use Rattle.std.specs.Prelude.{◌≢◌, ◌≤◌, ℕ, List, All};
+ghost use Rattle.lynx_names.specs.declared.limits.TheConstants.{MAX_SERVERS};
 ghost use Rattle.lynx_set.specs.Rules.{IsSet};
 ghost use Rattle.lynx_set.specs.Set.{Set};
-ghost use Rattle.lynx_entry.specs.declared.answer.Answer.TheVariants as answers;
 ghost use Rattle.lynx_entry.specs.declared.answer.Delivered.TheVariants.{Malformed};
 ghost use Rattle.lynx_entry.specs.declared.message.Message.{Message};
-ghost use Rattle.lynx_entry.specs.declared.request.Request.{Request};
-ghost use Rattle.lynx_entry.specs.Entry.{History};
-ghost use Rattle.lynx_server.specs.Answers.{answer};
-ghost use Rattle.lynx_server.specs.Deliveries.{delivery};
-ghost use Rattle.lynx_books.specs.History.{IsLawfulHistory};
+ghost use Rattle.lynx_rules.specs.Deliveries.{delivery};
 ghost use Rattle.lynx_world.specs.Placed.{Placed};
 ghost use Rattle.lynx_world.specs.Legal.{IsLegal, IsSent};
 ghost use Rattle.lynx_world.specs.Order.{IsOnceAndInOrder, IsInOriginOrder};
@@ -28,15 +22,6 @@ pub fn once_and_in_order()
 pub fn origin_order()
     ensures { (set : Set) (list : List Placed) → set.servers ≤ MAX_SERVERS → IsLegal set list
         → IsInOriginOrder list }
-{}
-
-/// A begin is answered with few results, also from the record: as many as a hop has actions, at most.
-pub fn begins_give_few_results()
-    ensures { (set : Set) (server : ℕ) (history : History) (request : Request) (seen : ℕ)
-        (chain : ChainId) (stamp : ℕ) (results : List ℕ) (again : Bool) →
-        IsLawfulHistory set server history
-        → (answer set server history request seen).answer ≡ answers.Begun chain stamp results again
-        → length results ≤ MAX_ACTIONS }
 {}
 
 /// A message that some entry of a legal list sends is never answered Malformed, whatever else its server holds, if

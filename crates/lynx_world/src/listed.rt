@@ -3,10 +3,10 @@ ghost use Rattle.std.specs.Prelude.{◌≡◌, option_copied, slice_get};
 ghost use Rattle.lynx_world.specs.Servers.{placed_as, placed_of};
 
 use crate::added::Added;
-use lynx_books::Server;
 use lynx_entry::Entry;
 use lynx_keep::MemoryKeeper;
 use lynx_names::ServerId;
+use lynx_server::Server;
 
 /// An entry of a world's list, and the server that added it.
 #[derive(Clone, Copy, Debug)]

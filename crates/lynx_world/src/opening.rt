@@ -3,9 +3,9 @@ ghost use Rattle.std.specs.Prelude.{◌≡◌, IfOk, replicate};
 ghost use Rattle.lynx_keep.specs.Kept.{nothing_kept};
 ghost use Rattle.lynx_world.specs.Servers.{new_servers};
 
-use lynx_books::Server;
 use lynx_keep::MemoryKeeper;
 use lynx_names::{Memory, ServerId};
+use lynx_server::Server;
 use lynx_set::ChainSet;
 use std::alloc::Global;
 

@@ -1,13 +1,14 @@
 //! A call of one server, with a note of the entry that it adds.
 ghost use Rattle.std.specs.Prelude.{◌≡◌, ◌++◌, [], IfOk, None, OnErr, OnOk, false, length};
-ghost use Rattle.lynx_books.specs.Repeating.{GoesOn};
-ghost use Rattle.lynx_world.specs.Servers.{HasBegun, HasDelivered, HasWoken, noted, waking};
+ghost use Rattle.lynx_server.specs.inner.Repeating.{HasAdded};
+ghost use Rattle.lynx_world.specs.Servers.{waking};
+ghost use Rattle.lynx_world.specs.inner.Calls.{HasBegun, HasDelivered, HasWoken, noted};
 
 use crate::added::{Added, note};
-use lynx_books::{OpenFault, Server, Woken};
 use lynx_entry::{Answer, Delivered, Message, Outcome, Request};
 use lynx_keep::MemoryKeeper;
 use lynx_names::{Memory, ServerId, Stamp, TryCopy};
+use lynx_server::{OpenFault, Server, Woken};
 use std::alloc::Global;
 
 /// A begin at this server.
@@ -23,7 +24,7 @@ pub(crate) fn begin_at(
     ensures begun { IfOk result (λ answer. HasBegun here.old request seen answer here.new) }
     ensures order { OnOk result (order.new.items ≡ order.old.items
         ++ noted server (length here.old.history) (length here.new.history)) }
-    ensures same { OnErr result (GoesOn here.old None here.old.held here.new) }
+    ensures same { OnErr result (HasAdded here.old None here.old.held here.new) }
     ensures same_order { OnErr result (order.new.items ≡ order.old.items) }
 {
     order.reserve(1)?;
@@ -49,7 +50,7 @@ pub(crate) fn deliver_at(
         (λ delivered. HasDelivered here.old message delivered here.new) }
     ensures order { OnOk result (order.new.items ≡ order.old.items
         ++ noted server (length here.old.history) (length here.new.history)) }
-    ensures same { OnErr result (GoesOn here.old None here.old.held here.new) }
+    ensures same { OnErr result (HasAdded here.old None here.old.held here.new) }
     ensures same_order { OnErr result (order.new.items ≡ order.old.items) }
 {
     order.reserve(1)?;
@@ -73,7 +74,7 @@ pub(crate) fn wake_at(
     ensures woken { IfOk result (λ woken. HasWoken here.old woken here.new) }
     ensures order { OnOk result (order.new.items ≡ order.old.items
         ++ noted server (length here.old.history) (length here.new.history)) }
-    ensures same { OnErr result (GoesOn here.old None here.old.held here.new) }
+    ensures same { OnErr result (HasAdded here.old None here.old.held here.new) }
     ensures same_order { OnErr result (order.new.items ≡ order.old.items) }
 {
     order.reserve(1)?;
@@ -107,7 +108,7 @@ pub(crate) fn waking(server: ServerId, woken: Option<Woken>) -> Outcome
 pub(crate) fn restart_at(alloc: Global, here: &mut Server<MemoryKeeper>) -> Result<(), Memory>
     requires runs { here.old.is_stopped ≡ false }
     requires unmarked { here.old.acknowledged ≡ [] }
-    ensures ok { OnOk result (GoesOn here.old None [] here.new) }
+    ensures ok { OnOk result (HasAdded here.old None [] here.new) }
     ensures err { OnErr result (here.new ≡ here.old) }
 {
     // The history is lawful, so what is kept of it isn't damaged.

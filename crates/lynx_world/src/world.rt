@@ -8,11 +8,11 @@ use crate::cells::all_cells;
 use crate::listed::{Listed, added_at, lend, server_at};
 use crate::opening::open_all;
 use crate::serving::{begin_at, deliver_at, restart_at, wake_at, waking};
-use lynx_books::Server;
 use lynx_entry::{Entry, Event, Message, Outcome, Request};
 use lynx_keep::MemoryKeeper;
 use lynx_names::{ChainId, Memory, ServerId, Stamp, TableId};
-use lynx_server::next_of;
+use lynx_rules::next_of;
+use lynx_server::Server;
 use lynx_set::ChainSet;
 use std::alloc::Global;
 use std::marker::Model;
@@ -109,7 +109,7 @@ impl World {
         lend(&self.servers, added)
     }
 
-    /// The messages that the server holds, in order of origin, index and hop. None where the set hasn't the server.
+    /// The messages that the server holds. None where the set hasn't the server.
     pub fn held(&self, server: ServerId) -> Option<&[Message]>
         ensures held { option_copied result ≡ slice_get self.now.held server }
         ensures sent { IfSome result (λ held. All (IsSent self.now.set self.now.list) held.now) }

@@ -6,6 +6,6 @@ use Rattle.lynx_weave.proofs.judging.judge_all.Given as goal
 
 abbrev pub invariant-loop-session : goal.invariant-loop-session
 invariant-loop-session l = record {
-  well : AreWellBefore (histories_of l.servers) (told_in l.told) l.session;
+  well : AreWellBefore (histories_of l.servers) l.starts (told_in l.told) l.session;
   counted : AreCounted (histories_of l.servers) l.marks (all_told (take l.session (told_in l.told)));
 }

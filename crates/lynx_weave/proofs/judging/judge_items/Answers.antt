@@ -7,7 +7,7 @@ use Rattle.lynx_weave.proofs.judging.judge_items.Goals as goal
 
 pub returns-then-not-branch : goal.returns-then-not-branch
 returns-then-not-branch c =
-    bad_at (histories_of c.args.servers.now) c.args.marks.now c.loop-place.marks c.judge_item.new.marks c.args.items.now c.loop-place.place
+    bad_at (histories_of c.args.servers.now) c.args.starts.now c.args.marks.now c.loop-place.marks c.judge_item.new.marks c.args.items.now c.loop-place.place
     c.loop-place.greatest c.index-items-place.result c.in_ok-judge_item.field-0
     (slice_get-get_or c.args.items.now c.loop-place.place c.index-items-place.result (omega arith) ∙ ap Some (sym c.index-items-place.is))
     c.loop-place.invariant.greatest c.loop-place.invariant.marked c.in_ok-judge_item.ensures c.if-not-branch.true
@@ -15,7 +15,7 @@ returns-then-not-branch c =
 pub loop-place-preserved : goal.loop-place-preserved
 loop-place-preserved c =
     let there = slice_get-get_or c.args.items.now c.loop-place.place c.index-items-place.result (omega arith) ∙ ap Some (sym c.index-items-place.is) in
-    let next = stepped (histories_of c.args.servers.now) c.args.marks.now c.loop-place.marks c.judge_item.new.marks c.args.items.now c.loop-place.place
+    let next = stepped (histories_of c.args.servers.now) c.args.starts.now c.args.marks.now c.loop-place.marks c.judge_item.new.marks c.args.items.now c.loop-place.place
     c.loop-place.greatest c.index-items-place.result c.in_ok-judge_item.field-0 there
     c.loop-place.invariant.greatest c.loop-place.invariant.well c.loop-place.invariant.marked c.in_ok-judge_item.ensures c.if-not-branch.false in
     record {
@@ -29,6 +29,6 @@ loop-place-preserved c =
 
 pub returns : goal.returns
 returns c = (
-  well_all (histories_of c.args.servers.now) c.args.items.now c.loop-place.place (omega arith) c.loop-place.invariant.well,
+  well_all (histories_of c.args.servers.now) c.args.starts.now c.args.items.now c.loop-place.place (omega arith) c.loop-place.invariant.well,
   marked_all (histories_of c.args.servers.now) c.args.marks.now c.loop-place.marks c.args.items.now c.loop-place.place (omega arith) c.loop-place.invariant.marked,
 )

@@ -7,7 +7,7 @@ use Rattle.lynx_weave.proofs.judging.judge_items.Given as goal
 
 abbrev pub invariant-loop-place : goal.invariant-loop-place
 invariant-loop-place l = record {
-  well : AreWellBelow (histories_of l.servers) l.items l.place;
+  well : AreWellBelow (histories_of l.servers) l.starts l.items l.place;
   greatest : l.greatest ≡ greatest_told (take l.place l.items);
   marked : AreMarked (histories_of l.servers) l.fn.marks (take l.place l.items) l.marks;
 }

@@ -1,5 +1,5 @@
 use Rattle.std.proofs.Common.{◌∙◌, [], false, sym, ap, arith}
-use Rattle.lynx_keep.specs.Kept.{Kept, nothing_kept}
+use Rattle.lynx_keep.specs.Kept.{KeptState, nothing_kept}
 use Rattle.lynx_world.proofs.Starting.{first_alike, one_more}
 use Rattle.lynx_world.proofs.opening.open_all.Goals as goal
 
@@ -13,7 +13,7 @@ loop-number-preserved c =
     record {
       servers = one_more set c.loop-number.servers.items number c.push.new.self.items c.in_ok-new.field-0 is.servers c.in_ok-push.ensures.items
           (c.in_ok-new.ensures ∙ ap (λ n. record { set = set; server = n; history = []; held = []; is_stopped = false; opened = 0; acknowledged = []; keeper = c.in-Some.keeper }) c.at.ensures
-          ∙ ap (λ (k : Kept). record { set = set; server = number; history = []; held = []; is_stopped = false; opened = 0; acknowledged = []; keeper = k }) alike.0);
+          ∙ ap (λ (k : KeptState). record { set = set; server = number; history = []; held = []; is_stopped = false; opened = 0; acknowledged = []; keeper = k }) alike.0);
       rest = alike.1;
       count = is.count;
       within = omega (arith, c.loop-number-test.true);

@@ -1,12 +1,10 @@
 use Rattle.std.proofs.Common.{◌≡◌, ◌∙◌, refl, sym, ap, subst}
-use Rattle.lynx_books.specs.History.{IsLawfulHistory}
-use Rattle.lynx_books.specs.Keeping.{kept_of}
+use Rattle.lynx_keep.specs.Kept.{KeptState}
+use Rattle.lynx_server.specs.History.{IsLawfulHistory}
+use Rattle.lynx_server.specs.Keeping.{kept_of}
 use Rattle.lynx_set.specs.Set.{Set}
 use Rattle.lynx_world.proofs.Reopening.{only_memory}
 use Rattle.lynx_world.proofs.serving.restart_at.Goals as goal
-
-pub open-requires : goal.open-requires
-open-requires c = λ sound. (c.in_ok-keeper.keeper, refl)
 
 pub want_of_memory-requires : goal.want_of_memory-requires
 want_of_memory-requires c =
@@ -25,7 +23,7 @@ returns-in-Ok-clause-ok c =
     record {
       set_is = is.set_is ∙ c.set.ensures;
       server_is = is.server_is ∙ c.server.ensures;
-      history_is = sym (is.entries_are tt (kept_of old.set old.history) kept);
+      history_is = sym (ap (λ (k : KeptState). k.entries) (is.finds.all tt (kept_of old.set old.history) kept));
       held_is = is.held_is;
       acknowledged_is = is.acknowledged_is ∙ sym c.requires.unmarked;
       runs = is.runs;

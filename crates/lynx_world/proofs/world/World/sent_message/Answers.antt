@@ -2,7 +2,7 @@ use Rattle.std.proofs.Common.{◌≡◌, ◌∙◌, ◌+◌, Option, Some, None,
 use Rattle.std.specs.Option.{option_and_then}
 use Rattle.lynx_entry.specs.declared.entry.Entry.{Entry}
 use Rattle.lynx_entry.specs.declared.message.Message.{Message}
-use Rattle.lynx_server.specs.Messages.{next_message}
+use Rattle.lynx_rules.specs.Messages.{next_message}
 use Rattle.lynx_world.specs.Servers.{act_in, list_of}
 use Rattle.lynx_world.specs.Steps.{sent_message}
 use Rattle.lynx_world.specs.Worlds.{WorldState}

@@ -1,5 +1,0 @@
-use Rattle.lynx_books.proofs.Returning.{busy_returns}
-use Rattle.lynx_books.proofs.laws.busy_needs_a_return.Goals as goal
-
-pub returns : goal.returns
-returns c = busy_returns

@@ -1,0 +1,6 @@
+-- Definitions that no public clause cites: they serve the functions within.
+pub mod Begins
+pub mod ReadingBack
+pub mod Repeating
+pub mod Sorting
+pub mod Trying

@@ -1,13 +1,14 @@
 -- Chains that precede one another around a cycle give a closed walk that offends.
-use Rattle.std.proofs.Common.{◌≡◌, ◌≢◌, ℕ, zero, suc, ◌+◌, ◌<◌, Bool, true, false, cond, List, [], ◌∷◌, length, Option, Some, slice_get, inl, inr, ◌⊎◌, refl, sym, ap, ◌∙◌, subst, arith}
+use Rattle.std.proofs.Common.{◌≡◌, ◌≢◌, ℕ, zero, suc, ◌+◌, ◌<◌, ◌≤◌, Bool, true, false, cond, List, [], ◌∷◌, length, Option, Some, slice_get, inl, inr, ◌⊎◌, refl, sym, ap, ◌∙◌, subst, arith}
 use Rattle.std.specs.Prelude.{All, Any}
 use Rattle.std.specs.List.{range_with_len}
 use Rattle.std.proofs.lemmas.Bool.{cases_lt}
 use Rattle.std.proofs.lemmas.Bool.Decides.{eqb_tells}
 use Rattle.std.proofs.lemmas.List.Elements.{All-weaker}
 use Rattle.lynx_names.specs.declared.chain.ChainId.{ChainId}
+use Rattle.lynx_names.specs.declared.limits.TheConstants.{MAX_SERVERS}
 use Rattle.lynx_shards.specs.Shards.{server_of}
-use Rattle.lynx_set.specs.Rules.{IsSet}
+use Rattle.lynx_set.specs.Home.{AreLiteralsHome}
 use Rattle.lynx_set.specs.Set.{Set}
 use Rattle.lynx_foot.specs.declared.touch.Touch.{Touch}
 use Rattle.lynx_foot.specs.Conflicts.{Conflicts, KeysLieAtServer, MayConflict}
@@ -17,7 +18,7 @@ use Rattle.lynx_graph.specs.Walks.{Crosses, Differ, IsAccepted, JoinsAround}
 use Rattle.lynx_commute.specs.Acts.{touched}
 use Rattle.lynx_entry.specs.declared.entry.Entry.{Entry}
 use Rattle.lynx_entry.specs.declared.entry.Entry.TheVariants.{Begun, Refused, Hop as HopRan}
-use Rattle.lynx_server.specs.Deliveries.{same_chain}
+use Rattle.lynx_rules.specs.Deliveries.{same_chain}
 use Rattle.lynx_world.specs.Placed.{Placed}
 use Rattle.lynx_world.specs.Legal.{IsLegal}
 use Rattle.lynx_world.specs.Order.{hop_in, done_hops}
@@ -69,7 +70,7 @@ hop_of_touch set chain (HopRan ran) others conflict = by (same_chain ran.message
     by true same collide = (ran_as ran, refl, same_name _ _ same)
     by false differ collide = absurd (none_conflict others collide)
 
-hop_at : (set : Set) (list : List Placed) (chain : ChainId) (place : ℕ) (placed : Placed) (others : List Touch) → IsSet set → IsLegal set list →
+hop_at : (set : Set) (list : List Placed) (chain : ChainId) (place : ℕ) (placed : Placed) (others : List Touch) → AreLiteralsHome set → IsLegal set list →
     slice_get list place ≡ Some placed → Conflicts (touches_in set chain placed.entry) others → HopAt set list chain
 hop_at set list chain place placed others is legal there conflict =
     let own = hop_of_touch set chain placed.entry others conflict in
@@ -112,7 +113,7 @@ touches_at : (set : Set) (list : List Placed) (chain : ChainId) (hop : HopAt set
 touches_at set list chain hop =
     ap (λ c. touches_in set c hop.placed.entry) (sym hop.chain_is) ∙ touches_are set hop.placed.entry hop.done hop.is
 
-link : (set : Set) (list : List Placed) (one other : ChainId) → IsSet set → IsLegal set list → Precedes set list one other → Link set list one other
+link : (set : Set) (list : List Placed) (one other : ChainId) → AreLiteralsHome set → IsLegal set list → Precedes set list one other → Link set list one other
 unfolding hop_at
 link set list one other is legal precedes =
     let back = Conflicts-swapped (touches_in set one precedes.first.entry) (touches_in set other precedes.second.entry) precedes.conflict in
@@ -175,14 +176,13 @@ same_place set list chain legal a b same = elim (cases_lt a.place b.place) [
 ]
 
 -- of two chains of one origin the one that precedes the other began first
-index_rises : (set : Set) (list : List Placed) (one other : ChainId) → IsSet set → IsLegal set list → Link set list one other → one.origin ≡ other.origin →
+index_rises : (set : Set) (list : List Placed) (one other : ChainId) → set.servers ≤ MAX_SERVERS → IsLegal set list → Link set list one other → one.origin ≡ other.origin →
     one.index < other.index
-index_rises set list one other is legal link origin = elim (cases_lt one.index other.index) [
+index_rises set list one other few legal link origin = elim (cases_lt one.index other.index) [
   | inl less ↦ less
   | inr rest ↦ elim (cases_lt other.index one.index) [
     | inl more ↦
-        let few = is.0.1 in
-        let late = origin_order set list (omega arith) legal other one (sym origin) more link.left.placed.server link.entered.place link.left.place
+        let late = origin_order set list few legal other one (sym origin) more link.left.placed.server link.entered.place link.left.place
         (record { placed = link.entered.placed; there = link.entered.there; here = sym link.same_server; hop = link.entered.done.act.hop; is = link.entered.hop_is })
         (record { placed = link.left.placed; there = link.left.there; here = refl; hop = link.left.done.act.hop; is = link.left.hop_is }) in
         let before = link.in_order in
@@ -199,7 +199,7 @@ abbrev pub LinksAround : Set → List Placed → ChainId → ChainId → List Ch
 LinksAround set list first chain [] = Link set list chain first
 LinksAround set list first chain (next ∷ rest) = Link set list chain next × LinksAround set list first next rest
 
-links : (set : Set) (list : List Placed) (first chain : ChainId) (rest : List ChainId) → IsSet set → IsLegal set list →
+links : (set : Set) (list : List Placed) (first chain : ChainId) (rest : List ChainId) → AreLiteralsHome set → IsLegal set list →
     PrecedesAround set list first chain rest → LinksAround set list first chain rest
 links set list first chain [] is legal around = link set list chain first is legal around
 links set list first chain (next ∷ rest) is legal around = (link set list chain next is legal around.0, links set list first next rest is legal around.1)
@@ -276,16 +276,16 @@ other_origin : (o : Option ℕ) (a b : ℕ) → o ≡ Some a → a ≢ b → o �
 other_origin o a b is differ same = differ (one_server a b (sym is ∙ same))
 
 -- some visit is of another origin, or indexes rise to that of the first chain
-differ_or_rise : (set : Set) (list : List Placed) (first chain : ChainId) (rest : List ChainId) (origin : ℕ) → IsSet set → IsLegal set list →
+differ_or_rise : (set : Set) (list : List Placed) (first chain : ChainId) (rest : List ChainId) (origin : ℕ) → set.servers ≤ MAX_SERVERS → IsLegal set list →
     (around : LinksAround set list first chain rest) → first.origin ≡ origin → chain.origin ≡ origin →
     Any (λ visit. origin_of set visit.program ≢ Some origin) (visits_behind set list first chain rest around) ⊎ (chain.index < first.index)
-differ_or_rise set list first chain [] origin is legal around home here = inr (index_rises set list chain first is legal around (here ∙ sym home))
-differ_or_rise set list first chain (next ∷ rest) origin is legal around home here = elim (eqb_tells next.origin origin) [
-  | inl same ↦ elim (differ_or_rise set list first next rest origin is legal around.1 home same.1) [
+differ_or_rise set list first chain [] origin few legal around home here = inr (index_rises set list chain first few legal around (here ∙ sym home))
+differ_or_rise set list first chain (next ∷ rest) origin few legal around home here = elim (eqb_tells next.origin origin) [
+  | inl same ↦ elim (differ_or_rise set list first next rest origin few legal around.1 home same.1) [
     | inl found ↦ inl (any-later (λ (visit : Visit). origin_of set visit.program ≢ Some origin)
         (visit_of set list next around.0.entered (leaving set list first next rest around.1)) (visits_behind set list first next rest around.1) found)
     | inr rises ↦
-        let one = index_rises set list chain next is legal around.0 (here ∙ sym same.1) in
+        let one = index_rises set list chain next few legal around.0 (here ∙ sym same.1) in
         inr (omega arith)
   ]
   | inr differ ↦ inl (any-here (λ (visit : Visit). origin_of set visit.program ≢ Some origin)
@@ -294,17 +294,17 @@ differ_or_rise set list first chain (next ∷ rest) origin is legal around home 
 ]
 
 -- where no closed walk offends, there is no cycle
-pub no_cycle : (set : Set) (list : List Placed) (chains : List ChainId) → IsSet set → IsLegal set list → IsAccepted set → IsCycle set list chains → ⊥
-no_cycle set list [] is legal accepted cycle = cycle
-no_cycle set list (only ∷ []) is legal accepted cycle = cycle
-no_cycle set list (first ∷ second ∷ rest) is legal accepted cycle =
+pub no_cycle : (set : Set) (list : List Placed) (chains : List ChainId) → AreLiteralsHome set → set.servers ≤ MAX_SERVERS → IsLegal set list → IsAccepted set → IsCycle set list chains → ⊥
+no_cycle set list [] is few legal accepted cycle = cycle
+no_cycle set list (only ∷ []) is few legal accepted cycle = cycle
+no_cycle set list (first ∷ second ∷ rest) is few legal accepted cycle =
     let around = links set list first first (second ∷ rest) is legal cycle.1 in
     let entered = closing set list first first (second ∷ rest) around in
     let start = visit_of set list first entered around.0.left in
     let behind = visits_behind set list first first (second ∷ rest) around in
     elim (crosses_or_rises set list first first (second ∷ rest) legal around entered) [
       | inr rises ↦ omega arith
-      | inl crosses ↦ elim (differ_or_rise set list first first (second ∷ rest) first.origin is legal around refl refl) [
+      | inl crosses ↦ elim (differ_or_rise set list first first (second ∷ rest) first.origin few legal around refl refl) [
         | inr more ↦ omega arith
         | inl differ ↦ accepted (start ∷ behind) (
           joins set list first first (second ∷ rest) legal around entered start refl refl,

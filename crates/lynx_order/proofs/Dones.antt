@@ -6,7 +6,7 @@ use Rattle.std.proofs.lemmas.Bool.{eqb-true}
 use Rattle.lynx_names.specs.declared.chain.ChainId.{ChainId}
 use Rattle.lynx_set.specs.declared.program.Hop.{Hop}
 use Rattle.lynx_set.specs.declared.program.Program.{Program}
-use Rattle.lynx_set.specs.Rules.{IsSet}
+use Rattle.lynx_set.specs.Home.{AreLiteralsHome}
 use Rattle.lynx_set.specs.Set.{Set}
 use Rattle.lynx_commute.specs.Acts.{Act, answer, answer_in, touched}
 use Rattle.lynx_entry.specs.declared.answer.Answer.{Answer}
@@ -18,10 +18,10 @@ use Rattle.lynx_entry.specs.declared.entry.Entry.TheVariants.{Begun, Refused, Ho
 use Rattle.lynx_entry.specs.declared.message.Message.{Message}
 use Rattle.lynx_entry.specs.declared.request.Request.{Request}
 use Rattle.lynx_entry.specs.Entry.{History}
-use Rattle.lynx_server.specs.Visits.{is_origin, starts_at}
-use Rattle.lynx_server.specs.Tables.{tables_of}
-use Rattle.lynx_server.specs.Checks.{are_keys_placed, request_fault_in, fits_hop, fits_program, has_begun}
-use Rattle.lynx_server.specs.Lawful.{IsLawfulBegun, IsLawfulHop}
+use Rattle.lynx_rules.specs.Visits.{is_origin, starts_at}
+use Rattle.lynx_rules.specs.Tables.{tables_of}
+use Rattle.lynx_rules.specs.Checks.{are_keys_placed, request_fault_in, fits_hop, fits_program, has_begun}
+use Rattle.lynx_rules.specs.Lawful.{IsLawfulBegun, IsLawfulHop}
 use Rattle.lynx_world.specs.Placed.{Placed}
 use Rattle.lynx_world.specs.Worlds.{history_of}
 use Rattle.lynx_world.specs.Legal.{MayFollow}
@@ -118,7 +118,7 @@ origin-is set program server found is starts =
     server_at-is set program 0 first.0 ∙ ap Some first.1
 
 -- a chain that began
-begun_done : (set : Set) (history : History) (server : ℕ) (begun : BegunEntry) (done : Done) → IsSet set → IsLawfulBegun set server history begun →
+begun_done : (set : Set) (history : History) (server : ℕ) (begun : BegunEntry) (done : Done) → AreLiteralsHome set → IsLawfulBegun set server history begun →
     done_in (Begun begun) ≡ Some done → IsDone set history server (Begun begun) done
 begun_done set history server begun done is lawful same =
     let begins = begins_so set server begun.request (program_at set begun.request.program) refl lawful.may_begin.in_order in
@@ -162,7 +162,7 @@ program_so set server message None found e = cc
 program_so set server message (Some program) found e = fits_so set server message program (slice_get program.hops message.hop) found refl e
 
 -- a later hop that ran
-hop_done : (set : Set) (history : History) (server : ℕ) (ran : HopEntry) (done : Done) → IsSet set → IsLawfulHop set server history ran →
+hop_done : (set : Set) (history : History) (server : ℕ) (ran : HopEntry) (done : Done) → AreLiteralsHome set → IsLawfulHop set server history ran →
     done_in (HopRan ran) ≡ Some done → IsDone set history server (HopRan ran) done
 hop_done set history server ran done is lawful same =
     let formed = both (fits_program set server ran.message (program_at set ran.message.program)) (has_begun server history ran.message) lawful.well_formed in
@@ -180,7 +180,7 @@ hop_done set history server ran done is lawful same =
     })
 
 -- what is known of each hop whose entry may follow
-pub is_done : (set : Set) (before : List Placed) (server : ℕ) (entry : Entry) (done : Done) → IsSet set →
+pub is_done : (set : Set) (before : List Placed) (server : ℕ) (entry : Entry) (done : Done) → AreLiteralsHome set →
     MayFollow set before (record { server = server; entry = entry }) → done_in entry ≡ Some done →
     IsDone set (history_of server before) server entry done
 is_done set before server (Begun begun) done is may same = begun_done set (history_of server before) server begun done is may.lawful same

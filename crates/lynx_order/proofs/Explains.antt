@@ -5,14 +5,14 @@ use Rattle.std.specs.List.{flat_map}
 use Rattle.std.proofs.lemmas.List.{length-append}
 use Rattle.lynx_names.specs.declared.chain.ChainId.{ChainId}
 use Rattle.lynx_cells.specs.Database.{empty_database}
-use Rattle.lynx_set.specs.Rules.{IsSet}
+use Rattle.lynx_set.specs.Home.{AreLiteralsHome}
 use Rattle.lynx_set.specs.Set.{Set}
 use Rattle.lynx_foot.specs.Conflicts.{Conflicts}
 use Rattle.lynx_commute.specs.Acts.{Act, touched}
 use Rattle.lynx_entry.specs.declared.entry.Entry.{Entry}
 use Rattle.lynx_entry.specs.declared.entry.Entry.TheVariants.{Begun, Refused, Hop as HopRan}
 use Rattle.lynx_entry.specs.declared.request.Request.{Request}
-use Rattle.lynx_server.specs.Deliveries.{same_chain}
+use Rattle.lynx_rules.specs.Deliveries.{same_chain}
 use Rattle.lynx_world.specs.Placed.{Placed}
 use Rattle.lynx_world.specs.Legal.{IsLegal}
 use Rattle.lynx_world.proofs.Once.{same_chain-self, same_name}
@@ -159,7 +159,7 @@ all_begun list [] each = tt
 all_begun list (chain ∷ chains) each = (each chain (inl refl), all_begun list chains (λ c there. each c (inr there)))
 
 -- each order of the begun chains that respects precedence explains the list
-pub order_explains : (set : Set) (list : List Placed) (chains : List ChainId) → IsSet set → IsLegal set list → AreTheBegun list chains →
+pub order_explains : (set : Set) (list : List Placed) (chains : List ChainId) → AreLiteralsHome set → IsLegal set list → AreTheBegun list chains →
     KeepsPrecedence set list chains → IsExplanation set list chains
 order_explains set list chains is legal begun keeps =
     let one = one_database set list is legal in

@@ -16,20 +16,20 @@ use Rattle.lynx_foot.proofs.Decides.{Decides-some_collide}
 use Rattle.lynx_entry.specs.declared.entry.Entry.{Entry}
 use Rattle.lynx_entry.specs.declared.entry.Entry.TheVariants.{Begun, Refused, Hop as HopRan}
 use Rattle.lynx_entry.specs.declared.request.Request.{Request}
-use Rattle.lynx_server.specs.Deliveries.{same_chain}
+use Rattle.lynx_rules.specs.Deliveries.{same_chain}
 use Rattle.lynx_world.specs.Placed.{Placed}
 use Rattle.lynx_world.specs.Legal.{IsLegal}
 use Rattle.lynx_world.specs.Order.{hop_in, done_hops}
 use Rattle.lynx_world.proofs.Once.{both, once_and_in_order, same_chain-self, same_name}
 use Rattle.lynx_world.proofs.Tests.{and-true}
 use Rattle.lynx_order.specs.declared.touching.Touching.{Touching}
-use Rattle.lynx_order.specs.Begun.{begun_chains, begun_in, chain_begun}
-use Rattle.lynx_order.specs.ChainsAt.{chain_at}
+use Rattle.lynx_order.specs.inner.Begun.{begun_chains, begun_in, chain_begun}
+use Rattle.lynx_order.specs.inner.ChainsAt.{chain_at}
 use Rattle.lynx_order.specs.Explanations.{request_in, request_of}
 use Rattle.lynx_order.specs.Lists.{IsIn, AreDifferent, StandsBefore}
-use Rattle.lynx_order.specs.Picks.{ComesBefore, IsSquare}
+use Rattle.lynx_order.specs.inner.Picks.{ComesBefore, IsSquare}
 use Rattle.lynx_order.specs.Precedence.{Precedes, touches_in}
-use Rattle.lynx_order.specs.Touchings.{is_before, meet, precede_at, row_of, table_of, touchings_from, touchings_of}
+use Rattle.lynx_order.specs.Touchings.{stands_before, meet, precede_at, row_of, table_of, touchings_from, touchings_of}
 use Rattle.lynx_order.proofs.Circle.{range_rises}
 use Rattle.lynx_order.proofs.Places.{before_of_places, places_of_before}
 
@@ -154,8 +154,8 @@ touches_some (left ∷ lefts) rights conflict = elim (eqb_tells (length (left �
 meet_precedes : (set : Set) (list : List Placed) (one other : ChainId) → one ≢ other → meet (touchings_of set list one) (touchings_of set list other) ≡ true →
     Precedes set list one other
 meet_precedes set list one other differ is =
-    let first = any_in (λ hop. list_any (λ later. is_before hop later) (touchings_of set list other)) (touchings_of set list one) is in
-    let second = any_in (λ later. is_before first.0 later) (touchings_of set list other) first.2 in
+    let first = any_in (λ hop. list_any (λ later. stands_before hop later) (touchings_of set list other)) (touchings_of set list one) is in
+    let second = any_in (λ later. stands_before first.0 later) (touchings_of set list other) first.2 in
     let tests = both (nat_lt first.0.place second.0.place) (some_collide first.0.touches second.0.touches) second.2 in
     let stands = touching_stands set one 0 list first.0 first.1 in
     let follows = touching_stands set other 0 list second.0 second.1 in
@@ -181,9 +181,9 @@ precedes_meet set list one other precedes =
     let first : Touching = record { place = 0 + precedes.place; touches = lefts } in
     let second : Touching = record { place = 0 + precedes.later; touches = rights } in
     let less : first.place < second.place = let before = precedes.in_order in omega arith in
-    any_of (λ hop. list_any (λ later. is_before hop later) (touchings_of set list other)) (touchings_of set list one) first
+    any_of (λ hop. list_any (λ later. stands_before hop later) (touchings_of set list other)) (touchings_of set list one) first
     (touching_there set one 0 list precedes.place precedes.first precedes.first_there (touches_some lefts rights precedes.conflict))
-    (any_of (λ later. is_before first later) (touchings_of set list other) second
+    (any_of (λ later. stands_before first later) (touchings_of set list other) second
     (touching_there set other 0 list precedes.later precedes.second precedes.second_there
     (touches_some rights lefts (Conflicts-swapped lefts rights precedes.conflict)))
     (and-true _ _ (lt-ltb first.place second.place less) ((Decides-some_collide lefts rights).1 precedes.conflict)))

@@ -1,9 +1,10 @@
 -- What the search finds is an order that explains, or a cycle.
-use Rattle.std.proofs.Common.{◌≡◌, ℕ, ◌<◌, Bool, List, [], ◌∷◌, ◌++◌, map, length, inl, inr, Some, slice_get, refl, sym, ap, ◌∙◌, subst}
+use Rattle.std.proofs.Common.{◌≡◌, ℕ, ◌<◌, ◌≤◌, Bool, List, [], ◌∷◌, ◌++◌, map, length, inl, inr, Some, slice_get, refl, sym, ap, ◌∙◌, subst}
 use Rattle.std.specs.Prelude.{All, IfOk, IsSome, Result, Ok, Err}
 use Rattle.lynx_names.specs.declared.chain.ChainId.{ChainId}
+use Rattle.lynx_names.specs.declared.limits.TheConstants.{MAX_SERVERS}
 use Rattle.lynx_names.specs.declared.memory.Memory.{Memory}
-use Rattle.lynx_set.specs.Rules.{IsSet}
+use Rattle.lynx_set.specs.Home.{AreLiteralsHome}
 use Rattle.lynx_set.specs.Set.{Set}
 use Rattle.lynx_foot.specs.declared.touch.Touch.{Touch}
 use Rattle.lynx_foot.specs.Conflicts.{Conflicts}
@@ -13,12 +14,12 @@ use Rattle.lynx_world.specs.Placed.{Placed}
 use Rattle.lynx_world.specs.Legal.{IsLegal}
 use Rattle.lynx_order.specs.declared.explained.Explained.{Explained}
 use Rattle.lynx_order.specs.declared.explained.Explained.TheVariants.{Order, Cycle}
-use Rattle.lynx_order.specs.Begun.{begun_chains}
-use Rattle.lynx_order.specs.ChainsAt.{chain_at}
+use Rattle.lynx_order.specs.inner.Begun.{begun_chains}
+use Rattle.lynx_order.specs.inner.ChainsAt.{chain_at}
 use Rattle.lynx_order.specs.Explained.{CycleIsRight, GivesOrder, IsOrder}
 use Rattle.lynx_order.specs.Explanations.{AreTheBegun, request_of}
 use Rattle.lynx_order.specs.Lists.{IsIn, AreDifferent, StandsBefore}
-use Rattle.lynx_order.specs.Picks.{AreLinked, AreTaken, ComesBefore, IsMarked, IsRound, IsSquare}
+use Rattle.lynx_order.specs.inner.Picks.{AreLinked, AreTaken, ComesBefore, IsMarked, IsRound, IsSquare}
 use Rattle.lynx_order.specs.Precedence.{IsCycle, KeepsPrecedence, Precedes, PrecedesAround, touches_in}
 use Rattle.lynx_order.proofs.ChainForm.{dones_of, told}
 use Rattle.lynx_order.proofs.Circle.{hop_of_touch, no_cycle}
@@ -157,10 +158,10 @@ cycle_found set list places legal round =
 
 -- ---- accepted sets
 
-pub accepted_order : (set : Set) (list : List Placed) (explained : Explained) → IsLegal set list → CycleIsRight set list explained → IsSet set → IsAccepted set →
+pub accepted_order : (set : Set) (list : List Placed) (explained : Explained) → set.servers ≤ MAX_SERVERS → IsLegal set list → CycleIsRight set list explained → AreLiteralsHome set → IsAccepted set →
     GivesOrder explained
-accepted_order set list (Order chains) legal right is accepted = tt
-accepted_order set list (Cycle chains) legal right is accepted = no_cycle set list chains is legal accepted right
+accepted_order set list (Order chains) few legal right is accepted = tt
+accepted_order set list (Cycle chains) few legal right is accepted = no_cycle set list chains is few legal accepted right
 
 -- ---- what the search computes
 
@@ -199,7 +200,7 @@ cycle_given set list chains found table round places legal are is same found_is 
     subst (IsCycle set list) (sym (found_is ∙ ap (λ cs. map (chain_at cs) places) are.chains_are ∙ ap (map (chain_at (begun_chains list))) same))
     (cycle_found set list round legal (subst (λ t. IsRound t round) are.table_is is))
 
-pub accepted_given : (set : Set) (list : List Placed) (result : Result Explained Memory) → IsLegal set list → IfOk result (λ explained. CycleIsRight set list explained) →
-    IfOk result (λ explained. IsSet set → IsAccepted set → GivesOrder explained)
-accepted_given set list (Ok explained) legal right = λ is accepted. accepted_order set list explained legal right is accepted
-accepted_given set list (Err memory) legal right = right
+pub accepted_given : (set : Set) (list : List Placed) (result : Result Explained Memory) → set.servers ≤ MAX_SERVERS → IsLegal set list → IfOk result (λ explained. CycleIsRight set list explained) →
+    IfOk result (λ explained. AreLiteralsHome set → IsAccepted set → GivesOrder explained)
+accepted_given set list (Ok explained) few legal right = λ is accepted. accepted_order set list explained few legal right is accepted
+accepted_given set list (Err memory) few legal right = right

@@ -7,7 +7,7 @@ use Rattle.std.proofs.lemmas.Bool.Decides.{eqb_tells}
 use Rattle.std.proofs.lemmas.List.{get_or-replicate, get_or-set_other, get_or-set_same, get_or_default, get_or_past, length-replicate, length-set}
 use Rattle.std.proofs.lemmas.List.Elements.{All-nil, All-cons}
 use Rattle.lynx_order.specs.Lists.{IsIn, AreDifferent}
-use Rattle.lynx_order.specs.Picks.{AreHints, AreLinked, AreTaken, ComesBefore, IsClosed, IsFree, IsMarked, IsPart, IsRound, IsTrail, LeftBefore}
+use Rattle.lynx_order.specs.inner.Picks.{AreHints, AreLinked, AreTaken, ComesBefore, IsClosed, IsFree, IsMarked, IsPart, IsRound, IsTrail, LeftBefore}
 use Rattle.lynx_order.proofs.Lists.{before-across, before-left, different-append, different-seam, in-either, in-left, in-right}
 
 -- ---- marks

@@ -9,7 +9,7 @@ use Rattle.std.proofs.lemmas.List.Elements.{All-weaker, filter_map-append}
 use Rattle.std.proofs.lemmas.List.Sums.{fold-append}
 use Rattle.lynx_cells.specs.Database.{Database, empty_database, value_at}
 use Rattle.lynx_shards.specs.Shards.{server_of}
-use Rattle.lynx_set.specs.Rules.{IsSet}
+use Rattle.lynx_set.specs.Home.{AreLiteralsHome}
 use Rattle.lynx_set.specs.Set.{Set}
 use Rattle.lynx_hops.specs.Meaning.{HopOutcome}
 use Rattle.lynx_foot.specs.declared.touch.Touch.{Touch}
@@ -19,7 +19,7 @@ use Rattle.lynx_commute.proofs.Commuting.{ChangePlaces-from_no_conflict}
 use Rattle.lynx_commute.proofs.Framing.{Agree-after, answer-agree, value_at-after}
 use Rattle.lynx_entry.specs.declared.entry.Entry.{Entry}
 use Rattle.lynx_entry.specs.declared.entry.Entry.TheVariants.{Begun, Refused, Hop as HopRan}
-use Rattle.lynx_server.specs.Tables.{after_entry, database_after, tables_of}
+use Rattle.lynx_rules.specs.Tables.{after_entry, database_after, tables_of}
 use Rattle.lynx_world.specs.Placed.{Placed}
 use Rattle.lynx_world.specs.Worlds.{history_of}
 use Rattle.lynx_world.specs.Legal.{MayFollow, IsLegal}
@@ -140,7 +140,7 @@ pub dones-push : (list : List Placed) (placed : Placed) (o : Option Done) → do
 dones-push list placed o is =
     filter_map-append (λ (p : Placed). done_in p.entry) list (placed ∷ []) ∙ ap (λ d. dones list ++ cons_option d []) is
 
-one_more : (set : Set) (list : List Placed) (server : ℕ) (entry : Entry) (o : Option Done) → IsSet set → done_in entry ≡ o → OneDatabase set list →
+one_more : (set : Set) (list : List Placed) (server : ℕ) (entry : Entry) (o : Option Done) → AreLiteralsHome set → done_in entry ≡ o → OneDatabase set list →
     MayFollow set list (record { server = server; entry = entry }) → OneDatabase set (list ++ record { server = server; entry = entry } ∷ [])
 one_more set list server entry None is none old may =
     let placed : Placed = record { server = server; entry = entry } in
@@ -163,7 +163,7 @@ one_more set list server entry (Some done) is some old may =
     }
 
 -- all hops of a legal list run over one database
-pub one_database : (set : Set) (list : List Placed) → IsSet set → IsLegal set list → OneDatabase set list
+pub one_database : (set : Set) (list : List Placed) → AreLiteralsHome set → IsLegal set list → OneDatabase set list
 one_database set list is legal =
     legal_induction set (OneDatabase set) (record { last = empty_database; runs = refl; tables = λ table key. refl })
     (λ before placed was old may. one_more set before placed.server placed.entry (done_in placed.entry) is refl old may) list legal

@@ -11,7 +11,7 @@ use Rattle.lynx_commute.specs.Acts.{after, answer, answer_in, database_in, outco
 use Rattle.lynx_entry.specs.declared.entry.Entry.{Entry}
 use Rattle.lynx_entry.specs.declared.entry.Entry.TheVariants.{Begun, Refused, Hop as HopRan}
 use Rattle.lynx_entry.specs.declared.request.Request.{Request}
-use Rattle.lynx_server.specs.Deliveries.{same_chain}
+use Rattle.lynx_rules.specs.Deliveries.{same_chain}
 use Rattle.lynx_world.specs.Placed.{Placed}
 use Rattle.lynx_world.specs.Order.{done_hops}
 use Rattle.lynx_order.specs.Explanations.{call_of, calls_of, request_of, results_in, results_of}

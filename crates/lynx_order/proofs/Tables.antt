@@ -7,10 +7,10 @@ use Rattle.std.proofs.lemmas.List.Elements.{filter_map-append}
 use Rattle.std.proofs.lemmas.Option.{get_or_from_slice_get, slice_get_within}
 use Rattle.std.proofs.Math.Seq.{take-suc}
 use Rattle.lynx_entry.specs.declared.entry.Entry.{Entry}
-use Rattle.lynx_order.specs.Begun.{begun_chains, begun_in, chain_begun}
+use Rattle.lynx_order.specs.inner.Begun.{begun_chains, begun_in, chain_begun}
 use Rattle.lynx_names.specs.declared.chain.ChainId.{ChainId}
 use Rattle.lynx_set.specs.Set.{Set}
-use Rattle.lynx_server.proofs.Ranges.{range_more}
+use Rattle.lynx_rules.proofs.Ranges.{range_more}
 use Rattle.lynx_world.specs.Placed.{Placed}
 use Rattle.lynx_order.specs.declared.touching.Touching.{Touching}
 use Rattle.lynx_order.specs.Precedence.{touches_in}

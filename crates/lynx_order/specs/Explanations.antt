@@ -9,8 +9,8 @@ use Rattle.lynx_set.specs.Set.{Set}
 use Rattle.lynx_entry.specs.declared.entry.Entry.{Entry}
 use Rattle.lynx_entry.specs.declared.entry.Entry.TheVariants.{Begun, Refused, Hop}
 use Rattle.lynx_entry.specs.declared.request.Request.{Request}
-use Rattle.lynx_server.specs.Deliveries.{same_chain}
-use Rattle.lynx_server.specs.Tables.{tables_of}
+use Rattle.lynx_rules.specs.Deliveries.{same_chain}
+use Rattle.lynx_rules.specs.Tables.{tables_of}
 use Rattle.lynx_world.specs.Placed.{Placed}
 use Rattle.lynx_world.specs.Worlds.{history_of}
 use Rattle.lynx_world.specs.Order.{done_hops}

@@ -2,8 +2,6 @@ pub mod Lists
 pub mod Runs
 pub mod Precedence
 pub mod Explanations
-pub mod Begun
 pub mod Touchings
-pub mod Picks
 pub mod Explained
-pub mod ChainsAt
+pub mod inner

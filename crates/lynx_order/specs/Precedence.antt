@@ -7,7 +7,7 @@ use Rattle.lynx_foot.specs.Feet.{touches_of}
 use Rattle.lynx_foot.specs.Conflicts.{Conflicts}
 use Rattle.lynx_entry.specs.declared.entry.Entry.{Entry}
 use Rattle.lynx_entry.specs.declared.entry.Entry.TheVariants.{Begun, Refused, Hop}
-use Rattle.lynx_server.specs.Deliveries.{same_chain}
+use Rattle.lynx_rules.specs.Deliveries.{same_chain}
 use Rattle.lynx_world.specs.Placed.{Placed}
 use Rattle.lynx_order.specs.Lists.{AreDifferent, StandsBefore}
 

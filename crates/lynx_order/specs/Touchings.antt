@@ -23,12 +23,12 @@ abbrev pub touchings_of : Set → List Placed → ChainId → List Touching
 touchings_of set list chain = touchings_from set chain 0 list
 
 -- the one hop stands before the other, and conflicts with it
-abbrev pub is_before : Touching → Touching → Bool
-is_before one other = nat_lt one.place other.place && some_collide one.touches other.touches
+abbrev pub stands_before : Touching → Touching → Bool
+stands_before one other = nat_lt one.place other.place && some_collide one.touches other.touches
 
 -- some hop of the one chain does so to some hop of the other
 abbrev pub meet : List Touching → List Touching → Bool
-meet ones others = list_any (λ one. list_any (λ other. is_before one other) others) ones
+meet ones others = list_any (λ one. list_any (λ other. stands_before one other) others) ones
 
 -- whether the chain of the one place precedes the one of the other
 abbrev pub precede_at : List (List Touching) → ℕ → ℕ → Bool

@@ -1,7 +1,7 @@
 //! The chains that began in a world.
 ghost use Rattle.std.specs.Prelude.{◌≡◌, ◌++◌, [], IfOk, OnOk};
 ghost use Rattle.std.specs.List.{cons_option};
-ghost use Rattle.lynx_order.specs.Begun.{begun_chains, chain_begun};
+ghost use Rattle.lynx_order.specs.inner.Begun.{begun_chains, chain_begun};
 
 use crate::listed::entry_at;
 use lynx_entry::Entry;

@@ -2,7 +2,7 @@
 ghost use Rattle.std.specs.Prelude.{◌≡◌, ◌<◌, ℕ, length, All, IfOk, IfSome};
 ghost use Rattle.std.specs.List.{Contains};
 ghost use Rattle.lynx_order.specs.Lists.{IsIn};
-ghost use Rattle.lynx_order.specs.Picks.{IsClosed, IsMarked, IsPart, IsRound, IsSquare, LeftBefore, NoneFree};
+ghost use Rattle.lynx_order.specs.inner.Picks.{IsClosed, IsMarked, IsPart, IsRound, IsSquare, LeftBefore, NoneFree};
 
 use crate::picks::predecessor;
 use lynx_names::{Items, Memory};

@@ -1,9 +1,9 @@
 //! Finding an order that explains a world, or a cycle.
 ghost use Rattle.std.specs.Prelude.{◌≡◌, ◌<◌, length, map, All, IfOk};
-ghost use Rattle.lynx_set.specs.Rules.{IsSet};
+ghost use Rattle.lynx_set.specs.Home.{AreLiteralsHome};
 ghost use Rattle.lynx_graph.specs.Walks.{IsAccepted};
 ghost use Rattle.lynx_world.specs.Legal.{IsLegal};
-ghost use Rattle.lynx_order.specs.ChainsAt.{chain_at};
+ghost use Rattle.lynx_order.specs.inner.ChainsAt.{chain_at};
 ghost use Rattle.lynx_order.specs.Explained.{CycleIsRight, GivesOrder, OrderIsRight};
 
 use crate::begun::begun_chains;
@@ -69,7 +69,10 @@ pub fn explain(alloc: Global, world: &World) -> Result<Explained, Memory>
     ensures order { IfOk result (λ explained. OrderIsRight world.now.set world.now.list explained) }
     ensures cycle { IfOk result (λ explained. CycleIsRight world.now.set world.now.list explained) }
     ensures accepted { IfOk result (λ explained.
-        IsSet world.now.set → IsAccepted world.now.set → GivesOrder explained) }
+        AreLiteralsHome world.now.set → IsAccepted world.now.set → GivesOrder explained) }
 {
-    explain_list(alloc, world.set(), world)
+    let set = world.set();
+    // By its type a set has few servers.
+    let _ = set.servers();
+    explain_list(alloc, set, world)
 }

@@ -1,7 +1,8 @@
 //! Laws of legal lists, each the contract of a function that does nothing.
-ghost use Rattle.std.specs.Prelude.{List};
+ghost use Rattle.std.specs.Prelude.{◌≤◌, List};
 ghost use Rattle.lynx_names.specs.declared.chain.ChainId.{ChainId};
-ghost use Rattle.lynx_set.specs.Rules.{IsSet};
+ghost use Rattle.lynx_names.specs.declared.limits.TheConstants.{MAX_SERVERS};
+ghost use Rattle.lynx_set.specs.Home.{AreLiteralsHome};
 ghost use Rattle.lynx_set.specs.Set.{Set};
 ghost use Rattle.lynx_graph.specs.Walks.{IsAccepted};
 ghost use Rattle.lynx_world.specs.Placed.{Placed};
@@ -11,15 +12,16 @@ ghost use Rattle.lynx_order.specs.Explanations.{AreTheBegun, IsExplanation};
 
 /// Each order of the begun chains in which a chain stands before those that it precedes explains the list.
 pub fn an_order_that_respects_precedence_explains()
-    ensures { (set : Set) (list : List Placed) (chains : List ChainId) → IsSet set
+    ensures { (set : Set) (list : List Placed) (chains : List ChainId) → AreLiteralsHome set
         → IsLegal set list
         → AreTheBegun list chains → KeepsPrecedence set list chains
         → IsExplanation set list chains }
 {}
 
-/// Where no closed walk of the set offends, no chains precede one another around a cycle.
+/// Where no closed walk of the set offends, no chains precede one another around a cycle. Each `ChainSet` has at most
+/// 16 servers.
 pub fn no_cycle_where_accepted()
-    ensures { (set : Set) (list : List Placed) (chains : List ChainId) → IsSet set
-        → IsLegal set list
+    ensures { (set : Set) (list : List Placed) (chains : List ChainId) → AreLiteralsHome set
+        → set.servers ≤ MAX_SERVERS → IsLegal set list
         → IsAccepted set → ¬ IsCycle set list chains }
 {}

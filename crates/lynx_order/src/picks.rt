@@ -1,6 +1,6 @@
 //! Which chain is next, among those that are left.
 ghost use Rattle.std.specs.Prelude.{◌≡◌, ◌<◌, ◌≤◌, ℕ, length, IfSome, MatchOption};
-ghost use Rattle.lynx_order.specs.Picks.{AreHints, ComesBefore, IsFree, IsMarked, IsSquare, LeftBefore, NoneCommon, NoneFree};
+ghost use Rattle.lynx_order.specs.inner.Picks.{AreHints, ComesBefore, IsFree, IsMarked, IsSquare, LeftBefore, NoneCommon, NoneFree};
 
 use lynx_names::Items;
 

@@ -1,6 +1,6 @@
 //! Taking chains one after another, each when none that precedes it is left.
 ghost use Rattle.std.specs.Prelude.{IfOk};
-ghost use Rattle.lynx_order.specs.Picks.{AreTaken, IsSquare, NoneFree};
+ghost use Rattle.lynx_order.specs.inner.Picks.{AreTaken, IsSquare, NoneFree};
 
 use crate::picks::first_free;
 use lynx_names::{Items, Memory};

@@ -3,11 +3,11 @@ ghost use Rattle.std.specs.Prelude.{◌≡◌, ◌++◌, [], IfOk, OnOk};
 ghost use Rattle.std.specs.List.{cons_option, list_any};
 ghost use Rattle.lynx_foot.specs.Tests.{collide, some_collide};
 ghost use Rattle.lynx_order.specs.Precedence.{touches_in};
-ghost use Rattle.lynx_order.specs.Touchings.{is_before, meet, touching, touchings_of};
+ghost use Rattle.lynx_order.specs.Touchings.{stands_before, meet, touching, touchings_of};
 
 use crate::listed::entry_at;
 use lynx_entry::Entry;
-use lynx_foot::{Touch, touches};
+use lynx_foot::{Touch, touches, touches_collide};
 use lynx_names::{ChainId, Items, Memory};
 use lynx_set::ChainSet;
 use lynx_world::World;
@@ -87,16 +87,10 @@ pub(crate) fn touchings_of(
     Ok(touchings)
 }
 
-fn collide(left: &Touch, right: &Touch) -> bool
-    ensures { result ≡ collide left.now right.now }
-{
-    left.table == right.table && left.key == right.key && !left.kind.commutes(right.kind)
-}
-
 fn collides_with_any(left: &Touch, rights: &[Touch]) -> bool
     ensures { result ≡ list_any (λ right. collide left.now right) rights.now }
 {
-    rights.iter().any(|right| collide(left, right))
+    rights.iter().any(|right| touches_collide(*left, *right))
 }
 
 fn any_collide(lefts: &[Touch], rights: &[Touch]) -> bool
@@ -106,16 +100,16 @@ fn any_collide(lefts: &[Touch], rights: &[Touch]) -> bool
 }
 
 /// Whether the one hop stands before the other, and conflicts with it.
-fn is_before(one: &Touching, other: &Touching) -> bool
-    ensures { result ≡ is_before one.now other.now }
+fn stands_before(one: &Touching, other: &Touching) -> bool
+    ensures { result ≡ stands_before one.now other.now }
 {
     one.place < other.place && any_collide(one.touches.as_slice(), other.touches.as_slice())
 }
 
 fn is_before_any(one: &Touching, others: &[Touching]) -> bool
-    ensures { result ≡ list_any (λ other. is_before one.now other) others.now }
+    ensures { result ≡ list_any (λ other. stands_before one.now other) others.now }
 {
-    others.iter().any(|other| is_before(one, other))
+    others.iter().any(|other| stands_before(one, other))
 }
 
 /// Whether some hop of the one chain stands before some hop of the other, and conflicts with it.

@@ -6,6 +6,7 @@ use Rattle.std.proofs.lemmas.List.{append-nil}
 use Rattle.std.specs.Io.KnownBytes.{Appends}
 use Rattle.std.specs.List.Sorted.{IsPermutation, IsSorted}
 use Rattle.std.specs.Prelude.{Result, Ok, Err, OnOk, IfOk, IfErr}
+pub use Rattle.lynx_io.proofs.Parts.{appends_both}
 use Rattle.lynx_set.specs.Rules.{IsSet}
 use Rattle.lynx_set.specs.Set.{Set}
 use Rattle.lynx_set.specs.Text.{text_of}
@@ -41,13 +42,6 @@ outcome_lines-push world events event =
     ap (flat_map (λ outcome. with_feed (outcome_text outcome))) (outcomes_of-push world events event)
     ∙ flat_map-append (λ outcome. with_feed (outcome_text outcome)) (outcomes_of world events) ((step MAX_HELD (world_after world events) event).outcome ∷ [])
     ∙ ap (λ bytes. outcome_lines world events ++ bytes) (append-nil (with_feed (outcome_text (step MAX_HELD (world_after world events) event).outcome)))
-
--- what is written in two steps
-pub appends_both : (first second third : Option (List ℕ)) (xs ys : List ℕ) → Appends first second xs → Appends second third ys → Appends first third (xs ++ ys)
-appends_both None second third xs ys a b = tt
-appends_both (Some f) None third xs ys a b = absurd a
-appends_both (Some f) (Some s) None xs ys a b = absurd b
-appends_both (Some f) (Some s) (Some t) xs ys a b = b ∙ ap (λ bytes. bytes ++ ys) a ∙ append_assoc f xs ys
 
 -- and where the second step may fail
 pub appends_on : (first second third : Option (List ℕ)) (xs ys : List ℕ) (r : Result (Unit {0}) RunFault) → Appends first second xs

@@ -22,7 +22,7 @@ use Rattle.lynx_world.specs.Worlds.{WorldState, new_world}
 use Rattle.lynx_run.specs.Runs.{Explains, cell_lines, explained_line, outcome_lines, outcomes_of, world_after}
 use Rattle.lynx_run.specs.Written.{AppendsPart, BeginsEnd, BeginsRun, WritesEnd, WritesPart}
 use Rattle.lynx_run.proofs.RunLemmas.{appends_both, world_after-set}
-use Rattle.lynx_run.proofs.Parts.{kept_on, part_of_more, part_on}
+use Rattle.lynx_io.proofs.Parts.{kept_on, part_of_more, part_on}
 
 outcomes_of-append : (world : WorldState) (xs ys : List Event) → outcomes_of world (xs ++ ys) ≡ outcomes_of world xs ++ outcomes_of (world_after world xs) ys
 outcomes_of-append world [] ys = refl

@@ -3,6 +3,7 @@ use Rattle.std.specs.Prelude.{◌≡◌, ◌≢◌, ℕ, List, [], ◌∷◌, �
 use Rattle.std.specs.List.{flat_map}
 use Rattle.std.specs.List.Sorted.{IsPermutation, IsSorted}
 use Rattle.std.specs.Fmt.{decimal}
+use Rattle.lynx_set.specs.Home.{AreLiteralsHome}
 use Rattle.lynx_set.specs.Rules.{IsSet}
 use Rattle.lynx_set.specs.Set.{Set}
 use Rattle.lynx_set.specs.Text.{text_of}
@@ -60,11 +61,11 @@ ending_of (Order chains) = Ordered
 ending_of (Cycle chains) = Cyclic
 
 -- An order explains the list, and each chain stands in it before those that it precedes; a cycle is one; and where the
--- set has a text and is accepted it is an order.
+-- set's literal keys lie at their servers and it is accepted, it is an order.
 pub record Explains (chains : Set) (list : List Placed) (explained : Explained) : Type 0 where
   pub order : OrderIsRight chains list explained
   pub cycle : CycleIsRight chains list explained
-  pub accepted : IsSet chains → IsAccepted chains → GivesOrder explained
+  pub accepted : AreLiteralsHome chains → IsAccepted chains → GivesOrder explained
 
 -- the lines of a world's nonzero cells, tables and keys rising, and the one that explains its list
 pub record EndPrints (chains : Set) (world : WorldState) (ending : Ending) (printed : List ℕ) : Type 0 where

@@ -2,6 +2,7 @@
 use Rattle.std.specs.Prelude.{◌≡◌, ◌⊎◌, ℕ, List, ◌++◌, Option}
 use Rattle.std.specs.Io.KnownBytes.{Appends, Keeps}
 use Rattle.std.specs.List.Sorted.{IsPermutation, IsSorted}
+pub use Rattle.lynx_io.specs.Written.{AppendsPart, BeginsWith}
 use Rattle.lynx_set.specs.Rules.{IsSet}
 use Rattle.lynx_set.specs.Set.{Set}
 use Rattle.lynx_set.specs.Text.{text_of}
@@ -11,14 +12,6 @@ use Rattle.lynx_script.specs.Scripts.{IsScript, script_of}
 use Rattle.lynx_world.specs.Tables.{cells_of, triple_cmp}
 use Rattle.lynx_world.specs.Worlds.{WorldState, new_world}
 use Rattle.lynx_run.specs.Runs.{Explains, cell_lines, explained_line, outcome_lines, world_after}
-
--- these bytes begin with those
-abbrev pub BeginsWith : List ℕ → List ℕ → Type 0
-BeginsWith all part = (rest : List ℕ) × (all ≡ part ++ rest)
-
--- known bytes grew by a beginning of what is owed
-abbrev pub AppendsPart : Option (List ℕ) → Option (List ℕ) → List ℕ → Type 0
-AppendsPart old new owed = (part : List ℕ) × BeginsWith owed part × Appends old new part
 
 -- a beginning of the lines of a world's nonzero cells, or all of them and a beginning of a line that explains its list
 pub record BeginsEnd (chains : Set) (world : WorldState) (part : List ℕ) : Type 0 where

@@ -18,7 +18,7 @@ use Rattle.lynx_entry.specs.declared.event.Event.{Event}
 use Rattle.lynx_entry.specs.declared.event.Event.TheVariants.{Begin, Deliver, Wake, Lost, Restart}
 use Rattle.lynx_names.specs.Chain.{chain_text}
 use Rattle.lynx_script.specs.Scripts.{begin_words, message_words, event_words, FitsBegin, FitsServer, FitsMessage, FitsEvent, script_of}
-use Rattle.lynx_script.specs.Spelled.{MeansUnread}
+use Rattle.lynx_script.specs.inner.Spelled.{MeansUnread}
 use Rattle.lynx_words.proofs.Equal.{first_is, rest_is, some_none}
 use Rattle.lynx_set.specs.Lookups.{program_names}
 

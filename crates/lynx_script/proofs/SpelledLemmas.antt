@@ -23,7 +23,7 @@ use Rattle.lynx_set.specs.Text.{name_at}
 use Rattle.lynx_words.proofs.WordLaws.{and_true, cond_some, own}
 use Rattle.lynx_names.specs.Chain.{chain_text}
 use Rattle.lynx_script.specs.Scripts.{is_colon, FitsServer}
-use Rattle.lynx_script.specs.Spelled.{MeansUnread, IsRead}
+use Rattle.lynx_script.specs.inner.Spelled.{MeansUnread, IsRead}
 use Rattle.lynx_words.proofs.Equal.{first_is, rest_is}
 
 -- a fault that means one thing means what follows from it

@@ -6,7 +6,7 @@ ghost use Rattle.lynx_words.specs.Lines.{next_line, texts, line};
 ghost use Rattle.lynx_set.specs.Text.{name_at};
 ghost use Rattle.lynx_names.specs.Chain.{chain_text};
 ghost use Rattle.lynx_script.specs.Scripts.{is_colon, begin_words, message_words, event_words, FitsServer, FitsProgram, FitsBegin, FitsMessage, FitsEvent, script_of, IsScript};
-ghost use Rattle.lynx_script.specs.Spelled.{MeansUnread, IsRead};
+ghost use Rattle.lynx_script.specs.inner.Spelled.{MeansUnread, IsRead};
 ghost use Rattle.lynx_set.specs.Lookups.{program_names};
 
 use lynx_entry::{Event, Request};

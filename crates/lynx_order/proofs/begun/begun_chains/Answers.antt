@@ -1,7 +1,7 @@
 use Rattle.std.proofs.Common.{◌≡◌, ◌∙◌, ◌++◌, [], List, sym, ap}
 use Rattle.std.specs.List.{cons_option}
 use Rattle.lynx_names.specs.declared.chain.ChainId.{ChainId}
-use Rattle.lynx_order.specs.Begun.{chain_begun}
+use Rattle.lynx_order.specs.inner.Begun.{chain_begun}
 use Rattle.lynx_order.proofs.Tables.{begun_at}
 use Rattle.lynx_order.proofs.begun.begun_chains.Goals as goal
 

@@ -1,5 +1,5 @@
 use Rattle.std.proofs.Common.{◌≡◌, take}
-use Rattle.lynx_order.specs.Begun.{begun_chains}
+use Rattle.lynx_order.specs.inner.Begun.{begun_chains}
 use Rattle.lynx_order.proofs.begun.begun_chains.Given as goal
 
 abbrev pub invariant-loop-place : goal.invariant-loop-place

@@ -1,6 +1,6 @@
 use Rattle.std.proofs.Common.{subst}
 use Rattle.std.specs.Prelude.{All}
-use Rattle.lynx_order.specs.Picks.{IsMarked, IsPart, IsRound}
+use Rattle.lynx_order.specs.inner.Picks.{IsMarked, IsPart, IsRound}
 use Rattle.lynx_order.proofs.Marks.{all_of_in, ok_weaker, part_left, round_of_part}
 use Rattle.lynx_order.proofs.cycle.round_from.Goals as goal
 

@@ -1,6 +1,6 @@
 use Rattle.std.proofs.Common.{ℕ, List, false, sym, subst, ◌∙◌}
 use Rattle.std.proofs.Math.ListN.{set}
-use Rattle.lynx_order.specs.Picks.{IsMarked, IsTrail}
+use Rattle.lynx_order.specs.inner.Picks.{IsMarked, IsTrail}
 use Rattle.lynx_order.proofs.Marks.{mark_count-set, marked_read, trail_more}
 use Rattle.lynx_order.proofs.cycle.walk_back.Goals as goal
 

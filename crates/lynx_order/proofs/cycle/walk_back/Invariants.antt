@@ -1,4 +1,4 @@
-use Rattle.lynx_order.specs.Picks.{IsTrail}
+use Rattle.lynx_order.specs.inner.Picks.{IsTrail}
 use Rattle.lynx_order.proofs.Marks.{mark_count}
 use Rattle.lynx_order.proofs.cycle.walk_back.Given as goal
 

@@ -1,5 +1,5 @@
 use Rattle.std.proofs.Common.{◌≡◌, map, take}
-use Rattle.lynx_order.specs.ChainsAt.{chain_at}
+use Rattle.lynx_order.specs.inner.ChainsAt.{chain_at}
 use Rattle.lynx_order.proofs.explaining.chains_at.Given as goal
 
 abbrev pub invariant-loop-place : goal.invariant-loop-place

@@ -1,4 +1,4 @@
-use Rattle.lynx_order.specs.Picks.{NoneCommon}
+use Rattle.lynx_order.specs.inner.Picks.{NoneCommon}
 use Rattle.lynx_order.proofs.picks.first_common.Given as goal
 
 abbrev pub invariant-loop-place : goal.invariant-loop-place

@@ -1,5 +1,5 @@
 use Rattle.std.proofs.Common.{ℕ, ◌<◌}
-use Rattle.lynx_order.specs.Picks.{AreHints, IsMarked, LeftBefore}
+use Rattle.lynx_order.specs.inner.Picks.{AreHints, IsMarked, LeftBefore}
 use Rattle.lynx_order.proofs.picks.first_free.Given as goal
 
 abbrev pub invariant-loop-place : goal.invariant-loop-place

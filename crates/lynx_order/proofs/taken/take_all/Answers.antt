@@ -1,6 +1,6 @@
 use Rattle.std.proofs.Common.{false, sym, subst}
 use Rattle.std.proofs.Math.ListN.{set}
-use Rattle.lynx_order.specs.Picks.{AreHints, AreTaken, IsFree}
+use Rattle.lynx_order.specs.inner.Picks.{AreHints, AreTaken, IsFree}
 use Rattle.lynx_order.proofs.Marks.{hints_fewer, mark_count-set, taken_more}
 use Rattle.lynx_order.proofs.taken.take_all.Goals as goal
 

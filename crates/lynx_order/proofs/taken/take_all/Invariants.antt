@@ -1,4 +1,4 @@
-use Rattle.lynx_order.specs.Picks.{AreHints, AreTaken}
+use Rattle.lynx_order.specs.inner.Picks.{AreHints, AreTaken}
 use Rattle.lynx_order.proofs.Marks.{mark_count}
 use Rattle.lynx_order.proofs.taken.take_all.Given as goal
 

@@ -1,5 +1,5 @@
 use Rattle.lynx_run.specs.Checks.{edge_lines}
-use Rattle.lynx_run.proofs.Parts.{on_err, part_after, part_of_more}
+use Rattle.lynx_io.proofs.Parts.{on_err, part_after, part_of_more}
 use Rattle.lynx_run.proofs.RunLemmas.{appends_on}
 use Rattle.lynx_run.proofs.verdict.write_offending.Goals as goal
 

@@ -1,6 +1,6 @@
 use Rattle.std.proofs.Common.{rules, refl, inr}
 use Rattle.lynx_run.specs.declared.verdict.Finding.TheVariants.{Offending}
-use Rattle.lynx_run.proofs.Parts.{on_err}
+use Rattle.lynx_io.proofs.Parts.{on_err}
 use Rattle.lynx_run.proofs.verdict.write_verdict.Goals as goal
 
 pub returns-in_ok-write_offending-in-Offending-clause-ok : goal.returns-in_ok-write_offending-in-Offending-clause-ok

@@ -1,5 +1,5 @@
-use Rattle.lynx_run.proofs.Parts.{more_written}
-use Rattle.lynx_run.proofs.writing.write_bytes.Goals as goal
+use Rattle.lynx_io.proofs.Parts.{more_written}
+use Rattle.lynx_io.proofs.write_bytes.Goals as goal
 
 pub loop-preserved : goal.loop-preserved
 loop-preserved g c =

@@ -1,6 +1,6 @@
 use Rattle.std.proofs.Common.{◌≡◌, ◌++◌, List, ℕ}
 use Rattle.std.specs.Io.KnownBytes.{Appends}
-use Rattle.lynx_run.proofs.writing.write_bytes.Given as goal
+use Rattle.lynx_io.proofs.write_bytes.Given as goal
 
 -- what was written so far, and the rest
 abbrev pub invariant-loop : goal.invariant-loop

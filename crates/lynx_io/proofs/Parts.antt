@@ -4,8 +4,14 @@ use Rattle.std.specs.List.{flat_map}
 use Rattle.std.proofs.lemmas.Grind.{flat_map-append}
 use Rattle.std.specs.Io.KnownBytes.{Appends, Keeps}
 use Rattle.std.proofs.lemmas.List.{append-nil, drop_more, take-append-drop}
-use Rattle.lynx_run.specs.Written.{AppendsPart}
-use Rattle.lynx_run.proofs.RunLemmas.{appends_both}
+use Rattle.lynx_io.specs.Written.{AppendsPart}
+
+-- what is written in two steps
+pub appends_both : (first second third : Option (List ℕ)) (xs ys : List ℕ) → Appends first second xs → Appends second third ys → Appends first third (xs ++ ys)
+appends_both None second third xs ys a b = tt
+appends_both (Some f) None third xs ys a b = absurd a
+appends_both (Some f) (Some s) None xs ys a b = absurd b
+appends_both (Some f) (Some s) (Some t) xs ys a b = b ∙ ap (λ bytes. bytes ++ ys) a ∙ append_assoc f xs ys
 
 appends_nil : (a : Option (List ℕ)) → Appends a a []
 appends_nil None = tt

@@ -1,11 +1,11 @@
 //! The work that is measured: payments from one server to another, and their forms.
 use crate::forms::{encode_all, feed_all};
 use crate::ring::weave_all;
-use lynx_books::Server;
 use lynx_entry::{Answer, Delivered, Request};
 use lynx_keep::MemoryKeeper;
 use lynx_names::{ClientId, Memory, ProgramId, ServerId, Stamp, Values};
-use lynx_server::next_of;
+use lynx_rules::next_of;
+use lynx_server::Server;
 use lynx_set::ChainSet;
 use lynx_text::parse;
 use std::alloc::Global;

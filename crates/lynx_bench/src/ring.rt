@@ -1,9 +1,9 @@
 //! Servers in a ring, each of which pays to the next: their histories, woven to a world.
-use lynx_books::Server;
 use lynx_entry::{Entry, Message, Request};
 use lynx_keep::MemoryKeeper;
 use lynx_names::{ClientId, Memory, ProgramId, ServerId, Stamp, TryCopy, Values};
-use lynx_server::next_of;
+use lynx_rules::next_of;
+use lynx_server::Server;
 use lynx_set::ChainSet;
 use lynx_text::parse;
 use lynx_weave::weave;

@@ -28,12 +28,14 @@ pub fn hex(alloc: Global, text: &str) -> Result<Vec<u8>, Memory> {
     Ok(bytes)
 }
 
-/// So many of each byte.
-pub fn runs(alloc: Global, runs: &[(u16, u8)]) -> Result<Vec<u8>, Memory> {
+/// So many of each byte, run behind run.
+pub fn runs(alloc: Global, parts: &[&[(u16, u8)]]) -> Result<Vec<u8>, Memory> {
     let mut bytes = Vec::new(alloc);
-    for &(count, byte) in runs {
-        for _ in 0..count {
-            bytes.push(byte)?;
+    for part in parts {
+        for &(count, byte) in *part {
+            for _ in 0..count {
+                bytes.push(byte)?;
+            }
         }
     }
     Ok(bytes)

@@ -1,52 +1,65 @@
 //! Whether bytes are the form of an item.
+ghost use Rattle.std.specs.Prelude.{IfNone, IfOk};
+ghost use Rattle.lynx_forms.specs.Feeding.{Waits};
+
+use crate::items::{ItemParts, item};
 use lynx_forms::{DecodeFault, Feed, Item, encode};
 use std::alloc::Global;
-use std::process::Abort;
 
-/// Ends the test unless it is so.
-pub fn holds(rt: &impl Abort, answer: Result<bool, DecodeFault>) {
-    assert!(rt; answer == Ok(true));
+/// An item that a feed gave, in a box, which is dropped by one call, and its form as it is written.
+#[derive(Drop)]
+pub struct Given {
+    pub item: Box<Item>,
+    pub form: Vec<u8>,
 }
 
-/// Whether these bytes give this item and no more, and it is written as them.
-fn is_alone(alloc: Global, form: &[u8], item: &Item) -> Result<bool, DecodeFault> {
-    let mut feed = Feed::new(alloc);
-    feed.push(form)?;
+/// What the feed gives next.
+pub fn next(alloc: Global, feed: &mut Feed) -> Result<Option<Given>, DecodeFault>
+    ensures { IfOk result (λ given. IfNone given (Waits feed.old feed.new)) }
+{
     match feed.next(alloc)? {
-        None => Ok(false),
-        Some(given) => {
-            let written = encode(alloc, &given)?;
-            Ok(given == *item && written.as_slice() == form && feed.next(alloc)?.is_none())
+        None => Ok(None),
+        Some(item) => {
+            let item = Box::new(alloc, item)?;
+            let form = encode(alloc, &item)?;
+            Ok(Some(Given { item, form }))
         }
     }
 }
 
-/// Whether the first piece gives nothing, and the second this item.
-fn is_given_by_the_second(
-    alloc: Global,
-    first: &[u8],
-    second: &[u8],
-    item: &Item,
-) -> Result<bool, DecodeFault> {
+/// Whether this item was given, and is written as these bytes.
+fn is_item(given: Option<Given>, item: &Item, first: &[u8], second: &[u8]) -> bool {
+    match given {
+        None => false,
+        Some(given) => {
+            *given.item == *item
+                && given.form.as_slice().starts_with(first)
+                && given.form.as_slice().ends_with(second)
+                && given.form.len() == first.len() + second.len()
+        }
+    }
+}
+
+/// Whether the first piece gives nothing, and the second this item and no more.
+fn is_given(alloc: Global, first: &[u8], second: &[u8], item: &Item) -> Result<bool, DecodeFault> {
     let mut feed = Feed::new(alloc);
     feed.push(first)?;
-    if feed.next(alloc)?.is_some() {
+    if next(alloc, &mut feed)?.is_some() {
         return Ok(false);
     }
     feed.push(second)?;
-    match feed.next(alloc)? {
-        None => Ok(false),
-        Some(given) => Ok(given == *item && feed.next(alloc)?.is_none()),
-    }
+    let given = next(alloc, &mut feed)?;
+    Ok(is_item(given, item, first, second) && next(alloc, &mut feed)?.is_none())
 }
 
-/// Whether these bytes are the form of the item, also where they come in two pieces, cut at any place.
-pub fn is_form(alloc: Global, form: &[u8], item: &Item) -> Result<bool, DecodeFault> {
+/// Whether these bytes are the form of the item, in two pieces that are cut at any place.
+pub fn is_form(alloc: Global, form: &[u8], parts: ItemParts) -> Result<bool, DecodeFault> {
+    let item = item(alloc, parts)?;
     for cut in 0..form.len() {
         let (first, second) = form.split_at(cut);
-        if !is_given_by_the_second(alloc, first, second, item)? {
+        if !is_given(alloc, first, second, &item)? {
             return Ok(false);
         }
     }
-    is_alone(alloc, form, item)
+    Ok(true)
 }

@@ -1,144 +1,128 @@
 //! Worked forms, byte for byte.
 use crate::bytes::hex;
-use crate::feeding::{holds, is_form};
-use crate::samples::{chain, numbers, payment, request, stamp, values};
-use lynx_entry::{Answer, BegunEntry, Entry};
-use lynx_forms::{DecodeFault, Item, Look, Looked};
-use lynx_names::{Memory, Stamp};
+use crate::feeding::is_form;
+use crate::items::ItemParts;
+use lynx_forms::DecodeFault;
+use lynx_samples::parts::{AnswerParts, EntryParts, RefusedParts, RequestParts};
+use lynx_samples::payments::{ARRIVED, SEED, SEEDED, SENT};
 use std::alloc::Global;
 
+/// The answer that chain 0:0 began with the stamp 1.
+const BEGUN: ItemParts = ItemParts::Answer(AnswerParts::Begun {
+    origin: 0,
+    index: 0,
+    time: 1,
+    results: &[],
+    again: false,
+});
+
+const BEGUN_AGAIN: ItemParts = ItemParts::Answer(AnswerParts::Begun {
+    origin: 0,
+    index: 0,
+    time: 1,
+    results: &[],
+    again: true,
+});
+
+/// A refusal by the last need, with the last stamp.
+const REFUSED: ItemParts = ItemParts::Answer(AnswerParts::Refused {
+    need: 15,
+    time: 0x3fff_ffff_ffff_ffff,
+    again: true,
+});
+
+const REFUSED_ENTRY: RefusedParts = RefusedParts {
+    request: RequestParts {
+        client: 1,
+        number: 2,
+        program: 63,
+        args: &[100],
+    },
+    seen: 3,
+    need: 2,
+    time: 4,
+};
+
+/// Forms in hexadecimal, and their items.
+pub const FORMS: &[(&str, ItemParts)] = &[
+    (
+        "01 0000001a 0000000000000001 0000000000000001 00 01 0000000000000064",
+        ItemParts::Request(SEED),
+    ),
+    (
+        "02 0000000a 00 0000000000000000 00",
+        ItemParts::Look {
+            origin: 0,
+            index: 0,
+            hop: 0,
+        },
+    ),
+    ("03 00000000", ItemParts::Quit),
+    ("04 00000000", ItemParts::Shut),
+    (
+        "11 00000014 00 00 0000000000000000 0000000000000001 00 00",
+        BEGUN,
+    ),
+    (
+        "11 00000014 00 00 0000000000000000 0000000000000001 01 00",
+        BEGUN_AGAIN,
+    ),
+    ("11 0000000b 08 0f 3fffffffffffffff 01", REFUSED),
+    ("11 00000001 01", ItemParts::Answer(AnswerParts::Clash)),
+    (
+        "11 00000001 02",
+        ItemParts::Answer(AnswerParts::UnknownProgram),
+    ),
+    (
+        "11 00000001 03",
+        ItemParts::Answer(AnswerParts::WrongOrigin),
+    ),
+    ("11 00000001 04", ItemParts::Answer(AnswerParts::ArgCount)),
+    ("11 00000001 05", ItemParts::Answer(AnswerParts::WrongShard)),
+    ("11 00000001 06", ItemParts::Answer(AnswerParts::Full)),
+    ("11 00000001 07", ItemParts::Answer(AnswerParts::Busy)),
+    ("11 00000001 09", ItemParts::Answer(AnswerParts::Stopped)),
+    ("11 00000001 0a", ItemParts::Answer(AnswerParts::Memory)),
+    ("12 00000001 00", ItemParts::Absent),
+    (
+        "12 0000000a 01 0000000000000001 00",
+        ItemParts::Found {
+            time: 1,
+            results: &[],
+        },
+    ),
+    ("13 00000000", ItemParts::Bye),
+    (
+        "21 00000039 00 0000000000000001 01 01 0000000000000002 01 000000000000001e \
+        02 00 0000000000000001 01 0000000000000000 01 01 0000000000000064",
+        ItemParts::Message(SENT),
+    ),
+    (
+        "22 0000003e 0000000000000001 0000000000000001 00 01 0000000000000064 \
+        0000000000000000 00 0000000000000000 01 00 0000000000000000 0000000000000001 00",
+        ItemParts::Entry(EntryParts::Begun(SEEDED)),
+    ),
+    (
+        "23 0000002b 0000000000000001 0000000000000002 3f 01 0000000000000064 \
+        0000000000000003 02 0000000000000004",
+        ItemParts::Entry(EntryParts::Refused(REFUSED_ENTRY)),
+    ),
+    (
+        "24 00000042 00 0000000000000001 01 01 0000000000000002 01 000000000000001e \
+        02 00 0000000000000001 01 0000000000000000 01 01 0000000000000064 0000000000000003 00",
+        ItemParts::Entry(EntryParts::Hop(ARRIVED)),
+    ),
+];
+
 /// Whether this text of hex digits is the form of the item.
-fn is_written(alloc: Global, text: &str, item: Result<Item, Memory>) -> Result<bool, DecodeFault> {
+fn is_written(alloc: Global, text: &str, parts: ItemParts) -> Result<bool, DecodeFault> {
     let form = hex(alloc, text)?;
-    is_form(alloc, form.as_slice(), &item?)
-}
-
-pub const REQUEST: &str = "01 0000001a 0000000000000001 0000000000000001 00 01 0000000000000064";
-
-fn asked(alloc: Global) -> Result<Item, Memory> {
-    Ok(Item::Request(request(alloc, 1, 1, 0, &[100])?))
+    is_form(alloc, form.as_slice(), parts)
 }
 
 #[test]
-fn a_request(rt: HostRuntime) {
-    let alloc = rt.alloc();
-    holds(&rt, is_written(alloc, REQUEST, asked(alloc)));
-}
-
-pub const BEGUN: &str = "11 00000014 00 00 0000000000000000 0000000000000001 00 00";
-
-const BEGUN_AGAIN: &str = "11 00000014 00 00 0000000000000000 0000000000000001 01 00";
-
-fn begun(alloc: Global, again: bool) -> Result<Item, Memory> {
-    Ok(Item::Answer(Answer::Begun {
-        chain: chain(0, 0)?,
-        stamp: stamp(1)?,
-        results: values(alloc, &[])?,
-        again,
-    }))
-}
-
-#[test]
-fn an_answer_that_a_chain_began(rt: HostRuntime) {
-    let alloc = rt.alloc();
-    holds(&rt, is_written(alloc, BEGUN, begun(alloc, false)));
-    holds(&rt, is_written(alloc, BEGUN_AGAIN, begun(alloc, true)));
-}
-
-/// The answers that say no more than their kind, by their kinds.
-fn plain(kind: u8) -> Answer {
-    match kind {
-        1 => Answer::Clash,
-        2 => Answer::UnknownProgram,
-        3 => Answer::WrongOrigin,
-        4 => Answer::ArgCount,
-        5 => Answer::WrongShard,
-        6 => Answer::Full,
-        7 => Answer::Busy,
-        9 => Answer::Stopped,
-        _ => Answer::Memory,
+fn worked_forms(rt: HostRuntime) {
+    for &(text, parts) in FORMS {
+        assert!(rt; is_written(rt.alloc(), text, parts) == Ok(true), "{text}");
     }
-}
-
-#[test]
-fn answers_that_say_no_more_than_their_kind(rt: HostRuntime) {
-    let alloc = rt.alloc();
-    for kind in [1u8, 2, 3, 4, 5, 6, 7, 9, 10] {
-        let form = [0x11, 0, 0, 0, 1, kind];
-        holds(&rt, is_form(alloc, &form, &Item::Answer(plain(kind))));
-    }
-}
-
-pub const FOUND: &str = "12 0000000a 01 0000000000000001 00";
-
-fn found(alloc: Global) -> Result<Item, Memory> {
-    Ok(Item::Looked(Looked::Found {
-        stamp: stamp(1)?,
-        results: values(alloc, &[])?,
-    }))
-}
-
-#[test]
-fn what_a_look_is_answered(rt: HostRuntime) {
-    let alloc = rt.alloc();
-    holds(&rt, is_written(alloc, FOUND, found(alloc)));
-    let absent = Ok(Item::Looked(Looked::Absent));
-    holds(&rt, is_written(alloc, "12 00000001 00", absent));
-}
-
-pub const LOOK: &str = "02 0000000a 00 0000000000000000 00";
-
-fn look() -> Result<Item, Memory> {
-    Ok(Item::Look(Look {
-        chain: chain(0, 0)?,
-        hop: 0,
-    }))
-}
-
-#[test]
-fn a_look(rt: HostRuntime) {
-    holds(&rt, is_written(rt.alloc(), LOOK, look()));
-}
-
-#[test]
-fn items_without_a_body(rt: HostRuntime) {
-    let alloc = rt.alloc();
-    holds(&rt, is_written(alloc, "03 00000000", Ok(Item::Quit)));
-    holds(&rt, is_written(alloc, "04 00000000", Ok(Item::Shut)));
-    holds(&rt, is_written(alloc, "13 00000000", Ok(Item::Bye)));
-}
-
-pub const MESSAGE: &str =
-    "21 00000039 00 0000000000000001 01 01 0000000000000002 01 000000000000001e \
-    02 00 0000000000000001 01 0000000000000000 01 01 0000000000000064";
-
-fn sent(alloc: Global) -> Result<Item, Memory> {
-    Ok(Item::Message(payment(alloc)?))
-}
-
-#[test]
-fn a_message(rt: HostRuntime) {
-    let alloc = rt.alloc();
-    holds(&rt, is_written(alloc, MESSAGE, sent(alloc)));
-}
-
-pub const BEGUN_ENTRY: &str =
-    "22 0000003e 0000000000000001 0000000000000001 00 01 0000000000000064 \
-    0000000000000000 00 0000000000000000 01 00 0000000000000000 0000000000000001 00";
-
-fn kept(alloc: Global) -> Result<Item, Memory> {
-    Ok(Item::Entry(Entry::Begun(BegunEntry {
-        request: request(alloc, 1, 1, 0, &[100])?,
-        seen: Stamp::zero(),
-        chain: chain(0, 0)?,
-        numbers: numbers(alloc, &[(0, 0)])?,
-        stamp: stamp(1)?,
-        results: values(alloc, &[])?,
-    })))
-}
-
-#[test]
-fn an_entry_of_a_begun_chain(rt: HostRuntime) {
-    let alloc = rt.alloc();
-    holds(&rt, is_written(alloc, BEGUN_ENTRY, kept(alloc)));
 }

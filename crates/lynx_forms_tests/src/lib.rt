@@ -13,7 +13,7 @@ mod feeding;
 #[cfg(test)]
 mod forms;
 #[cfg(test)]
-mod samples;
+mod items;
 #[cfg(test)]
 mod slow;
 #[cfg(test)]

@@ -1,9 +1,8 @@
 //! Streams of many items, in pieces of many sizes.
 use crate::bytes::hex;
-use crate::feeding::holds;
-use crate::forms::{BEGUN_ENTRY, FOUND, MESSAGE, REQUEST};
-use lynx_forms::limits::MAX_FORM_BYTES;
-use lynx_forms::{DecodeFault, Feed, append};
+use crate::feeding::next;
+use crate::forms::FORMS;
+use lynx_forms::{DecodeFault, Feed};
 use std::alloc::Global;
 
 /// Adds the forms of all items that the feed gives now.
@@ -14,12 +13,9 @@ fn take_all(
     most: usize,
 ) -> Result<(), DecodeFault> {
     for _ in 0..most {
-        match feed.next(alloc)? {
+        match next(alloc, feed)? {
             None => return Ok(()),
-            Some(item) => {
-                forms.reserve(MAX_FORM_BYTES)?;
-                append(&item, forms);
-            }
+            Some(given) => forms.extend_from_slice(given.form.as_slice())?,
         }
     }
     Ok(())
@@ -33,21 +29,14 @@ fn is_given_whole(alloc: Global, stream: &[u8], size: u8) -> Result<bool, Decode
         feed.push(piece)?;
         take_all(alloc, &mut feed, &mut forms, stream.len())?;
     }
-    Ok(forms.as_slice() == stream && feed.next(alloc)?.is_none())
+    Ok(forms.as_slice() == stream && next(alloc, &mut feed)?.is_none())
 }
 
-/// So many of each of some forms.
+/// The worked forms, one behind the other, so many times.
 fn stream_of(alloc: Global, count: u16) -> Result<Vec<u8>, DecodeFault> {
     let mut stream = Vec::new(alloc);
     for _ in 0..count {
-        for text in [
-            REQUEST,
-            "04 00000000",
-            MESSAGE,
-            FOUND,
-            BEGUN_ENTRY,
-            "03 00000000",
-        ] {
+        for &(text, _) in FORMS {
             let form = hex(alloc, text)?;
             stream.extend_from_slice(form.as_slice())?;
         }
@@ -65,15 +54,18 @@ fn are_given_whole(alloc: Global, count: u16, sizes: &[u8]) -> Result<bool, Deco
     Ok(true)
 }
 
-#[test]
-fn streams_in_pieces_of_each_size(rt: HostRuntime) {
-    holds(
-        &rt,
-        are_given_whole(rt.alloc(), 3, &[1, 2, 3, 4, 5, 6, 7, 61, 62, 63, 200, 255]),
-    );
-}
+/// How often the worked forms stand in a stream, and the sizes of its pieces.
+const STREAMS: &[(u16, &[u8])] = &[
+    (1, &[1, 2, 3, 4, 5, 6, 7, 61, 62, 63, 200, 255]),
+    (150, &[1, 17, 255]),
+];
 
 #[test]
-fn a_long_stream(rt: HostRuntime) {
-    holds(&rt, are_given_whole(rt.alloc(), 500, &[1, 17, 255]));
+fn streams_in_pieces(rt: HostRuntime) {
+    for &(count, sizes) in STREAMS {
+        assert!(rt;
+            are_given_whole(rt.alloc(), count, sizes) == Ok(true),
+            "{count} times"
+        );
+    }
 }

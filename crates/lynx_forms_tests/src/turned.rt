@@ -1,23 +1,18 @@
 //! Forms with one byte of each value: the feed gives what the slow reading of the rules does.
 use crate::bytes::hex;
-use crate::feeding::holds;
-use crate::forms::{BEGUN, BEGUN_ENTRY, FOUND, LOOK, MESSAGE, REQUEST};
+use crate::feeding::next;
+use crate::forms::FORMS;
 use crate::slow::{Slow, read_slowly};
-use lynx_forms::{DecodeFault, Feed, Item, encode};
+use lynx_forms::{DecodeFault, Feed};
 use std::alloc::Global;
 
-/// Whether what the feed gave first is what stands at the front of the bytes, and is written as it stands there.
-fn is_front(alloc: Global, feed: &mut Feed, bytes: &[u8]) -> Result<Option<usize>, DecodeFault> {
-    match feed.next(alloc) {
-        Ok(None) => Ok(None),
-        Err(fault) => Err(fault),
-        Ok(Some(item)) => {
-            let form = encode(alloc, &item)?;
-            if bytes.starts_with(form.as_slice()) {
-                Ok(Some(form.len()))
-            } else {
-                Ok(Some(0))
-            }
+/// How long the form is that the feed gives, 0 where it isn't what stands at the front of the bytes.
+fn front(alloc: Global, feed: &mut Feed, bytes: &[u8]) -> Result<Option<usize>, DecodeFault> {
+    match next(alloc, feed)? {
+        None => Ok(None),
+        Some(given) => {
+            let is_there = bytes.starts_with(given.form.as_slice());
+            Ok(Some(if is_there { given.form.len() } else { 0 }))
         }
     }
 }
@@ -28,7 +23,7 @@ fn is_read_alike(alloc: Global, bytes: &[u8]) -> Result<bool, DecodeFault> {
     feed.push(bytes)?;
     let mut rest = bytes;
     for _ in 0..=bytes.len() {
-        match (read_slowly(rest), is_front(alloc, &mut feed, rest)) {
+        match (read_slowly(rest), front(alloc, &mut feed, rest)) {
             (Slow::Nothing, Ok(None)) => return Ok(true),
             (Slow::Fault(slow), Err(fault)) => return Ok(slow == fault),
             (Slow::Form(slow), Ok(Some(size))) => {
@@ -66,47 +61,13 @@ fn set(bytes: &mut [u8], place: usize, value: Option<u8>) {
     }
 }
 
-const REFUSED: &str = "11 0000000b 08 0f 3fffffffffffffff 01";
-
-const REFUSED_ENTRY: &str = "23 0000002b 0000000000000001 0000000000000002 3f 01 0000000000000064 \
-    0000000000000003 02 0000000000000004";
-
-const HOP_ENTRY: &str =
-    "24 00000042 00 0000000000000001 01 01 0000000000000002 01 000000000000001e \
-    02 00 0000000000000001 01 0000000000000000 01 01 0000000000000064 0000000000000003 00";
-
-#[test]
-fn each_byte_of_what_clients_send(rt: HostRuntime) {
-    for text in [REQUEST, LOOK, "03 00000000", "04 00000000"] {
-        holds(&rt, are_read_alike(rt.alloc(), text));
-    }
-}
-
-#[test]
-fn each_byte_of_what_clients_are_sent(rt: HostRuntime) {
-    for text in [
-        BEGUN,
-        REFUSED,
-        FOUND,
-        "11 00000001 01",
-        "12 00000001 00",
-        "13 00000000",
-    ] {
-        holds(&rt, are_read_alike(rt.alloc(), text));
-    }
-}
-
-#[test]
-fn each_byte_of_what_servers_keep_and_send(rt: HostRuntime) {
-    for text in [MESSAGE, BEGUN_ENTRY, REFUSED_ENTRY, HOP_ENTRY] {
-        holds(&rt, are_read_alike(rt.alloc(), text));
-    }
-}
-
-/// Two items in a row, with each value in each place.
+/// Two items in a row.
 const TWO: &str = "04 00000000 12 0000000a 01 0000000000000001 00";
 
 #[test]
-fn each_byte_of_two_items(rt: HostRuntime) {
-    holds(&rt, are_read_alike(rt.alloc(), TWO));
+fn each_value_of_each_byte(rt: HostRuntime) {
+    for &(text, _) in FORMS {
+        assert!(rt; are_read_alike(rt.alloc(), text) == Ok(true), "{text}");
+    }
+    assert!(rt; are_read_alike(rt.alloc(), TWO) == Ok(true));
 }

@@ -1,9 +1,20 @@
-//! Tests of the checker: worked verdicts, ties, and random sets against a plain enumeration.
+//! Tests of the checker and of pictures: worked verdicts and walks, random sets beside a plain enumeration, a whole
+//! picture, and the largest sets.
 #![tactic(auto)]
 
 #[cfg(test)]
-mod asks;
+mod edges;
 #[cfg(test)]
-mod graph;
+mod expected;
 #[cfg(test)]
-mod sets;
+mod largest;
+#[cfg(test)]
+mod pictures;
+#[cfg(test)]
+mod plain;
+#[cfg(test)]
+mod small;
+#[cfg(test)]
+mod verdicts;
+#[cfg(test)]
+mod walks;

@@ -57,12 +57,8 @@ fn count_read(alloc: Global, limit: usize) -> Result<usize, InputFault> {
 }
 
 #[test]
-fn input_is_read_to_its_end(rt: HostRuntime) {
-    assert!(rt; count_read(rt.alloc(), 20) == Ok(10));
-}
-
-#[test]
 fn input_is_read_as_far_as_the_limit(rt: HostRuntime) {
+    assert!(rt; count_read(rt.alloc(), 20) == Ok(10));
     assert!(rt; count_read(rt.alloc(), 4) == Ok(4));
 }
 
@@ -97,11 +93,7 @@ fn dripped(alloc: Global, limit: usize) -> Result<usize, InputFault> {
 }
 
 #[test]
-fn a_limit_that_the_last_read_reaches_is_read(rt: HostRuntime) {
-    assert_eq!(rt; dripped(rt.alloc(), 1_000_000), Ok(1_000_000));
-}
-
-#[test]
-fn one_byte_more_than_there_are_reads_is_not_read(rt: HostRuntime) {
-    assert_eq!(rt; dripped(rt.alloc(), 1_000_001), Err(InputFault::Read));
+fn a_limit_is_read_that_the_last_read_reaches(rt: HostRuntime) {
+    assert!(rt; dripped(rt.alloc(), 1_000_000) == Ok(1_000_000));
+    assert!(rt; dripped(rt.alloc(), 1_000_001) == Err(InputFault::Read));
 }

@@ -24,10 +24,6 @@ fn a_write_that_fails_ends_the_run(rt: HostRuntime) {
             "after {left} lines"
         );
     }
-}
-
-#[test]
-fn a_whole_run_is_written(rt: HostRuntime) {
     assert!(rt; ended_in(rt.alloc(), 6) == Ok(Ending::Ordered));
 }
 
@@ -45,10 +41,6 @@ fn a_broken_pipe_ends_the_verdict(rt: HostRuntime) {
             "after {left} lines"
         );
     }
-}
-
-#[test]
-fn a_whole_verdict_is_written(rt: HostRuntime) {
     assert!(rt; found_in(rt.alloc(), 4) == Ok(Finding::Offending));
 }
 
@@ -61,9 +53,5 @@ fn drawn_in(alloc: Global, left: usize) -> Result<Finding, RunFault> {
 #[test]
 fn a_broken_pipe_ends_the_picture(rt: HostRuntime) {
     assert!(rt; drawn_in(rt.alloc(), 0) == Err(RunFault::Write));
-}
-
-#[test]
-fn a_whole_picture_is_written(rt: HostRuntime) {
     assert!(rt; drawn_in(rt.alloc(), 1) == Ok(Finding::Offending));
 }

@@ -2,6 +2,7 @@
 ghost use Rattle.std.specs.Prelude.{◌≡◌, IfOk};
 ghost use Rattle.lynx_set.specs.Text.{text_of};
 
+use crate::made::boxed;
 use lynx_names::Memory;
 use lynx_set::ChainSet;
 use lynx_text::parse;
@@ -62,4 +63,9 @@ pub fn read(alloc: Global, text: &str) -> Result<ChainSet, Memory>
         Ok(set) => Ok(set),
         Err(_) => Err(Memory),
     }
+}
+
+/// The same in a box.
+pub fn set_of(alloc: Global, text: &str) -> Result<Box<ChainSet>, Memory> {
+    boxed(alloc, read(alloc, text))
 }

@@ -1,8 +1,8 @@
-use crate::asks::holds;
-use crate::sets::set_of;
+//! Which hops conflict, and what hops touch.
 use lynx_foot::{Foot, Kind, Touch, conflict, footprint, may_conflict, touches};
-use lynx_names::{Memory, ProgramId};
-use lynx_samples::texts::PAYMENT_AND_PUT;
+use lynx_names::Memory;
+use lynx_samples::made::program;
+use lynx_samples::texts::{PAYMENT_AND_PUT, set_of};
 use lynx_set::{ChainSet, Key};
 use std::alloc::Global;
 
@@ -28,130 +28,62 @@ const OTHER: u8 = 4;
 
 const LAST: u8 = 5;
 
-/// The program of a number that is known to be in range.
-fn program(number: u8) -> Result<ProgramId, Memory> {
-    ProgramId::new(number).ok_or(Memory)
-}
-
 /// A program's number, and a hop of it.
 type At = (u8, usize);
 
-/// Two hops, and whether they may conflict.
-type MayCase = (At, At, bool);
+/// Two hops with their arguments, whether they may conflict, and whether they do.
+type Case = (At, &'static [u64], At, &'static [u64], bool, bool);
 
-fn may(set: &ChainSet, left: At, right: At) -> Result<bool, Memory> {
-    let (left_program, right_program) = (program(left.0)?, program(right.0)?);
-    Ok(may_conflict(set, left_program, left.1, right_program, right.1))
+const PAYMENTS: &[Case] = &[
+    ((PUT, 0), &[0], (PAY, 0), &[30], true, true),
+    ((PUT, 0), &[7], (PAY, 0), &[30], true, false),
+    ((PUT, 0), &[0], (SEED, 0), &[30], false, false),
+    ((PUT, 0), &[0], (PAY, 1), &[30], false, false),
+    ((PUT, 0), &[0], (PAY, 2), &[30], false, false),
+    ((PAY, 0), &[1], (PAY, 0), &[2], true, true),
+    ((PUT, 0), &[7], (PUT, 0), &[7], false, false),
+];
+
+const CELLS: &[Case] = &[
+    ((ONE, 0), &[7, 9], (ANY, 0), &[9, 1], true, true),
+    ((ONE, 0), &[7, 9], (ANY, 0), &[1, 9], true, false),
+    ((ONE, 0), &[1, 2], (ONE, 0), &[3, 4], true, true),
+    ((ONE, 0), &[1, 2], (TWO, 0), &[1, 2], false, false),
+    ((ONE, 0), &[7, 9], (FAR, 0), &[7, 200], false, false),
+    ((ONE, 0), &[7, 9], (OTHER, 0), &[1, 1], false, false),
+    ((ANY, 0), &[5, 6], (ANY, 0), &[5, 6], false, false),
+    ((ANY, 0), &[5, 6], (FAR, 0), &[5, 200], false, false),
+    ((ANY, 0), &[5, 6], (LAST, 0), &[7, 6], true, true),
+    ((ANY, 0), &[5, 6], (LAST, 0), &[6, 5], true, false),
+    ((LAST, 0), &[0, 6], (LAST, 0), &[0, 1], true, true),
+    ((LAST, 0), &[0, 6], (LAST, 0), &[0, 7], true, false),
+    ((OTHER, 0), &[1, 1], (LAST, 0), &[0, 6], false, false),
+];
+
+/// Whether the two hops are so.
+fn is_so(set: &ChainSet, (left, here, right, there, may, does): Case) -> Result<bool, Memory> {
+    let (one, other) = (program(left.0)?, program(right.0)?);
+    let may_they = may_conflict(set, one, left.1, other, right.1);
+    let do_they = conflict(set, one, left.1, here, other, right.1, there);
+    Ok(may_they == may && do_they == does)
 }
 
-/// Whether the two hops may conflict as the case says, in either order.
-fn is_may(set: &ChainSet, (left, right, want): MayCase) -> Result<bool, Memory> {
-    Ok(may(set, left, right)? == want && may(set, right, left)? == want)
-}
-
-/// Whether each two hops of the set may conflict as the case says.
-fn all_may(alloc: Global, text: &str, cases: &[MayCase]) -> Result<bool, Memory> {
+/// Whether each two hops of the set are so.
+fn are_so(alloc: Global, text: &str, cases: &[Case]) -> Result<bool, Memory> {
     let set = set_of(alloc, text)?;
     for case in cases {
-        if !is_may(&set, *case)? {
+        if !is_so(&set, *case)? {
             return Ok(false);
         }
     }
     Ok(true)
 }
-
-const MAY_OF_PAYMENTS: &[MayCase] = &[
-    ((PUT, 0), (PAY, 0), true),
-    ((PUT, 0), (SEED, 0), false),
-    ((PUT, 0), (PAY, 1), false),
-    ((PAY, 0), (PAY, 0), true),
-    ((PUT, 0), (PUT, 0), false),
-    ((PUT, 0), (PAY, 2), false),
-];
-
-#[test]
-fn payments_and_puts_may_conflict(rt: HostRuntime) {
-    holds(&rt, all_may(rt.alloc(), PAYMENT_AND_PUT, MAY_OF_PAYMENTS));
-}
-
-const MAY_OF_KEYS: &[MayCase] = &[
-    ((ONE, 0), (ONE, 0), true),
-    ((ONE, 0), (TWO, 0), false),
-    ((ONE, 0), (ANY, 0), true),
-    ((ONE, 0), (FAR, 0), false),
-    ((ONE, 0), (OTHER, 0), false),
-    ((ANY, 0), (ANY, 0), false),
-    ((ANY, 0), (FAR, 0), false),
-    ((ANY, 0), (LAST, 0), true),
-    ((LAST, 0), (LAST, 0), true),
-    ((OTHER, 0), (LAST, 0), false),
-];
-
-#[test]
-fn hops_that_may_conflict(rt: HostRuntime) {
-    holds(&rt, all_may(rt.alloc(), KEYS, MAY_OF_KEYS));
-}
-
-/// A program whose first hop is run, and its arguments.
-type Run = (u8, &'static [u64]);
-
-/// Two first hops with their arguments, and whether they conflict.
-type ConflictCase = (u8, &'static [u64], u8, &'static [u64], bool);
-
-fn conflicts(set: &ChainSet, left: Run, right: Run) -> Result<bool, Memory> {
-    let (left_program, right_program) = (program(left.0)?, program(right.0)?);
-    Ok(conflict(set, left_program, 0, left.1, right_program, 0, right.1))
-}
-
-/// Whether the two hops conflict as the case says, in either order.
-fn is_conflict(set: &ChainSet, case: ConflictCase) -> Result<bool, Memory> {
-    let (left, right) = ((case.0, case.1), (case.2, case.3));
-    Ok(conflicts(set, left, right)? == case.4 && conflicts(set, right, left)? == case.4)
-}
-
-/// Whether each two hops of the set conflict as the case says.
-fn all_conflict(alloc: Global, text: &str, cases: &[ConflictCase]) -> Result<bool, Memory> {
-    let set = set_of(alloc, text)?;
-    for case in cases {
-        if !is_conflict(&set, *case)? {
-            return Ok(false);
-        }
-    }
-    Ok(true)
-}
-
-const CONFLICTS_OF_PAYMENTS: &[ConflictCase] = &[
-    (PUT, &[5], PAY, &[30], false),
-    (PUT, &[0], PAY, &[30], true),
-    (PUT, &[0], SEED, &[30], false),
-    (PAY, &[1], PAY, &[2], true),
-    (PUT, &[7], PUT, &[7], false),
-];
-
-#[test]
-fn payments_and_puts_conflict(rt: HostRuntime) {
-    holds(
-        &rt,
-        all_conflict(rt.alloc(), PAYMENT_AND_PUT, CONFLICTS_OF_PAYMENTS),
-    );
-}
-
-const CONFLICTS_OF_KEYS: &[ConflictCase] = &[
-    (ONE, &[7, 9], ANY, &[9, 1], true),
-    (ONE, &[7, 9], ANY, &[1, 9], false),
-    (ONE, &[1, 2], ONE, &[3, 4], true),
-    (ONE, &[1, 2], TWO, &[1, 2], false),
-    (ONE, &[7, 9], OTHER, &[1, 1], false),
-    (ANY, &[5, 6], LAST, &[7, 6], true),
-    (ANY, &[5, 6], LAST, &[6, 5], false),
-    (ANY, &[5, 6], ANY, &[5, 6], false),
-    (LAST, &[0, 6], LAST, &[0, 1], true),
-    (LAST, &[0, 6], LAST, &[0, 7], false),
-];
 
 #[test]
 fn hops_that_conflict(rt: HostRuntime) {
-    holds(&rt, all_conflict(rt.alloc(), KEYS, CONFLICTS_OF_KEYS));
+    for (text, cases) in [(PAYMENT_AND_PUT, PAYMENTS), (KEYS, CELLS)] {
+        assert!(rt; are_so(rt.alloc(), text, cases) == Ok(true), "{text}");
+    }
 }
 
 /// Whether these are the feet, all of the first table.
@@ -183,28 +115,24 @@ const LAST_FEET: &[(Key, Kind)] = &[
     (Key::Param(1), Kind::Setting),
 ];
 
-#[test]
-fn feet_in_order(rt: HostRuntime) {
-    holds(&rt, has_feet(rt.alloc(), KEYS, (LAST, 0), LAST_FEET));
-}
-
 /// What the first hop of pay does.
 const PAY_FEET: &[(Key, Kind)] = &[
     (Key::Literal(0), Kind::Getting),
     (Key::Literal(0), Kind::Adding),
 ];
 
-#[test]
-fn feet_of_a_payment(rt: HostRuntime) {
-    holds(
-        &rt,
-        has_feet(rt.alloc(), PAYMENT_AND_PUT, (PAY, 0), PAY_FEET),
-    );
-}
+/// A set, a hop of it, and its feet. There is no second hop of last.
+const FEET: &[(&str, At, &[(Key, Kind)])] = &[
+    (KEYS, (LAST, 0), LAST_FEET),
+    (PAYMENT_AND_PUT, (PAY, 0), PAY_FEET),
+    (KEYS, (LAST, 1), &[]),
+];
 
 #[test]
-fn no_hop_has_no_feet(rt: HostRuntime) {
-    holds(&rt, has_feet(rt.alloc(), KEYS, (LAST, 1), &[]));
+fn feet_in_order(rt: HostRuntime) {
+    for &(text, at, feet) in FEET {
+        assert!(rt; has_feet(rt.alloc(), text, at, feet) == Ok(true), "{text}");
+    }
 }
 
 /// Whether these are the touches, all of the first table.
@@ -229,5 +157,5 @@ const LAST_TOUCHES: &[(u64, Kind)] = &[(1, Kind::Getting), (6, Kind::Setting)];
 
 #[test]
 fn touches_in_order(rt: HostRuntime) {
-    holds(&rt, has_touches(rt.alloc(), &[5, 6], LAST_TOUCHES));
+    assert!(rt; has_touches(rt.alloc(), &[5, 6], LAST_TOUCHES) == Ok(true));
 }

@@ -1,7 +1,9 @@
-use crate::sets::set_of;
+//! What hops give and change.
 use lynx_cells::{Cells, Changes};
 use lynx_hops::{HopFault, run_hop};
-use lynx_names::{Memory, ProgramId, TableId, Values};
+use lynx_names::{Memory, TableId};
+use lynx_samples::made::{lists, program};
+use lynx_samples::texts::set_of;
 use std::alloc::Global;
 
 /// A pay over one server, whose second hop reads what the first one gave.
@@ -17,25 +19,8 @@ fn cells_of(alloc: Global, value: u64) -> Result<Cells, Memory> {
     }
     let mut cells = Cells::new(alloc);
     cells.stage(&changes)?;
-    cells.apply(changes);
+    cells.apply(&changes);
     Ok(cells)
-}
-
-/// The results and the changes of a hop of pay over such cells.
-fn run(
-    alloc: Global,
-    value: u64,
-    hop: usize,
-    amount: u64,
-    earlier: &[Values],
-) -> Result<(Values, Changes), HopFault> {
-    let program = ProgramId::new(0).ok_or(HopFault::Memory)?;
-    let set = set_of(alloc, SET)?;
-    let cells = cells_of(alloc, value)?;
-    match run_hop(alloc, &set, program, hop, &[amount], earlier, &cells) {
-        Ok(ran) => Ok(ran.spend()),
-        Err(fault) => Err(fault),
-    }
 }
 
 /// Whether the cells are changed to these values.
@@ -48,43 +33,74 @@ fn are_changed_to(changes: &Changes, values: &[u64]) -> bool {
     changes.list().len() == values.len()
 }
 
-/// Whether the first hop of a pay of 30 reads 100 and then 70.
-fn first_is_run(alloc: Global) -> Result<bool, HopFault> {
-    let (results, changes) = run(alloc, 100, 0, 30, &[])?;
-    Ok(results.as_slice() == [100, 70].as_slice() && are_changed_to(&changes, &[70]))
+/// What the first cell holds, a hop of pay and its argument, and what the hops before it gave; then the results and the
+/// values that cells are changed to, or the fault.
+struct Case {
+    value: u64,
+    hop: usize,
+    amount: u64,
+    earlier: &'static [&'static [u64]],
+    want: Result<(&'static [u64], &'static [u64]), HopFault>,
+}
+
+/// The first hop reads 100 and then 70; it refuses by the number of its need. The second hop adds what the first one gave,
+/// and the sum of the greatest number and 1 wraps to 0.
+const CASES: &[Case] = &[
+    Case {
+        value: 100,
+        hop: 0,
+        amount: 30,
+        earlier: &[],
+        want: Ok((&[100, 70], &[70])),
+    },
+    Case {
+        value: 100,
+        hop: 0,
+        amount: 101,
+        earlier: &[],
+        want: Err(HopFault::Refused(0)),
+    },
+    Case {
+        value: 70,
+        hop: 1,
+        amount: 30,
+        earlier: &[&[100, u64::MAX]],
+        want: Ok((&[0], &[100, 0])),
+    },
+];
+
+/// Whether the hop comes out as the case says.
+fn comes_out(alloc: Global, case: &Case) -> Result<bool, Memory> {
+    let program = program(0)?;
+    let set = set_of(alloc, SET)?;
+    let cells = cells_of(alloc, case.value)?;
+    let earlier = lists(alloc, case.earlier)?;
+    let amount = [case.amount];
+    match run_hop(
+        alloc,
+        &set,
+        program,
+        case.hop,
+        &amount,
+        earlier.as_slice(),
+        &cells,
+    ) {
+        Err(fault) => Ok(case.want == Err(fault)),
+        Ok(ran) => {
+            let (given, changes) = ran.spend();
+            match case.want {
+                Ok((results, values)) => {
+                    Ok(given.as_slice() == results && are_changed_to(&changes, values))
+                }
+                Err(_) => Ok(false),
+            }
+        }
+    }
 }
 
 #[test]
-fn a_first_hop_gives_its_results_and_changes(rt: HostRuntime) {
-    assert!(rt; first_is_run(rt.alloc()) == Ok(true));
-}
-
-/// The fault of the first hop of a pay of 101.
-fn refusal(alloc: Global) -> Option<HopFault> {
-    run(alloc, 100, 0, 101, &[]).err()
-}
-
-#[test]
-fn a_first_hop_refuses_by_the_number_of_its_need(rt: HostRuntime) {
-    assert!(rt; refusal(rt.alloc()) == Some(HopFault::Refused(0)));
-}
-
-/// What the first hop gave: 100, and then the largest number.
-fn given(alloc: Global) -> Result<Values, Memory> {
-    let mut values = Values::new(alloc);
-    values.push(100)?;
-    values.push(u64::MAX)?;
-    Ok(values)
-}
-
-/// Whether the second hop adds the first of these values, and its sum wraps to 0.
-fn later_is_run(alloc: Global) -> Result<bool, HopFault> {
-    let given = given(alloc)?;
-    let (results, changes) = run(alloc, 70, 1, 30, &[given])?;
-    Ok(results.as_slice() == [0].as_slice() && are_changed_to(&changes, &[100, 0]))
-}
-
-#[test]
-fn a_later_hop_reads_what_the_earlier_ones_gave(rt: HostRuntime) {
-    assert!(rt; later_is_run(rt.alloc()) == Ok(true));
+fn hops_of_a_payment(rt: HostRuntime) {
+    for (place, case) in CASES.iter().enumerate() {
+        assert!(rt; comes_out(rt.alloc(), case) == Ok(true), "case {place}");
+    }
 }

@@ -1,3 +1,4 @@
+//! Tables of shards, and the server of a key.
 use lynx_names::{Memory, TableId, TryCopy};
 use lynx_shards::{Range, ShardFault, ShardMap};
 use std::alloc::Global;
@@ -36,40 +37,38 @@ const WHOLE: &[Shard] = &[(0, 99, 1), (100, LAST, 2)];
 
 const PAST_THE_LAST: &[Shard] = &[(0, LAST, 0), (0, 1, 0)];
 
-/// Two tables, and what is wrong with them.
-type Case = (&'static [Shard], &'static [Shard], Option<ShardFault>);
+/// A range that begins too late, too early, and behind its end; at a server that there isn't; and one that ends early.
+const GAP: &[Shard] = &[(0, 99, 1), (101, LAST, 3)];
 
-const TABLES: &[Case] = &[
+const OVERLAP: &[Shard] = &[(0, 99, 1), (99, LAST, 3)];
+
+const TURNED: &[Shard] = &[(0, 99, 1), (100, 99, 3)];
+
+const NO_SERVER: &[Shard] = &[(0, 99, 1), (100, LAST, 3)];
+
+const SHORT: &[Shard] = &[(0, 99, 1), (100, LAST - 1, 2)];
+
+/// Two tables, and what is wrong with them: the first fault is answered.
+const TABLES: &[(&[Shard], &[Shard], Option<ShardFault>)] = &[
     (WHOLE, WHOLE, None),
     (WHOLE, &[], Some(ShardFault::Gap)),
     (PAST_THE_LAST, WHOLE, Some(ShardFault::Overlap)),
+    (WHOLE, GAP, Some(ShardFault::Gap)),
+    (WHOLE, OVERLAP, Some(ShardFault::Overlap)),
+    (WHOLE, TURNED, Some(ShardFault::Overlap)),
+    (WHOLE, NO_SERVER, Some(ShardFault::BadServer)),
+    (WHOLE, SHORT, Some(ShardFault::Gap)),
+    (NO_SERVER, &[], Some(ShardFault::BadServer)),
+    (OVERLAP, GAP, Some(ShardFault::Overlap)),
 ];
 
 #[test]
-fn the_fault_of_two_tables_is_answered(rt: HostRuntime) {
-    for &(first, second, want) in TABLES {
-        assert!(rt; fault_of(rt.alloc(), first, second) == want);
-    }
-}
-
-/// Tables with a fault in their second range.
-const FAULTY: &[(&[Shard], ShardFault)] = &[
-    (&[(0, 99, 1), (101, LAST, 3)], ShardFault::Gap),
-    (&[(0, 99, 1), (99, LAST, 3)], ShardFault::Overlap),
-    (&[(0, 99, 1), (100, 99, 3)], ShardFault::Overlap),
-    (&[(0, 99, 1), (100, LAST, 3)], ShardFault::BadServer),
-    (&[(0, 99, 1), (100, LAST - 1, 2)], ShardFault::Gap),
-];
-
-/// Whether that is wrong with the faulty table, as the second one and as the first one.
-fn is_answered(alloc: Global, faulty: &[Shard], want: ShardFault) -> bool {
-    fault_of(alloc, WHOLE, faulty) == Some(want) && fault_of(alloc, faulty, &[]) == Some(want)
-}
-
-#[test]
-fn the_first_fault_is_answered(rt: HostRuntime) {
-    for &(faulty, want) in FAULTY {
-        assert!(rt; is_answered(rt.alloc(), faulty, want), "{want}");
+fn the_first_fault_of_two_tables_is_answered(rt: HostRuntime) {
+    for (place, &(first, second, want)) in TABLES.iter().enumerate() {
+        assert!(rt;
+            fault_of(rt.alloc(), first, second) == want,
+            "tables {place}"
+        );
     }
 }
 

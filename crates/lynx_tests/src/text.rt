@@ -1,12 +1,11 @@
 //! Set texts: which fronts of one are sets, and how sets are printed as they are read. Their faults and limits are
 //! shown by the cases under tests/cases.
-use crate::asks::{holds, holds_of};
-use crate::sets::set_of;
 use lynx_names::limits::MAX_TEXT_BYTES;
 use lynx_names::{Memory, TryCopy};
+use lynx_samples::made::boxed;
 use lynx_samples::texts::{
     CALC, CROSSING, EMPTY_SET, LATE_AND_MARK, ONE_ORIGIN_JOINS, ONE_ORIGIN_ONLY, ONE_ORIGIN_SETS,
-    PAY_AND_NOTE, PAYMENT, PUT, TRIP,
+    PAY_AND_NOTE, PAYMENT, PUT, TRIP, set_of,
 };
 use lynx_set::ChainSet;
 use lynx_text::{parse, print};
@@ -17,20 +16,24 @@ const HEAD: &str = "lynx 1\nservers 2\ntable t\nshard 0 99 0\nshard 100 18446744
 
 /// Whether the front of a payment ends with the servers, the table or a program.
 fn ends_a_part(front: &[u8]) -> bool {
-    let lines = front.iter().filter(|byte| **byte == b'\n').count();
+    let mut lines: usize = 0;
+    for byte in front {
+        if *byte == b'\n' {
+            lines = lines.saturating_add(1);
+        }
+    }
     front.ends_with(b"\n".as_slice()) && (lines == 2 || lines == 5 || lines == 9)
-}
-
-/// Whether the front of a payment is a set just where it ends a part.
-fn is_set_of_parts(alloc: Global, front: &[u8]) -> bool {
-    parse(alloc, front).is_ok() == ends_a_part(front)
 }
 
 #[test]
 fn fronts_of_a_set_are_sets_after_whole_parts(rt: HostRuntime) {
     let text = PAYMENT.as_bytes();
     for length in 0..text.len() {
-        assert!(rt; is_set_of_parts(rt.alloc(), &text[..length]), "{length}");
+        let front = &text[..length];
+        assert!(rt;
+            parse(rt.alloc(), front).is_ok() == ends_a_part(front),
+            "{length}"
+        );
     }
 }
 
@@ -55,26 +58,21 @@ const SETS: &[&str] = &[
 
 /// A copy of the text's set.
 fn copy_of(alloc: Global, text: &str) -> Result<Box<ChainSet>, Memory> {
-    let copy = set_of(alloc, text)?.copy(alloc)?;
-    Ok(Box::new(alloc, copy)?)
-}
-
-/// Whether the set is printed so.
-fn is_printed(alloc: Global, set: &ChainSet, text: &str) -> Result<bool, Memory> {
-    let printed = print(alloc, set)?;
-    Ok(printed.as_slice() == text.as_bytes())
+    let set = set_of(alloc, text)?;
+    boxed(alloc, set.copy(alloc))
 }
 
 /// Whether the copy of the text's set is printed as the text is.
 fn copy_is_printed(alloc: Global, text: &str) -> Result<bool, Memory> {
     let set = copy_of(alloc, text)?;
-    is_printed(alloc, &set, text)
+    let printed = print(alloc, &set)?;
+    Ok(printed.as_slice() == text.as_bytes())
 }
 
 #[test]
 fn sets_are_printed_as_they_are_read(rt: HostRuntime) {
     for &text in SETS {
-        holds_of(&rt, copy_is_printed(rt.alloc(), text), text);
+        assert!(rt; copy_is_printed(rt.alloc(), text) == Ok(true), "{text}");
     }
 }
 
@@ -117,19 +115,13 @@ fn longest_text(alloc: Global) -> Result<String, Memory> {
     Ok(text)
 }
 
-/// Whether the text is read and printed again as it was.
-fn is_printed_again(alloc: Global, text: &str) -> Result<bool, Memory> {
-    let set = set_of(alloc, text)?;
-    is_printed(alloc, &set, text)
-}
-
 /// Whether it has just as many bytes as a text may have, and is printed again.
 fn longest_is_printed(alloc: Global) -> Result<bool, Memory> {
     let text = longest_text(alloc)?;
-    Ok(text.len() == MAX_TEXT_BYTES && is_printed_again(alloc, text.as_str())?)
+    Ok(text.len() == MAX_TEXT_BYTES && copy_is_printed(alloc, text.as_str())?)
 }
 
 #[test]
 fn the_longest_text_is_a_set(rt: HostRuntime) {
-    holds(&rt, longest_is_printed(rt.alloc()));
+    assert!(rt; longest_is_printed(rt.alloc()) == Ok(true));
 }

@@ -1,13 +1,17 @@
-//! Tests of what servers answer, and of worlds.
+//! Tests of worlds, and of weaving: histories that weave and that don't, and what sessions were told.
 #![tactic(auto)]
 
 #[cfg(test)]
-mod asks;
+mod histories;
 #[cfg(test)]
-mod cells;
+mod order;
 #[cfg(test)]
-mod server;
+mod sessions;
 #[cfg(test)]
-mod sets;
+mod since;
+#[cfg(test)]
+mod told;
+#[cfg(test)]
+mod weaving;
 #[cfg(test)]
 mod world;

@@ -1,226 +1,183 @@
-//! Worked runs of payments, with ample memory: a body that always answers want of memory meets any contract.
-use crate::asks::holds;
-use crate::cells::are_cells;
-use lynx_entry::{Answer, Delivered, Request};
-use lynx_names::{ChainId, ClientId, Memory, ProgramId, ServerId, Stamp, Values};
+//! A worked run of payments, with ample memory: a body that always answers want of memory meets any contract.
+use crate::order::is_order;
+use lynx_names::Memory;
+use lynx_samples::cells::are_cells;
+use lynx_samples::made::{answer, boxed, chain, delivered, request, server, stamp};
+use lynx_samples::parts::{AnswerParts, DeliveredParts, RequestParts};
+use lynx_samples::payments::{
+    DONE_AT_FOUR, DONE_AT_THREE, PAY, PAY_BEGUN, REPEATED_AT_THREE, SEED, SEED_BEGUN,
+};
 use lynx_samples::texts::{PAYMENT, read};
 use lynx_world::{Event, Outcome, World, empty_keepers};
 use std::alloc::Global;
 
-const SEED: u8 = 0;
-
-const PAY: u8 = 1;
-
-/// What happens in a world.
+/// What happens to a world. All chains are of server 0.
 #[derive(Clone, Copy)]
-enum Step {
-    /// A seed of 100 begins, as the first chain.
-    Seed,
-    /// A payment of 30 begins, as the second chain.
-    Pay,
-    /// The message of the seed's second hop comes, which it doesn't have.
-    SeedArrives,
-    /// The message of the payment's second hop comes.
-    PaymentArrives,
-    /// That message is lost.
-    PaymentIsLost,
-    /// The second server is waked.
-    Wake,
-    /// The second server restarts.
-    Restart,
+enum Happens {
+    /// A request comes to server 0, of a session that was told nothing.
+    Begin(RequestParts),
+    Deliver(u64, u8),
+    Lost(u64, u8),
+    Wake(u8),
+    Restart(u8),
 }
 
-/// The request of that number of client 1 for a program with an amount.
-fn request(alloc: Global, number: u64, program: u8, amount: u64) -> Result<Request, Memory> {
-    let program = ProgramId::new(program).ok_or(Memory)?;
-    let mut args = Values::new(alloc);
-    args.push(amount)?;
-    Ok(Request {
-        client: ClientId::new(1),
-        number,
-        program,
-        args,
-    })
+/// What comes of it.
+#[derive(Clone, Copy)]
+enum Comes {
+    Answered(AnswerParts),
+    Delivered(u64, u8, DeliveredParts),
+    Woken(u64, u8, DeliveredParts),
+    NotSent(u64, u8),
+    LostNow(u64, u8),
+    Idle(u8),
+    Restarted(u8),
+    NoServer,
 }
 
-/// That request comes to the first server.
-fn begin(alloc: Global, number: u64, program: u8, amount: u64) -> Result<Event, Memory> {
-    Ok(Event::Begin {
-        server: ServerId::first(),
-        request: request(alloc, number, program, amount)?,
-        seen: Stamp::zero(),
-    })
-}
-
-/// The chain of that number at the first server.
-fn chain_at(index: u64) -> ChainId {
-    ChainId {
-        origin: ServerId::first(),
-        index,
+fn event(alloc: Global, happens: Happens) -> Result<Event, Memory> {
+    match happens {
+        Happens::Begin(asked) => Ok(Event::Begin {
+            server: server(0)?,
+            request: request(alloc, asked)?,
+            seen: stamp(0)?,
+        }),
+        Happens::Deliver(index, hop) => Ok(Event::Deliver {
+            chain: chain(0, index)?,
+            hop,
+        }),
+        Happens::Lost(index, hop) => Ok(Event::Lost {
+            chain: chain(0, index)?,
+            hop,
+        }),
+        Happens::Wake(number) => Ok(Event::Wake {
+            server: server(number)?,
+        }),
+        Happens::Restart(number) => Ok(Event::Restart {
+            server: server(number)?,
+        }),
     }
 }
 
-fn deliver(index: u64) -> Event {
-    Event::Deliver {
-        chain: chain_at(index),
-        hop: 1,
+fn outcome(alloc: Global, comes: Comes) -> Result<Outcome, Memory> {
+    match comes {
+        Comes::Answered(parts) => Ok(Outcome::Answered(answer(alloc, parts)?)),
+        Comes::Delivered(index, hop, parts) => Ok(Outcome::Delivered {
+            chain: chain(0, index)?,
+            hop,
+            delivered: delivered(alloc, parts)?,
+        }),
+        Comes::Woken(index, hop, parts) => Ok(Outcome::Woken {
+            chain: chain(0, index)?,
+            hop,
+            delivered: delivered(alloc, parts)?,
+        }),
+        Comes::NotSent(index, hop) => Ok(Outcome::NotSent {
+            chain: chain(0, index)?,
+            hop,
+        }),
+        Comes::LostNow(index, hop) => Ok(Outcome::LostNow {
+            chain: chain(0, index)?,
+            hop,
+        }),
+        Comes::Idle(number) => Ok(Outcome::Idle {
+            server: server(number)?,
+        }),
+        Comes::Restarted(number) => Ok(Outcome::Restarted {
+            server: server(number)?,
+        }),
+        Comes::NoServer => Ok(Outcome::NoServer),
     }
 }
 
-fn lose(index: u64) -> Event {
-    Event::Lost {
-        chain: chain_at(index),
-        hop: 1,
-    }
-}
-
-fn event(alloc: Global, step: Step) -> Result<Event, Memory> {
-    let server = ServerId::at(1);
-    match step {
-        Step::Seed => begin(alloc, 1, SEED, 100),
-        Step::Pay => begin(alloc, 2, PAY, 30),
-        Step::SeedArrives => Ok(deliver(0)),
-        Step::PaymentArrives => Ok(deliver(1)),
-        Step::PaymentIsLost => Ok(lose(1)),
-        Step::Wake => Ok(Event::Wake { server }),
-        Step::Restart => Ok(Event::Restart { server }),
-    }
-}
-
-fn outcome(alloc: Global, world: &mut World, step: Step) -> Result<Box<Outcome>, Memory> {
-    let outcome = world.apply(alloc, event(alloc, step)?);
-    Ok(Box::new(alloc, outcome)?)
-}
-
-/// A world of payments in which nothing happened yet.
+/// A world of payments in which nothing happened yet, in a box.
 fn empty(alloc: Global) -> Result<Box<World>, Memory> {
     let set = read(alloc, PAYMENT)?;
     let keepers = empty_keepers(alloc, &set)?;
-    Ok(Box::new(alloc, World::new(alloc, set, keepers)?)?)
+    boxed(alloc, World::new(alloc, set, keepers))
 }
 
-fn pass(alloc: Global, world: &mut World, steps: &[Step]) -> Result<(), Memory> {
-    for step in steps {
-        let _ = outcome(alloc, world, *step)?;
-    }
-    Ok(())
+/// Whether that comes of what happens.
+fn comes_out(
+    alloc: Global,
+    world: &mut World,
+    happens: Happens,
+    comes: Comes,
+) -> Result<bool, Memory> {
+    let want = boxed(alloc, outcome(alloc, comes))?;
+    let event = event(alloc, happens)?;
+    Ok(world.apply(alloc, event) == *want)
 }
 
-fn world_after(alloc: Global, steps: &[Step]) -> Result<Box<World>, Memory> {
-    let mut world = empty(alloc)?;
-    pass(alloc, &mut world, steps)?;
-    Ok(world)
-}
+/// The request of a second payment, of 20.
+const PAY_AGAIN: RequestParts = RequestParts {
+    number: 3,
+    args: &[20],
+    ..PAY
+};
 
-/// Whether a chain began as the second one with the stamp 2, and read 100.
-fn is_payment(answer: &Answer) -> bool {
-    match answer {
-        Answer::Begun {
-            chain,
-            stamp,
-            results,
-            again,
-        } => {
-            chain.index == 1
-                && stamp.time() == 2
-                && results.as_slice() == [100].as_slice()
-                && !*again
+/// A seed of 100 and payments of 30 and 20, the second of which comes first and is forgotten.
+const RUN: &[(Happens, Comes)] = &[
+    (Happens::Wake(1), Comes::Idle(1)),
+    (Happens::Begin(SEED), Comes::Answered(SEED_BEGUN)),
+    (Happens::Deliver(0, 1), Comes::NotSent(0, 1)),
+    (Happens::Begin(PAY), Comes::Answered(PAY_BEGUN)),
+    (
+        Happens::Begin(PAY_AGAIN),
+        Comes::Answered(AnswerParts::Begun {
+            origin: 0,
+            index: 2,
+            time: 3,
+            results: &[70],
+            again: false,
+        }),
+    ),
+    (Happens::Lost(1, 1), Comes::LostNow(1, 1)),
+    (
+        Happens::Deliver(2, 1),
+        Comes::Delivered(2, 1, DeliveredParts::Held),
+    ),
+    (Happens::Restart(1), Comes::Restarted(1)),
+    (Happens::Wake(1), Comes::Idle(1)),
+    (
+        Happens::Deliver(2, 1),
+        Comes::Delivered(2, 1, DeliveredParts::Held),
+    ),
+    (
+        Happens::Deliver(1, 1),
+        Comes::Delivered(1, 1, DONE_AT_THREE),
+    ),
+    (Happens::Wake(1), Comes::Woken(2, 1, DONE_AT_FOUR)),
+    (
+        Happens::Deliver(1, 1),
+        Comes::Delivered(1, 1, REPEATED_AT_THREE),
+    ),
+    (Happens::Wake(2), Comes::NoServer),
+];
+
+/// How many rows of the run come out, before one that doesn't or before its end.
+fn passed(alloc: Global, world: &mut World) -> Result<usize, Memory> {
+    for (count, &(happens, comes)) in RUN.iter().enumerate() {
+        if !comes_out(alloc, world, happens, comes)? {
+            return Ok(count);
         }
-        _ => false,
     }
+    Ok(RUN.len())
 }
 
-/// Whether a last hop ran with the stamp 3.
-fn is_done(delivered: &Delivered) -> bool {
-    match delivered {
-        Delivered::Done { stamp, next, .. } => stamp.time() == 3 && next.is_none(),
-        _ => false,
-    }
-}
-
-/// How a step is to come out.
-#[derive(Clone, Copy)]
-enum Want {
-    PaymentBegan,
-    PaymentDone,
-    SeedNotSent,
-    PaymentLost,
-    Idle,
-    Restarted,
-}
-
-/// Whether that is the second hop of the chain of that number.
-fn is_second_hop(chain: ChainId, hop: u8, index: u64) -> bool {
-    chain == chain_at(index) && hop == 1
-}
-
-fn is(outcome: &Outcome, want: Want) -> bool {
-    match (outcome, want) {
-        (Outcome::Answered(answer), Want::PaymentBegan) => is_payment(answer),
-        (Outcome::Delivered { delivered, .. }, Want::PaymentDone) => is_done(delivered),
-        (Outcome::NotSent { chain, hop }, Want::SeedNotSent) => is_second_hop(*chain, *hop, 0),
-        (Outcome::LostNow { chain, hop }, Want::PaymentLost) => is_second_hop(*chain, *hop, 1),
-        (Outcome::Idle { server }, Want::Idle) => server.number() == 1,
-        (Outcome::Restarted { server }, Want::Restarted) => server.number() == 1,
-        _ => false,
-    }
-}
-
-/// Whether the step comes out so after those before it.
-fn comes_out(alloc: Global, before: &[Step], step: Step, want: Want) -> Result<bool, Memory> {
-    let mut world = world_after(alloc, before)?;
-    let outcome = outcome(alloc, &mut world, step)?;
-    Ok(is(&outcome, want))
-}
-
-#[test]
-fn a_payment_begins(rt: HostRuntime) {
-    let begins = comes_out(rt.alloc(), &[Step::Seed], Step::Pay, Want::PaymentBegan);
-    holds(&rt, begins);
-}
-
-const PAID: &[Step] = &[Step::Seed, Step::Pay];
-
-#[test]
-fn a_payment_arrives(rt: HostRuntime) {
-    let arrives = comes_out(rt.alloc(), PAID, Step::PaymentArrives, Want::PaymentDone);
-    holds(&rt, arrives);
-}
-
-#[test]
-fn a_seed_sends_nothing(rt: HostRuntime) {
-    let before = &[Step::Seed];
-    let sends = comes_out(rt.alloc(), before, Step::SeedArrives, Want::SeedNotSent);
-    holds(&rt, sends);
-}
-
-#[test]
-fn a_message_is_lost(rt: HostRuntime) {
-    let is_lost = comes_out(rt.alloc(), PAID, Step::PaymentIsLost, Want::PaymentLost);
-    holds(&rt, is_lost);
-}
-
-#[test]
-fn nothing_wakes(rt: HostRuntime) {
-    holds(&rt, comes_out(rt.alloc(), &[], Step::Wake, Want::Idle));
-}
-
-#[test]
-fn a_server_restarts(rt: HostRuntime) {
-    holds(
-        &rt,
-        comes_out(rt.alloc(), &[], Step::Restart, Want::Restarted),
-    );
-}
-
-/// Whether 70 are left of 100 after the payment, and 30 are at the second server.
-fn is_moved(alloc: Global) -> Result<bool, Memory> {
-    let world = world_after(alloc, &[Step::Seed, Step::Pay, Step::PaymentArrives])?;
+/// Whether the run comes out, and 50 are left at each server.
+fn is_run(alloc: Global) -> Result<bool, Memory> {
+    let mut world = empty(alloc)?;
+    let passed = passed(alloc, &mut world)?;
     let cells = world.cells(alloc)?;
-    Ok(are_cells(cells.as_slice(), &[(0, 0, 70), (0, 1000, 30)]))
+    Ok(
+        passed == RUN.len()
+            && are_cells(cells.as_slice(), &[(0, 0, 50), (0, 1000, 50)])
+            && is_order(&world, &[(0, 1), (0, 2), (0, 3), (1, 3), (1, 4)]),
+    )
 }
 
 #[test]
-fn a_payment_goes_from_cell_to_cell(rt: HostRuntime) {
-    holds(&rt, is_moved(rt.alloc()));
+fn a_run_of_payments(rt: HostRuntime) {
+    assert!(rt; is_run(rt.alloc()) == Ok(true));
 }

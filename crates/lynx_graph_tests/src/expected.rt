@@ -1,0 +1,35 @@
+//! A picture, line by line.
+
+/// Of a payment and a note: the walk goes through two chains of the payment.
+#[rattlefmt::skip]
+pub const PAY_AND_NOTE_LINES: &[&str] = &[
+    "digraph lynx {",
+    "  graph [fontname=\"Helvetica\", fontsize=12, style=rounded, labeljust=l, newrank=true, nodesep=0.4, ranksep=0.6];",
+    "  node [shape=box, style=filled, fontname=\"Helvetica\", fontsize=11];",
+    "  edge [fontname=\"Helvetica\", fontsize=10];",
+    "  label=\"offending: by the red steps in their order, each chain may come before the next, all the way round.\\lSolid arrows lead to the next hop. Dashed lines join hops that may conflict, in the tables named.\\lWhere two chains of one program may conflict, it is drawn again. Each server has its colour.\\l\";",
+    "  subgraph \"cluster pay\" {",
+    "    label=\"pay n\";",
+    "    \"pay 0\" [label=\"hop 0 at server 0\\nget x acct 0\\lneed x >= n\\lsub acct 0 n\\l\", fillcolor=\"#99ddff\"];",
+    "    \"pay 1\" [label=\"hop 1 at server 1\\nadd acct 1000 n\\l\", fillcolor=\"#eedd88\"];",
+    "    \"pay 0\" -> \"pay 1\";",
+    "  }",
+    "  subgraph \"cluster pay again\" {",
+    "    style=\"dashed,rounded\"; label=\"pay (again)\";",
+    "    \"pay 0 again\" [label=\"hop 0 at server 0\\nget x acct 0\\lneed x >= n\\lsub acct 0 n\\l\", fillcolor=\"#99ddff\"];",
+    "    \"pay 1 again\" [label=\"hop 1 at server 1\\nadd acct 1000 n\\l\", fillcolor=\"#eedd88\"];",
+    "    \"pay 0 again\" -> \"pay 1 again\";",
+    "  }",
+    "  subgraph \"cluster note\" {",
+    "    label=\"note\";",
+    "    \"note 0\" [label=\"hop 0 at server 1\\nget z acct 1000\\l\", fillcolor=\"#eedd88\"];",
+    "  }",
+    "  edge [style=dashed, dir=none];",
+    "  edge [dir=forward, penwidth=2, color=\"#cc0000\", fontcolor=\"#cc0000\", fontsize=12];",
+    "  \"pay 0\" -> \"pay 0 again\" [label=\" 1 acct\"];",
+    "  \"pay 0 again\" -> \"pay 1 again\" [label=\" 2\", style=solid, constraint=false];",
+    "  \"pay 1 again\" -> \"note 0\" [label=\" 3 acct\"];",
+    "  \"note 0\" -> \"pay 1\" [label=\" 4 acct\"];",
+    "  \"pay 1\" -> \"pay 0\" [label=\" 5\", style=solid, constraint=false];",
+    "}",
+];

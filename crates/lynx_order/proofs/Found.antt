@@ -67,7 +67,7 @@ table_has all one other first second =
 
 -- ---- touching hops
 
-any_in : {X : Type 0} (test : X → Bool) (xs : List X) → list_any test xs ≡ true → (x : X) × IsIn x xs × (test x ≡ true)
+pub any_in : {X : Type 0} (test : X → Bool) (xs : List X) → list_any test xs ≡ true → (x : X) × IsIn x xs × (test x ≡ true)
 any_in test [] is = cc
 any_in {X} test (first ∷ xs) is = by (test first) refl is (any_in test xs)
   where
@@ -289,7 +289,7 @@ some_begun chain (placed ∷ list) some = by placed.entry some (some_begun chain
     by (Refused refused) found rest = rest found
     by (HopRan ran) found rest = rest found
 
-different_from_before : {X : Type 0} (xs : List X) → ((x : X) → StandsBefore x x xs → ⊥) → AreDifferent xs
+pub different_from_before : {X : Type 0} (xs : List X) → ((x : X) → StandsBefore x x xs → ⊥) → AreDifferent xs
 different_from_before [] none = tt
 different_from_before (x ∷ xs) none = (λ there. none x (inl (refl, there)), different_from_before xs (λ y before. none y (inr before)))
 

@@ -57,7 +57,7 @@ different-map f (x ∷ xs) apart once = (
 )
 
 -- chains of different places below the count
-different_chains : (chains : List ChainId) (places : List ℕ) → AreDifferent chains → ((place : ℕ) → IsIn place places → place < length chains) →
+pub different_chains : (chains : List ChainId) (places : List ℕ) → AreDifferent chains → ((place : ℕ) → IsIn place places → place < length chains) →
     AreDifferent places → AreDifferent (map (chain_at chains) places)
 different_chains chains places once within different =
     different-map (chain_at chains) places
@@ -75,24 +75,46 @@ acts_begun set list chain place placed others legal there conflict =
 
 -- ---- an order
 
-pub order_found : (set : Set) (list : List Placed) (taken : List ℕ) (left : List Bool) → IsLegal set list →
-    AreTaken (table_for set list (begun_chains list)) taken left → ((place : ℕ) → IsMarked left place → ⊥) →
-    IsOrder set list (map (chain_at (begun_chains list)) taken)
-order_found set list taken left legal are none =
-    let begun : AreTheBegun list (map (chain_at (begun_chains list)) taken) = record {
+-- chains that precede each other have places, of which the first stands before the second
+abbrev pub KeepsPlaces : Set → List Placed → List ℕ → Type 0
+KeepsPlaces set list order =
+    (one other : ChainId) → Precedes set list one other →
+    (first : ℕ) × (second : ℕ) × (chain_at (begun_chains list) first ≡ one) × (chain_at (begun_chains list) second ≡ other) × StandsBefore first second order
+
+-- an order of the places of all begun chains, each once, that keeps what precedes what
+pub order_right : (set : Set) (list : List Placed) (order : List ℕ) → IsLegal set list → AreDifferent order →
+    ((place : ℕ) → IsIn place order → place < length (begun_chains list)) → ((place : ℕ) → place < length (begun_chains list) → IsIn place order) →
+    KeepsPlaces set list order → IsOrder set list (map (chain_at (begun_chains list)) order)
+order_right set list order legal once within all keeps_places =
+    let begun : AreTheBegun list (map (chain_at (begun_chains list)) order) = record {
       each = λ chain. (
         λ there.
-            let found = from-map (chain_at (begun_chains list)) chain taken there in
+            let found = from-map (chain_at (begun_chains list)) chain order there in
             begun_some chain list (subst (λ c. IsIn c (begun_chains list)) found.2
             (in_place (begun_chains list) found.0 (record { origin = 0; index = 0 }) (within found.0 found.1))),
         λ some.
             let at = place_of (begun_chains list) chain (record { origin = 0; index = 0 }) (some_begun chain list some) in
-            subst (λ c. IsIn c (map (chain_at (begun_chains list)) taken)) at.2
-            (in-map (chain_at (begun_chains list)) at.0 taken (all at.0 at.1)),
+            subst (λ c. IsIn c (map (chain_at (begun_chains list)) order)) at.2
+            (in-map (chain_at (begun_chains list)) at.0 order (all at.0 at.1)),
       );
-      once = different_chains (begun_chains list) taken (begun_once set list legal) within are.once;
+      once = different_chains (begun_chains list) order (begun_once set list legal) within once;
     } in
-    let keeps : KeepsPrecedence set list (map (chain_at (begun_chains list)) taken) = λ one other precedes.
+    let keeps : KeepsPrecedence set list (map (chain_at (begun_chains list)) order) = λ one other precedes.
+    let at = keeps_places one other precedes in
+    subst (λ c. StandsBefore c other (map (chain_at (begun_chains list)) order)) at.2
+    (subst (λ c. StandsBefore (chain_at (begun_chains list) at.0) c (map (chain_at (begun_chains list)) order)) at.3
+    (before-map (chain_at (begun_chains list)) at.0 at.1 order at.4)) in
+    record {
+      the_begun = begun;
+      in_order = keeps;
+      explains = λ is. order_explains set list (map (chain_at (begun_chains list)) order) is legal begun keeps;
+    }
+
+pub order_found : (set : Set) (list : List Placed) (taken : List ℕ) (left : List Bool) → IsLegal set list →
+    AreTaken (table_for set list (begun_chains list)) taken left → ((place : ℕ) → IsMarked left place → ⊥) →
+    IsOrder set list (map (chain_at (begun_chains list)) taken)
+order_found set list taken left legal are none =
+    order_right set list taken legal are.once within all (λ one other precedes.
     let back = Conflicts-swapped (touches_in set one precedes.first.entry) (touches_in set other precedes.second.entry) precedes.conflict in
     let first = place_of (begun_chains list) one (record { origin = 0; index = 0 })
     (acts_begun set list one precedes.place precedes.first (touches_in set other precedes.second.entry) legal precedes.first_there precedes.conflict) in
@@ -100,15 +122,7 @@ order_found set list taken left legal are none =
     (acts_begun set list other precedes.later precedes.second (touches_in set one precedes.first.entry) legal precedes.second_there back) in
     let edge = precedes_edge set list (begun_chains list) first.0 second.0 first.1 second.1
     (subst (λ c. Precedes set list c (chain_at (begun_chains list) second.0)) (sym first.2) (subst (Precedes set list one) (sym second.2) precedes)) in
-    subst (λ c. StandsBefore c other (map (chain_at (begun_chains list)) taken)) first.2
-    (subst (λ c. StandsBefore (chain_at (begun_chains list) first.0) c (map (chain_at (begun_chains list)) taken)) second.2
-    (before-map (chain_at (begun_chains list)) first.0 second.0 taken
-    (are.in_order first.0 second.0 (subst (λ n. first.0 < n) (sym whole) first.1) (all second.0 second.1) edge))) in
-    record {
-      the_begun = begun;
-      in_order = keeps;
-      explains = λ is. order_explains set list (map (chain_at (begun_chains list)) taken) is legal begun keeps;
-    }
+    (first.0, second.0, first.2, second.2, are.in_order first.0 second.0 (subst (λ n. first.0 < n) (sym whole) first.1) (all second.0 second.1) edge))
   where
     whole : length (table_for set list (begun_chains list)) ≡ length (begun_chains list)
     whole = table_length set list (begun_chains list)

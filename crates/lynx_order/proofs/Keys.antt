@@ -1,6 +1,6 @@
 -- In a set whose literal keys lie at their hops' servers, a hop whose keys were looked at touches only cells of its own
 -- server.
-use Rattle.std.proofs.Common.{◌≡◌, ℕ, zero, suc, Bool, true, List, [], ◌∷◌, map, length, Option, Some, None, slice_get, option_map, refl, sym, ap, ◌∙◌, subst}
+use Rattle.std.proofs.Common.{◌≡◌, ℕ, zero, suc, Bool, true, List, [], ◌∷◌, map, Some, slice_get, sym, ap, ◌∙◌, subst}
 use Rattle.std.specs.Prelude.{All}
 use Rattle.std.specs.List.{filter_map, list_all}
 use Rattle.std.proofs.lemmas.Bool.{eqb-true}

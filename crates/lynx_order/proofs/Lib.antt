@@ -12,3 +12,5 @@ pub mod Tables
 pub mod Marks
 pub mod Found
 pub mod Judged
+pub mod Certificates
+pub mod Certified

@@ -2,15 +2,21 @@
 #![tactic(auto)]
 
 pub use explained::Explained;
-pub use explaining::explain;
+pub use explaining::{explain, explain_by_search};
 
 mod begun;
+mod by_origin;
+mod certificate;
 mod cycle;
 pub mod explained;
 pub mod explaining;
 pub mod laws;
+mod links;
 mod listed;
+mod listing;
 mod picks;
+mod ranks;
+mod rising;
 mod table;
 mod taken;
 mod touching;

@@ -21,7 +21,7 @@ pub(crate) struct Touching {
 }
 
 /// What the chain's hop touched in an entry.
-fn touches_in(
+pub(crate) fn touches_in(
     alloc: Global,
     set: &ChainSet,
     chain: &ChainId,
@@ -93,7 +93,7 @@ fn collides_with_any(left: &Touch, rights: &[Touch]) -> bool
     rights.iter().any(|right| touches_collide(*left, *right))
 }
 
-fn any_collide(lefts: &[Touch], rights: &[Touch]) -> bool
+pub(crate) fn any_collide(lefts: &[Touch], rights: &[Touch]) -> bool
     ensures { result ≡ some_collide lefts.now rights.now }
 {
     lefts.iter().any(|left| collides_with_any(left, rights))

@@ -1,8 +1,8 @@
 use Rattle.std.proofs.Common.{map, ap, ◌∙◌}
 use Rattle.lynx_order.specs.Touchings.{table_of, touchings_of}
 use Rattle.lynx_order.proofs.Judged.{IsSearched, square, taken_within, round_within, order_given, cycle_given}
-use Rattle.lynx_order.proofs.explaining.explain_list.Goals as goal
-use Rattle.lynx_order.proofs.explaining.explain_list.Goals.{After-as_slice-table}
+use Rattle.lynx_order.proofs.explaining.explain_by_table.Goals as goal
+use Rattle.lynx_order.proofs.explaining.explain_by_table.Goals.{After-as_slice-table}
 
 -- the chains are those that began, and the table is theirs
 searched : (c : After-as_slice-table) → IsSearched c.args.set.now c.args.world.now.list c.as_slice-chains.result.now c.as_slice-table.result.now

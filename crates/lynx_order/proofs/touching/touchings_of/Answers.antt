@@ -1,8 +1,6 @@
-use Rattle.std.proofs.Common.{◌≡◌, take, ◌++◌, [], List, Some, sym, ap, ◌∙◌}
+use Rattle.std.proofs.Common.{take, ◌++◌, [], List, sym, ap, ◌∙◌}
 use Rattle.std.specs.List.{cons_option}
-use Rattle.lynx_entry.specs.declared.entry.Entry.{Entry}
 use Rattle.lynx_foot.specs.declared.touch.Touch.{Touch}
-use Rattle.lynx_order.specs.Precedence.{touches_in}
 use Rattle.lynx_order.specs.Touchings.{touching, touchings_of}
 use Rattle.lynx_order.proofs.Tables.{touchings_at}
 use Rattle.lynx_order.proofs.touching.touchings_of.Goals as goal

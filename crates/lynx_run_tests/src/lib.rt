@@ -5,6 +5,8 @@
 #[cfg(test)]
 mod jobs;
 #[cfg(test)]
+mod searches;
+#[cfg(test)]
 mod sources;
 #[cfg(test)]
 mod writers;

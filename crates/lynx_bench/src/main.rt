@@ -1,5 +1,6 @@
 //! `lynx_bench WORK COUNT`: does some work so many times, to be timed from outside. `encode` and `feed PIECE` write and
-//! read so many bytes of forms, `weave SERVERS` weaves so many entries.
+//! read so many bytes of forms, `weave SHAPE` weaves so many entries of two servers (`2`), of sixteen (`16`), or of one
+//! (`adds`, `alternating`, `cells`, `cycle`), and `explain SHAPE` then explains the world.
 #![tactic(auto)]
 
 use std::env;
@@ -9,8 +10,10 @@ use std::rt::Env;
 mod forms;
 mod measure;
 mod ring;
+mod shape;
 
 use measure::{Work, measure};
+use shape::Shape;
 
 /// The work that a word names.
 fn work_of(word: &str) -> Option<Work> {
@@ -23,14 +26,17 @@ fn work_of(word: &str) -> Option<Work> {
     }
 }
 
-/// Feeding in pieces of that size, or weaving over so many servers.
+/// Feeding in pieces of that size, or weaving or explaining a world of that shape.
 fn sized_work_of(work: &str, size: &str) -> Option<Work> {
     match work {
         "feed" => Some(Work::Feed {
             piece: size.parse().ok()?,
         }),
         "weave" => Some(Work::Weave {
-            servers: size.parse().ok()?,
+            shape: Shape::named(size)?,
+        }),
+        "explain" => Some(Work::Explain {
+            shape: Shape::named(size)?,
         }),
         _ => None,
     }
@@ -52,7 +58,7 @@ fn asked(words: &[String]) -> Option<(Work, u64)> {
 fn obey<R: Print + Eprint + AllocGlobal>(rt: &R, words: &[String]) -> u8 {
     let Some((work, count)) = asked(words) else {
         let _ = eprintln!(rt;
-            "lynx_bench: begin, deliver, open, encode, feed and the size of a piece, or weave and 2 or 16 servers; and a count"
+            "lynx_bench: begin, deliver, open, encode, feed and the size of a piece, or weave or explain and 2, 16, adds, alternating, cells or cycle; and a count"
         );
         return 2;
     };

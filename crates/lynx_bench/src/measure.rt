@@ -1,6 +1,7 @@
 //! The work that is measured: payments from one server to another, and their forms.
 use crate::forms::{encode_all, feed_all};
-use crate::ring::weave_all;
+use crate::ring::{explain_all, weave_all};
+use crate::shape::Shape;
 use lynx_entry::{Answer, Delivered, Request};
 use lynx_keep::MemoryKeeper;
 use lynx_names::{ClientId, Memory, ProgramId, ServerId, Stamp, Values};
@@ -21,8 +22,10 @@ pub enum Work {
     Encode,
     /// About so many bytes of forms are read, in pieces of that size.
     Feed { piece: usize },
-    /// So many entries of two or sixteen servers come to be, and are woven.
-    Weave { servers: u8 },
+    /// So many entries of that shape come to be, and are woven.
+    Weave { shape: Shape },
+    /// The same, and the world is explained.
+    Explain { shape: Shape },
     /// So many chains begin at the first server.
     Begin,
     /// They begin, and then their messages are delivered to the second server.
@@ -114,7 +117,8 @@ pub fn measure(alloc: Global, work: Work, count: u64) -> Result<u64, Memory> {
     match work {
         Work::Encode => encode_all(alloc, count),
         Work::Feed { piece } => feed_all(alloc, piece, count).map_err(|_| Memory),
-        Work::Weave { servers } => weave_all(alloc, servers, count),
+        Work::Weave { shape } => weave_all(alloc, shape, count),
+        Work::Explain { shape } => explain_all(alloc, shape, count),
         Work::Begin => begin(alloc, count),
         Work::Deliver => deliver(alloc, count),
         Work::Open => open(alloc, count),

@@ -1,30 +1,22 @@
-//! Servers in a ring, each of which pays to the next: their histories, woven to a world.
+//! Servers in a ring and the chains that run there: their histories, woven to a world.
+use crate::shape::Shape;
 use lynx_entry::{Entry, Message, Request};
 use lynx_keep::MemoryKeeper;
 use lynx_names::{ClientId, Memory, ProgramId, ServerId, Stamp, TryCopy, Values};
+use lynx_order::{Explained, explain_by_search};
 use lynx_rules::next_of;
 use lynx_server::Server;
 use lynx_set::ChainSet;
-use lynx_text::parse;
 use lynx_weave::weave;
+use lynx_world::World;
 use std::alloc::Global;
 
-/// A program for each of two servers, which adds there and then at the other.
-const TWO: &str =
-    "lynx 1\nservers 2\ntable t\nshard 0 9 0\nshard 10 18446744073709551615 1\nprogram pay0\nhop 0\nadd t 0 1\nhop 1\nadd t 10 1\nend\nprogram pay1\nhop 1\nadd t 10 1\nhop 0\nadd t 0 1\nend\n";
-
-/// A program for each of sixteen servers, which adds there and then at the next.
-const SIXTEEN: &str =
-    "lynx 1\nservers 16\ntable t\nshard 0 9 0\nshard 10 19 1\nshard 20 29 2\nshard 30 39 3\nshard 40 49 4\nshard 50 59 5\nshard 60 69 6\nshard 70 79 7\nshard 80 89 8\nshard 90 99 9\nshard 100 109 10\nshard 110 119 11\nshard 120 129 12\nshard 130 139 13\nshard 140 149 14\nshard 150 18446744073709551615 15\nprogram pay0\nhop 0\nadd t 0 1\nhop 1\nadd t 10 1\nend\nprogram pay1\nhop 1\nadd t 10 1\nhop 2\nadd t 20 1\nend\nprogram pay2\nhop 2\nadd t 20 1\nhop 3\nadd t 30 1\nend\nprogram pay3\nhop 3\nadd t 30 1\nhop 4\nadd t 40 1\nend\nprogram pay4\nhop 4\nadd t 40 1\nhop 5\nadd t 50 1\nend\nprogram pay5\nhop 5\nadd t 50 1\nhop 6\nadd t 60 1\nend\nprogram pay6\nhop 6\nadd t 60 1\nhop 7\nadd t 70 1\nend\nprogram pay7\nhop 7\nadd t 70 1\nhop 8\nadd t 80 1\nend\nprogram pay8\nhop 8\nadd t 80 1\nhop 9\nadd t 90 1\nend\nprogram pay9\nhop 9\nadd t 90 1\nhop 10\nadd t 100 1\nend\nprogram pay10\nhop 10\nadd t 100 1\nhop 11\nadd t 110 1\nend\nprogram pay11\nhop 11\nadd t 110 1\nhop 12\nadd t 120 1\nend\nprogram pay12\nhop 12\nadd t 120 1\nhop 13\nadd t 130 1\nend\nprogram pay13\nhop 13\nadd t 130 1\nhop 14\nadd t 140 1\nend\nprogram pay14\nhop 14\nadd t 140 1\nhop 15\nadd t 150 1\nend\nprogram pay15\nhop 15\nadd t 150 1\nhop 0\nadd t 0 1\nend\n";
-
-/// The set of a ring of so many servers, two or sixteen.
-fn set_of(alloc: Global, servers: u8) -> Result<ChainSet, Memory> {
-    let text = match servers {
-        2 => TWO,
-        16 => SIXTEEN,
-        _ => return Err(Memory),
-    };
-    parse(alloc, text.as_bytes()).map_err(|_| Memory)
+/// A chain that is to begin: at which server, by which program, and the key that it is given, if it wants one.
+#[derive(Clone, Copy, Debug)]
+struct Start {
+    server: usize,
+    program: u8,
+    key: Option<u64>,
 }
 
 /// The servers of the set.
@@ -37,14 +29,17 @@ fn servers_of(alloc: Global, set: &ChainSet) -> Result<Vec<Server<MemoryKeeper>>
     Ok(ring)
 }
 
-/// The request of that number for the program of that number.
-fn request(alloc: Global, program: usize, number: u64) -> Result<Request, Memory> {
-    let program = u8::try_from(program).map_err(|_| Memory)?;
+/// The request of that number.
+fn request(alloc: Global, start: Start, number: u64) -> Result<Request, Memory> {
+    let mut args = Values::new(alloc);
+    if let Some(key) = start.key {
+        args.push(key)?;
+    }
     Ok(Request {
         client: ClientId::new(1),
         number,
-        program: ProgramId::new(program).ok_or(Memory)?,
-        args: Values::new(alloc),
+        program: ProgramId::new(start.program).ok_or(Memory)?,
+        args,
     })
 }
 
@@ -56,35 +51,33 @@ fn last_sent(alloc: Global, server: &Server<MemoryKeeper>) -> Result<Option<Mess
     }
 }
 
-/// A chain begins at the server of that number: the message that it sends.
+/// A chain begins: the message that it sends.
 fn begin(
     alloc: Global,
-    ring: &mut Vec<Server<MemoryKeeper>>,
-    server: usize,
+    ring: &mut [Server<MemoryKeeper>],
+    start: Start,
     number: u64,
 ) -> Result<Option<Message>, Memory> {
-    let request = request(alloc, server, number)?;
-    let Some(here) = ring.get_mut(server) else {
+    let request = request(alloc, start, number)?;
+    let Some(here) = ring.get_mut(start.server) else {
         return Ok(None);
     };
     let _ = here.begin(alloc, request, Stamp::zero());
     last_sent(alloc, here)
 }
 
-/// A chain begins at the server of that number, and goes on at the next.
-fn pay(
+/// The message, if there is one, is delivered to that server.
+fn deliver(
     alloc: Global,
-    ring: &mut Vec<Server<MemoryKeeper>>,
+    ring: &mut [Server<MemoryKeeper>],
     server: usize,
-    next: usize,
-    number: u64,
-) -> Result<(), Memory> {
-    if let Some(message) = begin(alloc, ring, server, number)? {
-        if let Some(there) = ring.get_mut(next) {
+    message: Option<Message>,
+) {
+    if let Some(message) = message {
+        if let Some(there) = ring.get_mut(server) {
             let _ = there.deliver(alloc, message);
         }
     }
-    Ok(())
 }
 
 /// The next server's number, the first one's behind the last.
@@ -93,15 +86,80 @@ fn next_of_ring(servers: usize, server: usize) -> usize {
     if next < servers { next } else { 0 }
 }
 
-/// Each server in its turn pays to the next, so many times in all.
-fn pay_all(alloc: Global, ring: &mut Vec<Server<MemoryKeeper>>, count: u64) -> Result<(), Memory> {
+/// Each server in its turn begins its program, which goes on at the next, so many times in all.
+fn pay_all(alloc: Global, ring: &mut [Server<MemoryKeeper>], count: u64) -> Result<(), Memory> {
     let mut server = 0;
     for number in 0..count {
+        let start = Start {
+            server,
+            program: u8::try_from(server).map_err(|_| Memory)?,
+            key: None,
+        };
         let next = next_of_ring(ring.len(), server);
-        pay(alloc, ring, server, next, number)?;
+        let message = begin(alloc, ring, start, number)?;
+        deliver(alloc, ring, next, message);
         server = next;
     }
     Ok(())
+}
+
+/// Two chains begin at two servers, and each goes on where the other began.
+fn cross(alloc: Global, ring: &mut [Server<MemoryKeeper>], number: u64) -> Result<(), Memory> {
+    let right = Start {
+        server: 0,
+        program: 0,
+        key: None,
+    };
+    let left = Start {
+        server: 1,
+        program: 1,
+        key: None,
+    };
+    let to_right = begin(alloc, ring, right, number)?;
+    let to_left = begin(alloc, ring, left, number)?;
+    deliver(alloc, ring, 1, to_right);
+    deliver(alloc, ring, 0, to_left);
+    Ok(())
+}
+
+/// So many chains of one hop at the first server.
+fn touch_all(
+    alloc: Global,
+    ring: &mut [Server<MemoryKeeper>],
+    shape: Shape,
+    count: u64,
+) -> Result<(), Memory> {
+    for number in 0..count {
+        let start = Start {
+            server: 0,
+            program: if shape == Shape::Alternating {
+                (number % 2) as u8
+            } else {
+                0
+            },
+            key: Some(if shape == Shape::Cells { number } else { 0 }),
+        };
+        begin(alloc, ring, start, number)?;
+    }
+    Ok(())
+}
+
+/// What the shape's chains do, in so many entries.
+fn run(
+    alloc: Global,
+    ring: &mut [Server<MemoryKeeper>],
+    shape: Shape,
+    entries: u64,
+) -> Result<(), Memory> {
+    match shape {
+        Shape::Two | Shape::Sixteen => pay_all(alloc, ring, entries / 2),
+        Shape::Adds | Shape::Alternating | Shape::Cells => touch_all(alloc, ring, shape, entries),
+        Shape::Cycle => {
+            let before = (entries / 2).saturating_sub(2);
+            pay_all(alloc, ring, before)?;
+            cross(alloc, ring, before)
+        }
+    }
 }
 
 /// A copy of the server's history.
@@ -122,22 +180,40 @@ fn histories_of(alloc: Global, ring: &[Server<MemoryKeeper>]) -> Result<Vec<Vec<
     Ok(histories)
 }
 
-/// The histories of the set's servers after so many payments.
-fn paid(alloc: Global, set: &ChainSet, payments: u64) -> Result<Vec<Vec<Entry>>, Memory> {
+/// The histories of the set's servers after so many entries.
+fn ran(
+    alloc: Global,
+    set: &ChainSet,
+    shape: Shape,
+    entries: u64,
+) -> Result<Vec<Vec<Entry>>, Memory> {
     let mut ring = servers_of(alloc, set)?;
-    pay_all(alloc, &mut ring, payments)?;
+    run(alloc, ring.as_mut_slice(), shape, entries)?;
     histories_of(alloc, ring.as_slice())
 }
 
-/// How many entries a world has that is woven of so many entries over so many servers.
-pub fn weave_all(alloc: Global, servers: u8, entries: u64) -> Result<u64, Memory> {
-    let set = set_of(alloc, servers)?;
-    let histories = paid(alloc, &set, entries / 2)?;
+/// The world that is woven of so many entries, in a box, which is dropped by one call.
+fn woven(alloc: Global, shape: Shape, entries: u64) -> Result<Box<World>, Memory> {
+    let set = shape.set(alloc)?;
+    let histories = ran(alloc, &set, shape, entries)?;
     if histories.len() != usize::from(set.servers()) {
         return Err(Memory);
     }
-    match weave(alloc, &set, histories, &[]) {
-        Ok(world) => Ok(world.len() as u64),
-        Err(_) => Err(Memory),
+    let world = weave(alloc, &set, histories, &[]).map_err(|_| Memory)?;
+    Ok(Box::new(alloc, world)?)
+}
+
+/// How many entries a world has that is woven of so many entries of that shape.
+pub fn weave_all(alloc: Global, shape: Shape, entries: u64) -> Result<u64, Memory> {
+    let world = woven(alloc, shape, entries)?;
+    Ok(world.len() as u64)
+}
+
+/// The same, and then the world is explained: how many chains the order or the cycle has.
+pub fn explain_all(alloc: Global, shape: Shape, entries: u64) -> Result<u64, Memory> {
+    let world = woven(alloc, shape, entries)?;
+    match explain_by_search(alloc, &world)? {
+        Some(Explained::Order(chains) | Explained::Cycle(chains)) => Ok(chains.len() as u64),
+        None => Err(Memory),
     }
 }

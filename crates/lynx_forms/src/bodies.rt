@@ -136,6 +136,20 @@ fn put_hop(out: &mut Vec<u8>, entry: &HopEntry)
     put_values(out, &entry.results);
 }
 
+/// Adds the body of an entry.
+pub fn put_entry(out: &mut Vec<u8>, entry: &Entry)
+    requires range { IsInRange (Item.Entry entry.now) }
+    requires room { HasRoom out.old HOP_BYTES }
+    ensures added { Adds out.old out.new (body (Item.Entry entry.now)) HOP_BYTES }
+    ensures range { IsItem (Item.Entry entry.now) }
+{
+    match entry {
+        Entry::Begun(entry) => put_begun(out, entry),
+        Entry::Refused(entry) => put_refused(out, entry),
+        Entry::Hop(entry) => put_hop(out, entry),
+    }
+}
+
 /// Adds the body of an item.
 pub fn put_body(out: &mut Vec<u8>, item: &Item)
     requires range { IsInRange item.now }
@@ -150,8 +164,6 @@ pub fn put_body(out: &mut Vec<u8>, item: &Item)
         Item::Answer(given) => put_answer(out, given),
         Item::Looked(given) => put_looked(out, given),
         Item::Message(sent) => put_message(out, sent),
-        Item::Entry(Entry::Begun(entry)) => put_begun(out, entry),
-        Item::Entry(Entry::Refused(entry)) => put_refused(out, entry),
-        Item::Entry(Entry::Hop(entry)) => put_hop(out, entry),
+        Item::Entry(entry) => put_entry(out, entry),
     }
 }

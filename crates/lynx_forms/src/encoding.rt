@@ -4,11 +4,12 @@ ghost use Rattle.lynx_forms.specs.Adding.{HasRoom};
 ghost use Rattle.lynx_forms.specs.Form.{form};
 ghost use Rattle.lynx_forms.specs.Ranges.{IsInRange, IsItem};
 
-use crate::bodies::put_body;
+use crate::bodies::{put_body, put_entry};
 use crate::item::Item;
 use crate::limits::MAX_FORM_BYTES;
 use crate::tag::Tag;
 use crate::writing::put_byte;
+use lynx_entry::Entry;
 use lynx_names::Memory;
 use std::alloc::Global;
 
@@ -25,6 +26,23 @@ pub fn append(item: &Item, out: &mut Vec<u8>)
     let start = out.len();
     out.extend_from_slice(&[0, 0, 0, 0]).unwrap();
     put_body(out, item);
+    let length = (out.len() - start - 4) as u32;
+    out[start..start + 4].copy_from_slice(&length.to_be_bytes());
+}
+
+/// Adds the form of an entry, as `append` adds that of the item that has it: no copy of the entry is made.
+#[tactic(auto, unfolding(crate::specs::Form::form, crate::specs::Form::length_bytes))]
+pub fn append_entry(entry: &Entry, out: &mut Vec<u8>)
+    requires range { IsInRange (Item.Entry entry.now) }
+    requires room { HasRoom out.old MAX_FORM_BYTES }
+    ensures form { out.new.items ≡ out.old.items ++ form (Item.Entry entry.now) }
+    ensures capacity { vec_capacity out.old ≤ vec_capacity out.new }
+    ensures item { IsItem (Item.Entry entry.now) }
+{
+    put_byte(out, Tag::of_entry(entry).byte());
+    let start = out.len();
+    out.extend_from_slice(&[0, 0, 0, 0]).unwrap();
+    put_entry(out, entry);
     let length = (out.len() - start - 4) as u32;
     out[start..start + 4].copy_from_slice(&length.to_be_bytes());
 }

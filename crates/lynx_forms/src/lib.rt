@@ -2,7 +2,7 @@
 //! back.
 #![tactic(auto)]
 
-pub use encoding::{append, encode};
+pub use encoding::{append, append_entry, encode};
 pub use fault::DecodeFault;
 pub use feed::Feed;
 pub use item::{Item, Look, Looked};

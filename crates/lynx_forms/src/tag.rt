@@ -34,9 +34,17 @@ impl Tag {
             Item::Looked(_) => Tag::Looked,
             Item::Bye => Tag::Bye,
             Item::Message(_) => Tag::Message,
-            Item::Entry(Entry::Begun(_)) => Tag::Begun,
-            Item::Entry(Entry::Refused(_)) => Tag::Refused,
-            Item::Entry(Entry::Hop(_)) => Tag::Hop,
+            Item::Entry(entry) => Tag::of_entry(entry),
+        }
+    }
+
+    pub fn of_entry(entry: &Entry) -> Tag
+        ensures { result ≡ tag (Item.Entry entry.now) }
+    {
+        match entry {
+            Entry::Begun(_) => Tag::Begun,
+            Entry::Refused(_) => Tag::Refused,
+            Entry::Hop(_) => Tag::Hop,
         }
     }
 

@@ -9,8 +9,8 @@ use crate::keeper::{Keeper, Loaded};
 use crate::reading::read_entries;
 use lynx_cells::{Cells, Changes};
 use lynx_entry::Entry;
+use lynx_forms::append_entry;
 use lynx_forms::limits::MAX_FORM_BYTES;
-use lynx_forms::{Item, append};
 use lynx_names::{Memory, TryCopy};
 use std::alloc::Global;
 use std::marker::Model;
@@ -58,27 +58,27 @@ impl MemoryKeeper {
     {
         let mut forms = Vec::new(alloc);
         for entry in entries {
-            add_form(alloc, &mut forms, entry)?;
+            add_form(&mut forms, entry)?;
         }
         let cells = copy_cells(alloc, cells)?;
         Ok(MemoryKeeper { forms, cells })
     }
 
     /// All growth comes first.
-    fn keep(&mut self, alloc: Global, entry: &Entry, changes: &Changes) -> Result<(), Memory>
+    fn keep(&mut self, entry: &Entry, changes: &Changes) -> Result<(), Memory>
         requires { IsEntryInRange entry.now }
         ensures ok { OnOk result (self.new ≡ with_entry self.old entry.now changes.now) }
         ensures err { OnErr result (self.new ≡ self.old) }
     {
         self.cells.stage(changes)?;
-        add_form(alloc, &mut self.forms, entry)?;
+        add_form(&mut self.forms, entry)?;
         self.cells.apply(changes);
         Ok(())
     }
 }
 
 /// Adds the form of an entry behind those of others.
-fn add_form(alloc: Global, forms: &mut Vec<u8>, entry: &Entry) -> Result<(), Memory>
+fn add_form(forms: &mut Vec<u8>, entry: &Entry) -> Result<(), Memory>
     requires stored { AreStored forms.old.items }
     requires range { IsEntryInRange entry.now }
     ensures ok { OnOk result (entries_in forms.new.items
@@ -87,8 +87,7 @@ fn add_form(alloc: Global, forms: &mut Vec<u8>, entry: &Entry) -> Result<(), Mem
     ensures stored { AreStored forms.new.items }
 {
     forms.reserve(MAX_FORM_BYTES)?;
-    let item = Item::Entry(entry.copy(alloc)?);
-    append(&item, forms);
+    append_entry(entry, forms);
     Ok(())
 }
 
@@ -107,8 +106,13 @@ impl Keeper for MemoryKeeper {
 
     ghost terms = { memory_terms };
 
-    fn commit(&mut self, alloc: Global, entry: &Entry, changes: &Changes) -> Result<(), KeepFault> {
-        self.keep(alloc, entry, changes)?;
+    fn commit(
+        &mut self,
+        _alloc: Global,
+        entry: &Entry,
+        changes: &Changes,
+    ) -> Result<(), KeepFault> {
+        self.keep(entry, changes)?;
         Ok(())
     }
 

@@ -1,7 +1,9 @@
 //! Copies are equal to what they are copies of, with ample memory.
+use lynx_entry::{Answer, AnswerRoom};
+use lynx_names::limits::MAX_ACTIONS;
 use lynx_names::{Memory, TryCopy};
-use lynx_samples::made::{entry, lists};
-use lynx_samples::parts::{EntryParts, RefusedParts};
+use lynx_samples::made::{answer, entry, lists};
+use lynx_samples::parts::{AnswerParts, EntryParts, RefusedParts};
 use lynx_samples::payments::{ARRIVED, PAID, PAY};
 use std::alloc::Global;
 
@@ -39,4 +41,63 @@ fn entries_are_copied(rt: HostRuntime) {
         let made = entry(rt.alloc(), parts);
         assert!(rt; is_copied(rt.alloc(), made) == Ok(true), "entry {place}");
     }
+}
+
+/// Each answer, one with as many results as a hop has.
+const ANSWERS: &[AnswerParts] = &[
+    AnswerParts::Begun {
+        origin: 3,
+        index: 5,
+        time: 8,
+        results: &[1, 2, 3, 4, 5, 6, 7, 8, 9, 10, 11, 12, 13, 14, 15, 16],
+        again: true,
+    },
+    AnswerParts::Begun {
+        origin: 0,
+        index: 0,
+        time: 1,
+        results: &[],
+        again: false,
+    },
+    AnswerParts::Refused {
+        need: 2,
+        time: 9,
+        again: true,
+    },
+    AnswerParts::Clash,
+    AnswerParts::UnknownProgram,
+    AnswerParts::WrongOrigin,
+    AnswerParts::ArgCount,
+    AnswerParts::WrongShard,
+    AnswerParts::Full,
+    AnswerParts::Busy,
+    AnswerParts::Stopped,
+    AnswerParts::Memory,
+];
+
+/// Whether there is room for a copy of the answer, and the copy is equal.
+fn is_noted(alloc: Global, answer: &Answer) -> Result<bool, Memory> {
+    match answer {
+        Answer::Begun { results, .. } if results.len() > MAX_ACTIONS => Ok(false),
+        answer => {
+            let room = AnswerRoom::new(alloc)?;
+            Ok(room.copy_of(answer) == *answer)
+        }
+    }
+}
+
+#[test]
+fn answers_are_copied(rt: HostRuntime) -> Result<(), Memory> {
+    for (place, &parts) in ANSWERS.iter().enumerate() {
+        assert!(rt;
+            is_copied(rt.alloc(), answer(rt.alloc(), parts)) == Ok(true),
+            "answer {place}"
+        );
+        let made = answer(rt.alloc(), parts)?;
+        assert!(rt;
+            is_noted(rt.alloc(), &made) == Ok(true),
+            "room for answer {place}"
+        );
+    }
+    Ok(())
 }

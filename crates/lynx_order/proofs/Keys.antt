@@ -13,7 +13,7 @@ use Rattle.lynx_set.specs.declared.action.Key.TheVariants.{Literal, Param}
 use Rattle.lynx_set.specs.declared.program.Hop.{Hop}
 use Rattle.lynx_set.specs.Home.{AreLiteralsHome, is_action_home}
 use Rattle.lynx_set.specs.Set.{Set}
-use Rattle.lynx_set.specs.Standing.{is_home}
+use Rattle.lynx_set.specs.Scopes.{is_home}
 use Rattle.lynx_hops.specs.Meaning.{key_of}
 use Rattle.lynx_foot.specs.declared.touch.Touch.{Touch}
 use Rattle.lynx_foot.specs.Feet.{foot_of, touch_of, touches_of}

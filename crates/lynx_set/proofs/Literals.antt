@@ -10,9 +10,9 @@ use Rattle.lynx_set.specs.declared.program.Program.{Program}
 use Rattle.lynx_set.specs.Home.{AreLiteralsHome, is_action_home}
 use Rattle.lynx_set.specs.Lookups.{hop_at}
 use Rattle.lynx_set.specs.Plain.{PlainHop, PlainProgram, PlainSet, plain_hop, plain_named, plain_set}
-use Rattle.lynx_set.specs.Rules.{FitActions, FitHops, FitPrograms, next_place, with_hop, with_program, no_programs, IsSet}
+use Rattle.lynx_set.specs.Rules.{FitActions, FitHops, FitPrograms, next_scope, with_hop, with_program, no_programs, IsSet}
 use Rattle.lynx_set.specs.Set.{Set}
-use Rattle.lynx_set.specs.Standing.{Place, place_in}
+use Rattle.lynx_set.specs.Scopes.{PlainScope, scope_in}
 
 -- the literal keys of these actions are at the server
 abbrev AreHome : List (List Shard) → ℕ → List Action → Type 0
@@ -21,14 +21,14 @@ AreHome shards server actions = list_all (is_action_home shards server) actions 
 both_true : (a b : Bool) → a ≡ true → b ≡ true → (a && b) ≡ true
 both_true a b first second = ap (λ x. x && b) first ∙ second
 
-home_actions : (place : Place) (actions : List Action) (known : List (List ℕ)) → FitActions place actions known → AreHome place.shards place.server actions
-home_actions place [] known fit = refl
-home_actions place (Get table key ∷ actions) known fit = both_true _ _ fit.1.at_home (home_actions (next_place place fit.2) actions known fit.4)
-home_actions place (SetCell table key value ∷ actions) known fit = both_true _ _ fit.1.0.at_home (home_actions (next_place place fit.2) actions known fit.4)
-home_actions place (Add table key value ∷ actions) known fit = both_true _ _ fit.1.0.at_home (home_actions (next_place place fit.2) actions known fit.4)
-home_actions place (Sub table key value ∷ actions) known fit = both_true _ _ fit.1.0.at_home (home_actions (next_place place fit.2) actions known fit.4)
-home_actions place (Let left operator right ∷ actions) known fit = home_actions (next_place place fit.2) actions known fit.4
-home_actions place (Need left relation right ∷ actions) known fit = home_actions (next_place place fit.2) actions known fit.4
+home_actions : (scope : PlainScope) (actions : List Action) (known : List (List ℕ)) → FitActions scope actions known → AreHome scope.shards scope.server actions
+home_actions scope [] known fit = refl
+home_actions scope (Get table key ∷ actions) known fit = both_true _ _ fit.1.at_home (home_actions (next_scope scope fit.2) actions known fit.4)
+home_actions scope (SetCell table key value ∷ actions) known fit = both_true _ _ fit.1.0.at_home (home_actions (next_scope scope fit.2) actions known fit.4)
+home_actions scope (Add table key value ∷ actions) known fit = both_true _ _ fit.1.0.at_home (home_actions (next_scope scope fit.2) actions known fit.4)
+home_actions scope (Sub table key value ∷ actions) known fit = both_true _ _ fit.1.0.at_home (home_actions (next_scope scope fit.2) actions known fit.4)
+home_actions scope (Let left operator right ∷ actions) known fit = home_actions (next_scope scope fit.2) actions known fit.4
+home_actions scope (Need left relation right ∷ actions) known fit = home_actions (next_scope scope fit.2) actions known fit.4
 
 home_hop : (set : PlainSet) (program : PlainProgram) (hops : List PlainHop) (after : List (List ℕ)) (i : ℕ) (hop : PlainHop) →
     FitHops set program hops after → slice_get hops i ≡ Some hop → AreHome set.shards hop.server hop.actions
@@ -36,7 +36,7 @@ home_hop set program [] after i hop fit is = cc
 home_hop set program (first ∷ hops) after zero hop fit is =
     let same : first ≡ hop = cc in
     subst (λ (h : PlainHop). AreHome set.shards h.server h.actions) same
-    (home_actions (place_in set first.server program []) first.actions fit.3 fit.4)
+    (home_actions (scope_in set first.server program []) first.actions fit.3 fit.4)
 home_hop set program (first ∷ hops) after (suc i) hop fit is = home_hop set (with_hop program first fit.3) hops after i hop fit.5 is
 
 home_program : (set : PlainSet) (programs : List (List ℕ × PlainProgram)) (i : ℕ) (named : List ℕ × PlainProgram) → FitPrograms set programs →

@@ -7,7 +7,7 @@ use Rattle.lynx_set.specs.declared.action.Key.{Key}
 use Rattle.lynx_set.specs.declared.program.Hop.{Hop}
 use Rattle.lynx_set.specs.Lookups.{cell_of, hop_at}
 use Rattle.lynx_set.specs.Set.{Set}
-use Rattle.lynx_set.specs.Standing.{is_home}
+use Rattle.lynx_set.specs.Scopes.{is_home}
 
 -- the cell is at the server, if its key is a literal
 abbrev pub is_cell_home : List (List Shard) → ℕ → Option (ℕ × Key) → Bool

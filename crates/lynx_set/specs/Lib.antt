@@ -4,5 +4,5 @@ pub mod Names
 pub mod Plain
 pub mod Rules
 pub mod Set
-pub mod Standing
+pub mod Scopes
 pub mod Text

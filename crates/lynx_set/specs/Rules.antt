@@ -9,10 +9,10 @@ use Rattle.lynx_set.specs.declared.action.Key.{Key}
 use Rattle.lynx_set.specs.declared.action.Key.TheVariants.{Literal, Param}
 use Rattle.lynx_set.specs.declared.action.Operand.{Operand}
 use Rattle.lynx_set.specs.declared.action.Operand.TheVariants.{Number, Name}
-use Rattle.lynx_set.specs.Standing.{place_in}
+use Rattle.lynx_set.specs.Scopes.{scope_in}
 use Rattle.lynx_set.specs.Plain.{PlainHop, PlainProgram, PlainSet, plain_set}
 use Rattle.lynx_set.specs.Names.{place_of}
-use Rattle.lynx_set.specs.Standing.{Place, is_home}
+use Rattle.lynx_set.specs.Scopes.{PlainScope, is_home}
 use Rattle.lynx_set.specs.Set.{Set as ChainSet}
 use Rattle.lynx_set.specs.Text.{text_of}
 use Rattle.lynx_words.specs.Word.{is_name}
@@ -38,30 +38,30 @@ FitsOperand names (Number number) = number < 2 ^ 64
 FitsOperand names (Name place) = (place < names) × (place < 2 ^ 8)
 
 -- the cell of an action is one of the tables', and at the hop's server where its key is a number
-pub record FitsCell (place : Place) (table : ℕ) (key : Key) : Type 0 where
-  pub table_is : table < length place.tables
+pub record FitsCell (scope : PlainScope) (table : ℕ) (key : Key) : Type 0 where
+  pub table_is : table < length scope.tables
   pub numbered : table < MAX_TABLES
-  pub key_is : FitsKey place.parameters key
-  pub at_home : is_home place.shards place.server table key ≡ true
+  pub key_is : FitsKey scope.parameters key
+  pub at_home : is_home scope.shards scope.server table key ≡ true
 
 -- what an action may say where it stands
-abbrev pub FitsAction : Place → Action → Type 0
-FitsAction place (Get table key) = FitsCell place table key
-FitsAction place (Set table key value) = FitsCell place table key × FitsOperand (length place.names) value
-FitsAction place (Add table key value) = FitsCell place table key × FitsOperand (length place.names) value
-FitsAction place (Sub table key value) = FitsCell place table key × FitsOperand (length place.names) value
-FitsAction place (Let left operator right) = FitsOperand (length place.names) left × FitsOperand (length place.names) right
-FitsAction place (Need left relation right) = (place.is_first ≡ true) × FitsOperand (length place.names) left × FitsOperand (length place.names) right
+abbrev pub FitsAction : PlainScope → Action → Type 0
+FitsAction scope (Get table key) = FitsCell scope table key
+FitsAction scope (Set table key value) = FitsCell scope table key × FitsOperand (length scope.names) value
+FitsAction scope (Add table key value) = FitsCell scope table key × FitsOperand (length scope.names) value
+FitsAction scope (Sub table key value) = FitsCell scope table key × FitsOperand (length scope.names) value
+FitsAction scope (Let left operator right) = FitsOperand (length scope.names) left × FitsOperand (length scope.names) right
+FitsAction scope (Need left relation right) = (scope.is_first ≡ true) × FitsOperand (length scope.names) left × FitsOperand (length scope.names) right
 
 -- an action binds a new name, or none
-abbrev pub BindsNew : Place → Action → Option (List ℕ) → Type 0
-BindsNew place (Get table key) (Some name) = IsNew place.names name
-BindsNew place (Let left operator right) (Some name) = IsNew place.names name
-BindsNew place (Set table key value) None = Unit {0}
-BindsNew place (Add table key value) None = Unit {0}
-BindsNew place (Sub table key value) None = Unit {0}
-BindsNew place (Need left relation right) None = Unit {0}
-BindsNew place action binds = ⊥
+abbrev pub BindsNew : PlainScope → Action → Option (List ℕ) → Type 0
+BindsNew scope (Get table key) (Some name) = IsNew scope.names name
+BindsNew scope (Let left operator right) (Some name) = IsNew scope.names name
+BindsNew scope (Set table key value) None = Unit {0}
+BindsNew scope (Add table key value) None = Unit {0}
+BindsNew scope (Sub table key value) None = Unit {0}
+BindsNew scope (Need left relation right) None = Unit {0}
+BindsNew scope action binds = ⊥
 
 -- the names that are bound
 abbrev pub bound : Option (List ℕ) → List (List ℕ)
@@ -69,14 +69,14 @@ bound None = []
 bound (Some name) = name ∷ []
 
 -- where the action after one stands that binds this
-abbrev pub next_place : Place → Option (List ℕ) → Place
-next_place place binds = record place { names = place.names ++ bound binds; actions = place.actions + 1 }
+abbrev pub next_scope : PlainScope → Option (List ℕ) → PlainScope
+next_scope scope binds = record scope { names = scope.names ++ bound binds; actions = scope.actions + 1 }
 
 -- actions that can follow one another, after which these names are known
-abbrev pub FitActions : Place → List Action → List (List ℕ) → Type 0
-FitActions place [] after = place.names ≡ after
-FitActions place (action ∷ actions) after =
-    (place.actions < MAX_ACTIONS) × FitsAction place action × (binds : Option (List ℕ)) × BindsNew place action binds × FitActions (next_place place binds) actions after
+abbrev pub FitActions : PlainScope → List Action → List (List ℕ) → Type 0
+FitActions scope [] after = scope.names ≡ after
+FitActions scope (action ∷ actions) after =
+    (scope.actions < MAX_ACTIONS) × FitsAction scope action × (binds : Option (List ℕ)) × BindsNew scope action binds × FitActions (next_scope scope binds) actions after
 
 -- a program with one more hop, after which these names are known
 abbrev pub with_hop : PlainProgram → PlainHop → List (List ℕ) → PlainProgram
@@ -87,7 +87,7 @@ abbrev pub FitHops : PlainSet → PlainProgram → List PlainHop → List (List 
 FitHops set program [] after = program.names ≡ after
 FitHops set program (hop ∷ hops) after =
     (length program.hops < MAX_HOPS) × (hop.server < set.servers) × (0 < length hop.actions)
-    × (names : List (List ℕ)) × FitActions (place_in set hop.server program []) hop.actions names × FitHops set (with_hop program hop names) hops after
+    × (names : List (List ℕ)) × FitActions (scope_in set hop.server program []) hop.actions names × FitHops set (with_hop program hop names) hops after
 
 -- a program of the set: few parameters, a hop at least, and no name but those that it binds
 pub record FitsProgram (set : PlainSet) (program : PlainProgram) : Type 0 where

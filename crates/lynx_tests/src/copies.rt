@@ -2,7 +2,7 @@
 use lynx_entry::{Answer, AnswerRoom};
 use lynx_names::limits::MAX_ACTIONS;
 use lynx_names::{Memory, TryCopy};
-use lynx_samples::made::{answer, entry, lists};
+use lynx_samples::made::{answer, boxed, entry, lists};
 use lynx_samples::parts::{AnswerParts, EntryParts, RefusedParts};
 use lynx_samples::payments::{ARRIVED, PAID, PAY};
 use std::alloc::Global;
@@ -93,7 +93,7 @@ fn answers_are_copied(rt: HostRuntime) -> Result<(), Memory> {
             is_copied(rt.alloc(), answer(rt.alloc(), parts)) == Ok(true),
             "answer {place}"
         );
-        let made = answer(rt.alloc(), parts)?;
+        let made = boxed(rt.alloc(), answer(rt.alloc(), parts))?;
         assert!(rt;
             is_noted(rt.alloc(), &made) == Ok(true),
             "room for answer {place}"

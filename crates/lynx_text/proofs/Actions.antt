@@ -16,18 +16,18 @@ use Rattle.lynx_words.specs.Lines.{◌>>=◌, only_if}
 use Rattle.lynx_words.specs.Word.{is_name}
 use Rattle.lynx_set.specs.Rules.{IsNew, FitsKey, FitsOperand, FitsAction, BindsNew, bound}
 use Rattle.lynx_set.specs.Names.{place_of}
-use Rattle.lynx_set.specs.Standing.{Place, is_home}
+use Rattle.lynx_set.specs.Scopes.{PlainScope, is_home}
 use Rattle.lynx_text.specs.Reading.{name_of, new_name, table_of, read_key, operand_of, room, home, binding, plain, changing, operator_of, relation_of, get_of, change_of, let_of, need_of, action_of}
 use Rattle.lynx_set.specs.Text.{name_at, key_word, operand_word, operator_word, relation_word, action_words}
 use Rattle.lynx_text.proofs.Lookups.{bind_some, only_if_some, map_some, choose, name_at-next, table_take, key_take, operand_take}
 use Rattle.lynx_words.proofs.Equal.{some_is, none_some}
 
 -- a line that can stand there, and its words, whatever names come after
-pub record IsLine (place : Place) (line : ActionLine) (words : List (List ℕ)) : Type 0 where
-  pub room : place.actions < 16
-  pub fits : FitsAction place line.action
-  pub binds : BindsNew place line.action line.binds
-  pub spelled : (more : List (List ℕ)) → words ≡ action_words place.tables (place.names ++ (bound line.binds ++ more)) (length place.names) line.action
+pub record IsLine (scope : PlainScope) (line : ActionLine) (words : List (List ℕ)) : Type 0 where
+  pub room : scope.actions < 16
+  pub fits : FitsAction scope line.action
+  pub binds : BindsNew scope line.action line.binds
+  pub spelled : (more : List (List ℕ)) → words ≡ action_words scope.tables (scope.names ++ (bound line.binds ++ more)) (length scope.names) line.action
 
 pub new_take : (names : List (List ℕ)) (word name : List ℕ) → new_name names word ≡ Some name → IsNew names name × (word ≡ name)
 new_take names word name e =
@@ -41,11 +41,11 @@ new_take names word name e =
     none_is None h = refl
     none_is (Some x) h = absurd cc
 
-room_take : (place : Place) (x : Unit {0}) → room place ≡ Some x → place.actions < 16
-room_take place x e = ltb-true _ _ (only_if_some (ltb place.actions 16) tt x e).0
+room_take : (scope : PlainScope) (x : Unit {0}) → room scope ≡ Some x → scope.actions < 16
+room_take scope x e = ltb-true _ _ (only_if_some (ltb scope.actions 16) tt x e).0
 
-home_take : (place : Place) (table : ℕ) (key : Key) (x : Unit {0}) → home place table key ≡ Some x → is_home place.shards place.server table key ≡ true
-home_take place table key x e = (only_if_some (is_home place.shards place.server table key) tt x e).0
+home_take : (scope : PlainScope) (table : ℕ) (key : Key) (x : Unit {0}) → home scope table key ≡ Some x → is_home scope.shards scope.server table key ≡ true
+home_take scope table key x e = (only_if_some (is_home scope.shards scope.server table key) tt x e).0
 
 operator_take : (word : List ℕ) (operator : Operator) → operator_of word ≡ Some operator → word ≡ operator_word operator
 unfolding operator_of
@@ -76,146 +76,146 @@ relation_take word relation e =
     ]
 
 -- the words behind a verb, where the verb makes them whole
-abbrev pub IsLineAfter : List ℕ → Place → ActionLine → List (List ℕ) → Type 0
-IsLineAfter verb place line words = IsLine place line (verb ∷ words)
+abbrev pub IsLineAfter : List ℕ → PlainScope → ActionLine → List (List ℕ) → Type 0
+IsLineAfter verb scope line words = IsLine scope line (verb ∷ words)
 
-get_take : (place : Place) (words : List (List ℕ)) (line : ActionLine) → get_of place words ≡ Some line → IsLineAfter (codes "get") place line words
+get_take : (scope : PlainScope) (words : List (List ℕ)) (line : ActionLine) → get_of scope words ≡ Some line → IsLineAfter (codes "get") scope line words
 unfolding get_of
-get_take place [] line e = absurd cc
-get_take place (a ∷ []) line e = absurd cc
-get_take place (a ∷ b ∷ []) line e = absurd cc
-get_take place (a ∷ b ∷ c ∷ d ∷ words) line e = absurd cc
-get_take place (name ∷ table ∷ key ∷ []) line e =
-    let s_ok = bind_some (room place) (λ ok. new_name place.names name >>= λ n. table_of place.tables table >>= λ t. read_key place.names place.parameters key >>= λ k. home place t k >>= λ at. Some (binding n (Get t k))) line e in
-    let s_n = bind_some (new_name place.names name) (λ n. table_of place.tables table >>= λ t. read_key place.names place.parameters key >>= λ k. home place t k >>= λ at. Some (binding n (Get t k))) line s_ok.2 in
-    let s_t = bind_some (table_of place.tables table) (λ t. read_key place.names place.parameters key >>= λ k. home place t k >>= λ at. Some (binding s_n.0 (Get t k))) line s_n.2 in
-    let s_k = bind_some (read_key place.names place.parameters key) (λ k. home place s_t.0 k >>= λ at. Some (binding s_n.0 (Get s_t.0 k))) line s_t.2 in
-    let s_at = bind_some (home place s_t.0 s_k.0) (λ at. Some (binding s_n.0 (Get s_t.0 s_k.0))) line s_k.2 in
-    let new = new_take place.names name s_n.0 s_n.1 in
-    let at = table_take place.tables table s_t.0 s_t.1 in
-    subst (λ (l : ActionLine). IsLine place l (codes "get" ∷ name ∷ table ∷ key ∷ [])) (some_is (binding s_n.0 (Get s_t.0 s_k.0)) line s_at.2) (record {
-      room = room_take place s_ok.0 s_ok.1;
-      fits = record { table_is = at.0; numbered = at.2; key_is = (key_take place.names [] place.parameters key s_k.0 s_k.1).0; at_home = home_take place s_t.0 s_k.0 s_at.0 s_at.1 };
+get_take scope [] line e = absurd cc
+get_take scope (a ∷ []) line e = absurd cc
+get_take scope (a ∷ b ∷ []) line e = absurd cc
+get_take scope (a ∷ b ∷ c ∷ d ∷ words) line e = absurd cc
+get_take scope (name ∷ table ∷ key ∷ []) line e =
+    let s_ok = bind_some (room scope) (λ ok. new_name scope.names name >>= λ n. table_of scope.tables table >>= λ t. read_key scope.names scope.parameters key >>= λ k. home scope t k >>= λ at. Some (binding n (Get t k))) line e in
+    let s_n = bind_some (new_name scope.names name) (λ n. table_of scope.tables table >>= λ t. read_key scope.names scope.parameters key >>= λ k. home scope t k >>= λ at. Some (binding n (Get t k))) line s_ok.2 in
+    let s_t = bind_some (table_of scope.tables table) (λ t. read_key scope.names scope.parameters key >>= λ k. home scope t k >>= λ at. Some (binding s_n.0 (Get t k))) line s_n.2 in
+    let s_k = bind_some (read_key scope.names scope.parameters key) (λ k. home scope s_t.0 k >>= λ at. Some (binding s_n.0 (Get s_t.0 k))) line s_t.2 in
+    let s_at = bind_some (home scope s_t.0 s_k.0) (λ at. Some (binding s_n.0 (Get s_t.0 s_k.0))) line s_k.2 in
+    let new = new_take scope.names name s_n.0 s_n.1 in
+    let at = table_take scope.tables table s_t.0 s_t.1 in
+    subst (λ (l : ActionLine). IsLine scope l (codes "get" ∷ name ∷ table ∷ key ∷ [])) (some_is (binding s_n.0 (Get s_t.0 s_k.0)) line s_at.2) (record {
+      room = room_take scope s_ok.0 s_ok.1;
+      fits = record { table_is = at.0; numbered = at.2; key_is = (key_take scope.names [] scope.parameters key s_k.0 s_k.1).0; at_home = home_take scope s_t.0 s_k.0 s_at.0 s_at.1 };
       binds = new.0;
       spelled = λ more.
-          ap (λ (w : List ℕ). codes "get" ∷ w ∷ table ∷ key ∷ []) (new.1 ∙ sym (name_at-next place.names s_n.0 more))
-          ∙ ap (λ (w : List ℕ). codes "get" ∷ name_at (place.names ++ s_n.0 ∷ more) (length place.names) ∷ w ∷ key ∷ []) at.1
-          ∙ ap (λ (w : List ℕ). codes "get" ∷ name_at (place.names ++ s_n.0 ∷ more) (length place.names) ∷ name_at place.tables s_t.0 ∷ w ∷ []) (key_take place.names (s_n.0 ∷ more) place.parameters key s_k.0 s_k.1).1;
+          ap (λ (w : List ℕ). codes "get" ∷ w ∷ table ∷ key ∷ []) (new.1 ∙ sym (name_at-next scope.names s_n.0 more))
+          ∙ ap (λ (w : List ℕ). codes "get" ∷ name_at (scope.names ++ s_n.0 ∷ more) (length scope.names) ∷ w ∷ key ∷ []) at.1
+          ∙ ap (λ (w : List ℕ). codes "get" ∷ name_at (scope.names ++ s_n.0 ∷ more) (length scope.names) ∷ name_at scope.tables s_t.0 ∷ w ∷ []) (key_take scope.names (s_n.0 ∷ more) scope.parameters key s_k.0 s_k.1).1;
     })
 
-let_take : (place : Place) (words : List (List ℕ)) (line : ActionLine) → let_of place words ≡ Some line → IsLineAfter (codes "let") place line words
+let_take : (scope : PlainScope) (words : List (List ℕ)) (line : ActionLine) → let_of scope words ≡ Some line → IsLineAfter (codes "let") scope line words
 unfolding let_of
-let_take place [] line e = absurd cc
-let_take place (a ∷ []) line e = absurd cc
-let_take place (a ∷ b ∷ []) line e = absurd cc
-let_take place (a ∷ b ∷ c ∷ []) line e = absurd cc
-let_take place (a ∷ b ∷ c ∷ d ∷ f ∷ words) line e = absurd cc
-let_take place (name ∷ left ∷ operator ∷ right ∷ []) line e =
-    let s_o = bind_some (operator_of operator) (λ o. room place >>= λ ok. new_name place.names name >>= λ n. operand_of place.names left >>= λ l. operand_of place.names right >>= λ r. Some (binding n (Let l o r))) line e in
-    let s_ok = bind_some (room place) (λ ok. new_name place.names name >>= λ n. operand_of place.names left >>= λ l. operand_of place.names right >>= λ r. Some (binding n (Let l s_o.0 r))) line s_o.2 in
-    let s_n = bind_some (new_name place.names name) (λ n. operand_of place.names left >>= λ l. operand_of place.names right >>= λ r. Some (binding n (Let l s_o.0 r))) line s_ok.2 in
-    let s_l = bind_some (operand_of place.names left) (λ l. operand_of place.names right >>= λ r. Some (binding s_n.0 (Let l s_o.0 r))) line s_n.2 in
-    let s_r = bind_some (operand_of place.names right) (λ r. Some (binding s_n.0 (Let s_l.0 s_o.0 r))) line s_l.2 in
-    let new = new_take place.names name s_n.0 s_n.1 in
-    subst (λ (x : ActionLine). IsLine place x (codes "let" ∷ name ∷ left ∷ operator ∷ right ∷ [])) (some_is (binding s_n.0 (Let s_l.0 s_o.0 s_r.0)) line s_r.2) (record {
-      room = room_take place s_ok.0 s_ok.1;
-      fits = ((operand_take place.names [] left s_l.0 s_l.1).0, (operand_take place.names [] right s_r.0 s_r.1).0);
+let_take scope [] line e = absurd cc
+let_take scope (a ∷ []) line e = absurd cc
+let_take scope (a ∷ b ∷ []) line e = absurd cc
+let_take scope (a ∷ b ∷ c ∷ []) line e = absurd cc
+let_take scope (a ∷ b ∷ c ∷ d ∷ f ∷ words) line e = absurd cc
+let_take scope (name ∷ left ∷ operator ∷ right ∷ []) line e =
+    let s_o = bind_some (operator_of operator) (λ o. room scope >>= λ ok. new_name scope.names name >>= λ n. operand_of scope.names left >>= λ l. operand_of scope.names right >>= λ r. Some (binding n (Let l o r))) line e in
+    let s_ok = bind_some (room scope) (λ ok. new_name scope.names name >>= λ n. operand_of scope.names left >>= λ l. operand_of scope.names right >>= λ r. Some (binding n (Let l s_o.0 r))) line s_o.2 in
+    let s_n = bind_some (new_name scope.names name) (λ n. operand_of scope.names left >>= λ l. operand_of scope.names right >>= λ r. Some (binding n (Let l s_o.0 r))) line s_ok.2 in
+    let s_l = bind_some (operand_of scope.names left) (λ l. operand_of scope.names right >>= λ r. Some (binding s_n.0 (Let l s_o.0 r))) line s_n.2 in
+    let s_r = bind_some (operand_of scope.names right) (λ r. Some (binding s_n.0 (Let s_l.0 s_o.0 r))) line s_l.2 in
+    let new = new_take scope.names name s_n.0 s_n.1 in
+    subst (λ (x : ActionLine). IsLine scope x (codes "let" ∷ name ∷ left ∷ operator ∷ right ∷ [])) (some_is (binding s_n.0 (Let s_l.0 s_o.0 s_r.0)) line s_r.2) (record {
+      room = room_take scope s_ok.0 s_ok.1;
+      fits = ((operand_take scope.names [] left s_l.0 s_l.1).0, (operand_take scope.names [] right s_r.0 s_r.1).0);
       binds = new.0;
       spelled = λ more.
-          let names : List (List ℕ) = place.names ++ s_n.0 ∷ more in
-          ap (λ (w : List ℕ). codes "let" ∷ w ∷ left ∷ operator ∷ right ∷ []) (new.1 ∙ sym (name_at-next place.names s_n.0 more))
-          ∙ ap (λ (w : List ℕ). codes "let" ∷ name_at names (length place.names) ∷ w ∷ operator ∷ right ∷ []) (operand_take place.names (s_n.0 ∷ more) left s_l.0 s_l.1).1
-          ∙ ap (λ (w : List ℕ). codes "let" ∷ name_at names (length place.names) ∷ operand_word names s_l.0 ∷ w ∷ right ∷ []) (operator_take operator s_o.0 s_o.1)
-          ∙ ap (λ (w : List ℕ). codes "let" ∷ name_at names (length place.names) ∷ operand_word names s_l.0 ∷ operator_word s_o.0 ∷ w ∷ []) (operand_take place.names (s_n.0 ∷ more) right s_r.0 s_r.1).1;
+          let names : List (List ℕ) = scope.names ++ s_n.0 ∷ more in
+          ap (λ (w : List ℕ). codes "let" ∷ w ∷ left ∷ operator ∷ right ∷ []) (new.1 ∙ sym (name_at-next scope.names s_n.0 more))
+          ∙ ap (λ (w : List ℕ). codes "let" ∷ name_at names (length scope.names) ∷ w ∷ operator ∷ right ∷ []) (operand_take scope.names (s_n.0 ∷ more) left s_l.0 s_l.1).1
+          ∙ ap (λ (w : List ℕ). codes "let" ∷ name_at names (length scope.names) ∷ operand_word names s_l.0 ∷ w ∷ right ∷ []) (operator_take operator s_o.0 s_o.1)
+          ∙ ap (λ (w : List ℕ). codes "let" ∷ name_at names (length scope.names) ∷ operand_word names s_l.0 ∷ operator_word s_o.0 ∷ w ∷ []) (operand_take scope.names (s_n.0 ∷ more) right s_r.0 s_r.1).1;
     })
 
-need_take : (place : Place) (words : List (List ℕ)) (line : ActionLine) → need_of place words ≡ Some line → IsLineAfter (codes "need") place line words
+need_take : (scope : PlainScope) (words : List (List ℕ)) (line : ActionLine) → need_of scope words ≡ Some line → IsLineAfter (codes "need") scope line words
 unfolding need_of
-need_take place [] line e = absurd cc
-need_take place (a ∷ []) line e = absurd cc
-need_take place (a ∷ b ∷ []) line e = absurd cc
-need_take place (a ∷ b ∷ c ∷ d ∷ words) line e = absurd cc
-need_take place (left ∷ relation ∷ right ∷ []) line e =
-    let s_o = bind_some (relation_of relation) (λ o. only_if {X = Unit {0}} place.is_first tt >>= λ first. room place >>= λ ok. operand_of place.names left >>= λ l. operand_of place.names right >>= λ r. Some (plain (Need l o r))) line e in
-    let s_first = bind_some (only_if {X = Unit {0}} place.is_first tt) (λ first. room place >>= λ ok. operand_of place.names left >>= λ l. operand_of place.names right >>= λ r. Some (plain (Need l s_o.0 r))) line s_o.2 in
-    let s_ok = bind_some (room place) (λ ok. operand_of place.names left >>= λ l. operand_of place.names right >>= λ r. Some (plain (Need l s_o.0 r))) line s_first.2 in
-    let s_l = bind_some (operand_of place.names left) (λ l. operand_of place.names right >>= λ r. Some (plain (Need l s_o.0 r))) line s_ok.2 in
-    let s_r = bind_some (operand_of place.names right) (λ r. Some (plain (Need s_l.0 s_o.0 r))) line s_l.2 in
-    subst (λ (x : ActionLine). IsLine place x (codes "need" ∷ left ∷ relation ∷ right ∷ [])) (some_is (plain (Need s_l.0 s_o.0 s_r.0)) line s_r.2) (record {
-      room = room_take place s_ok.0 s_ok.1;
-      fits = ((only_if_some place.is_first tt s_first.0 s_first.1).0, (operand_take place.names [] left s_l.0 s_l.1).0, (operand_take place.names [] right s_r.0 s_r.1).0);
+need_take scope [] line e = absurd cc
+need_take scope (a ∷ []) line e = absurd cc
+need_take scope (a ∷ b ∷ []) line e = absurd cc
+need_take scope (a ∷ b ∷ c ∷ d ∷ words) line e = absurd cc
+need_take scope (left ∷ relation ∷ right ∷ []) line e =
+    let s_o = bind_some (relation_of relation) (λ o. only_if {X = Unit {0}} scope.is_first tt >>= λ first. room scope >>= λ ok. operand_of scope.names left >>= λ l. operand_of scope.names right >>= λ r. Some (plain (Need l o r))) line e in
+    let s_first = bind_some (only_if {X = Unit {0}} scope.is_first tt) (λ first. room scope >>= λ ok. operand_of scope.names left >>= λ l. operand_of scope.names right >>= λ r. Some (plain (Need l s_o.0 r))) line s_o.2 in
+    let s_ok = bind_some (room scope) (λ ok. operand_of scope.names left >>= λ l. operand_of scope.names right >>= λ r. Some (plain (Need l s_o.0 r))) line s_first.2 in
+    let s_l = bind_some (operand_of scope.names left) (λ l. operand_of scope.names right >>= λ r. Some (plain (Need l s_o.0 r))) line s_ok.2 in
+    let s_r = bind_some (operand_of scope.names right) (λ r. Some (plain (Need s_l.0 s_o.0 r))) line s_l.2 in
+    subst (λ (x : ActionLine). IsLine scope x (codes "need" ∷ left ∷ relation ∷ right ∷ [])) (some_is (plain (Need s_l.0 s_o.0 s_r.0)) line s_r.2) (record {
+      room = room_take scope s_ok.0 s_ok.1;
+      fits = ((only_if_some scope.is_first tt s_first.0 s_first.1).0, (operand_take scope.names [] left s_l.0 s_l.1).0, (operand_take scope.names [] right s_r.0 s_r.1).0);
       binds = tt;
       spelled = λ more.
-          let names : List (List ℕ) = place.names ++ more in
-          ap (λ (w : List ℕ). codes "need" ∷ w ∷ relation ∷ right ∷ []) (operand_take place.names more left s_l.0 s_l.1).1
+          let names : List (List ℕ) = scope.names ++ more in
+          ap (λ (w : List ℕ). codes "need" ∷ w ∷ relation ∷ right ∷ []) (operand_take scope.names more left s_l.0 s_l.1).1
           ∙ ap (λ (w : List ℕ). codes "need" ∷ operand_word names s_l.0 ∷ w ∷ right ∷ []) (relation_take relation s_o.0 s_o.1)
-          ∙ ap (λ (w : List ℕ). codes "need" ∷ operand_word names s_l.0 ∷ relation_word s_o.0 ∷ w ∷ []) (operand_take place.names more right s_r.0 s_r.1).1;
+          ∙ ap (λ (w : List ℕ). codes "need" ∷ operand_word names s_l.0 ∷ relation_word s_o.0 ∷ w ∷ []) (operand_take scope.names more right s_r.0 s_r.1).1;
     })
 
 -- what changes a cell, and its words
-pub record IsChange (place : Place) (change : ℕ × Key × Operand) (words : List (List ℕ)) : Type 0 where
-  pub room : place.actions < 16
-  pub table : change.0 < length place.tables
+pub record IsChange (scope : PlainScope) (change : ℕ × Key × Operand) (words : List (List ℕ)) : Type 0 where
+  pub room : scope.actions < 16
+  pub table : change.0 < length scope.tables
   pub numbered : change.0 < 64
-  pub key : FitsKey place.parameters change.1
-  pub home : is_home place.shards place.server change.0 change.1 ≡ true
-  pub value : FitsOperand (length place.names) change.2
-  pub spelled : (more : List (List ℕ)) → words ≡ name_at place.tables change.0 ∷ key_word (place.names ++ more) change.1 ∷ operand_word (place.names ++ more) change.2 ∷ []
+  pub key : FitsKey scope.parameters change.1
+  pub home : is_home scope.shards scope.server change.0 change.1 ≡ true
+  pub value : FitsOperand (length scope.names) change.2
+  pub spelled : (more : List (List ℕ)) → words ≡ name_at scope.tables change.0 ∷ key_word (scope.names ++ more) change.1 ∷ operand_word (scope.names ++ more) change.2 ∷ []
 
-change_take : (place : Place) (words : List (List ℕ)) (line : ℕ × Key × Operand) → change_of place words ≡ Some line → IsChange place line words
+change_take : (scope : PlainScope) (words : List (List ℕ)) (line : ℕ × Key × Operand) → change_of scope words ≡ Some line → IsChange scope line words
 unfolding change_of
-change_take place [] line e = absurd cc
-change_take place (a ∷ []) line e = absurd cc
-change_take place (a ∷ b ∷ []) line e = absurd cc
-change_take place (a ∷ b ∷ c ∷ d ∷ words) line e = absurd cc
-change_take place (table ∷ key ∷ value ∷ []) line e =
-    let s_ok = bind_some (room place) (λ ok. table_of place.tables table >>= λ t. read_key place.names place.parameters key >>= λ k. operand_of place.names value >>= λ v. home place t k >>= λ at. Some (t, k, v)) line e in
-    let s_t = bind_some (table_of place.tables table) (λ t. read_key place.names place.parameters key >>= λ k. operand_of place.names value >>= λ v. home place t k >>= λ at. Some (t, k, v)) line s_ok.2 in
-    let s_k = bind_some (read_key place.names place.parameters key) (λ k. operand_of place.names value >>= λ v. home place s_t.0 k >>= λ at. Some (s_t.0, k, v)) line s_t.2 in
-    let s_v = bind_some (operand_of place.names value) (λ v. home place s_t.0 s_k.0 >>= λ at. Some (s_t.0, s_k.0, v)) line s_k.2 in
-    let s_at = bind_some (home place s_t.0 s_k.0) (λ at. Some (s_t.0, s_k.0, s_v.0)) line s_v.2 in
-    let at = table_take place.tables table s_t.0 s_t.1 in
+change_take scope [] line e = absurd cc
+change_take scope (a ∷ []) line e = absurd cc
+change_take scope (a ∷ b ∷ []) line e = absurd cc
+change_take scope (a ∷ b ∷ c ∷ d ∷ words) line e = absurd cc
+change_take scope (table ∷ key ∷ value ∷ []) line e =
+    let s_ok = bind_some (room scope) (λ ok. table_of scope.tables table >>= λ t. read_key scope.names scope.parameters key >>= λ k. operand_of scope.names value >>= λ v. home scope t k >>= λ at. Some (t, k, v)) line e in
+    let s_t = bind_some (table_of scope.tables table) (λ t. read_key scope.names scope.parameters key >>= λ k. operand_of scope.names value >>= λ v. home scope t k >>= λ at. Some (t, k, v)) line s_ok.2 in
+    let s_k = bind_some (read_key scope.names scope.parameters key) (λ k. operand_of scope.names value >>= λ v. home scope s_t.0 k >>= λ at. Some (s_t.0, k, v)) line s_t.2 in
+    let s_v = bind_some (operand_of scope.names value) (λ v. home scope s_t.0 s_k.0 >>= λ at. Some (s_t.0, s_k.0, v)) line s_k.2 in
+    let s_at = bind_some (home scope s_t.0 s_k.0) (λ at. Some (s_t.0, s_k.0, s_v.0)) line s_v.2 in
+    let at = table_take scope.tables table s_t.0 s_t.1 in
     let made : ℕ × Key × Operand = (s_t.0, s_k.0, s_v.0) in
-    subst (λ (c : ℕ × Key × Operand). IsChange place c (table ∷ key ∷ value ∷ [])) (some_is made line s_at.2) (record {
-      room = room_take place s_ok.0 s_ok.1;
+    subst (λ (c : ℕ × Key × Operand). IsChange scope c (table ∷ key ∷ value ∷ [])) (some_is made line s_at.2) (record {
+      room = room_take scope s_ok.0 s_ok.1;
       table = at.0;
       numbered = at.2;
-      key = (key_take place.names [] place.parameters key s_k.0 s_k.1).0;
-      home = home_take place s_t.0 s_k.0 s_at.0 s_at.1;
-      value = (operand_take place.names [] value s_v.0 s_v.1).0;
+      key = (key_take scope.names [] scope.parameters key s_k.0 s_k.1).0;
+      home = home_take scope s_t.0 s_k.0 s_at.0 s_at.1;
+      value = (operand_take scope.names [] value s_v.0 s_v.1).0;
       spelled = λ more.
           ap (λ (w : List ℕ). w ∷ key ∷ value ∷ []) at.1
-          ∙ ap (λ (w : List ℕ). name_at place.tables s_t.0 ∷ w ∷ value ∷ []) (key_take place.names more place.parameters key s_k.0 s_k.1).1
-          ∙ ap (λ (w : List ℕ). name_at place.tables s_t.0 ∷ key_word (place.names ++ more) s_k.0 ∷ w ∷ []) (operand_take place.names more value s_v.0 s_v.1).1;
+          ∙ ap (λ (w : List ℕ). name_at scope.tables s_t.0 ∷ w ∷ value ∷ []) (key_take scope.names more scope.parameters key s_k.0 s_k.1).1
+          ∙ ap (λ (w : List ℕ). name_at scope.tables s_t.0 ∷ key_word (scope.names ++ more) s_k.0 ∷ w ∷ []) (operand_take scope.names more value s_v.0 s_v.1).1;
     })
 
-set_take : (place : Place) (words : List (List ℕ)) (line : ActionLine) → option_map (changing Set) (change_of place words) ≡ Some line → IsLineAfter (codes "set") place line words
-set_take place words line e =
-    let read = map_some (changing Set) (change_of place words) line e in
-    let change = change_take place words read.0 read.1 in
-    subst (λ (l : ActionLine). IsLine place l (codes "set" ∷ words)) read.2 (record {
+set_take : (scope : PlainScope) (words : List (List ℕ)) (line : ActionLine) → option_map (changing Set) (change_of scope words) ≡ Some line → IsLineAfter (codes "set") scope line words
+set_take scope words line e =
+    let read = map_some (changing Set) (change_of scope words) line e in
+    let change = change_take scope words read.0 read.1 in
+    subst (λ (l : ActionLine). IsLine scope l (codes "set" ∷ words)) read.2 (record {
       room = change.room;
       fits = (record { table_is = change.table; numbered = change.numbered; key_is = change.key; at_home = change.home }, change.value);
       binds = tt;
       spelled = λ more. ap (λ (ws : List (List ℕ)). codes "set" ∷ ws) (change.spelled more);
     })
 
-add_take : (place : Place) (words : List (List ℕ)) (line : ActionLine) → option_map (changing Add) (change_of place words) ≡ Some line → IsLineAfter (codes "add") place line words
-add_take place words line e =
-    let read = map_some (changing Add) (change_of place words) line e in
-    let change = change_take place words read.0 read.1 in
-    subst (λ (l : ActionLine). IsLine place l (codes "add" ∷ words)) read.2 (record {
+add_take : (scope : PlainScope) (words : List (List ℕ)) (line : ActionLine) → option_map (changing Add) (change_of scope words) ≡ Some line → IsLineAfter (codes "add") scope line words
+add_take scope words line e =
+    let read = map_some (changing Add) (change_of scope words) line e in
+    let change = change_take scope words read.0 read.1 in
+    subst (λ (l : ActionLine). IsLine scope l (codes "add" ∷ words)) read.2 (record {
       room = change.room;
       fits = (record { table_is = change.table; numbered = change.numbered; key_is = change.key; at_home = change.home }, change.value);
       binds = tt;
       spelled = λ more. ap (λ (ws : List (List ℕ)). codes "add" ∷ ws) (change.spelled more);
     })
 
-sub_take : (place : Place) (words : List (List ℕ)) (line : ActionLine) → option_map (changing Sub) (change_of place words) ≡ Some line → IsLineAfter (codes "sub") place line words
-sub_take place words line e =
-    let read = map_some (changing Sub) (change_of place words) line e in
-    let change = change_take place words read.0 read.1 in
-    subst (λ (l : ActionLine). IsLine place l (codes "sub" ∷ words)) read.2 (record {
+sub_take : (scope : PlainScope) (words : List (List ℕ)) (line : ActionLine) → option_map (changing Sub) (change_of scope words) ≡ Some line → IsLineAfter (codes "sub") scope line words
+sub_take scope words line e =
+    let read = map_some (changing Sub) (change_of scope words) line e in
+    let change = change_take scope words read.0 read.1 in
+    subst (λ (l : ActionLine). IsLine scope l (codes "sub" ∷ words)) read.2 (record {
       room = change.room;
       fits = (record { table_is = change.table; numbered = change.numbered; key_is = change.key; at_home = change.home }, change.value);
       binds = tt;
@@ -223,22 +223,22 @@ sub_take place words line e =
     })
 
 -- an action that is read is spelled so
-pub action_take : (place : Place) (words : List (List ℕ)) (line : ActionLine) → action_of place words ≡ Some line → IsLine place line words
+pub action_take : (scope : PlainScope) (words : List (List ℕ)) (line : ActionLine) → action_of scope words ≡ Some line → IsLine scope line words
 unfolding action_of
-action_take place [] line e = absurd cc
-action_take place (verb ∷ words) line e =
-    elim (choose (bytes_eq verb (codes "get")) (get_of place words) (cond (bytes_eq verb (codes "set")) (option_map (changing Set) (change_of place words)) (cond (bytes_eq verb (codes "add")) (option_map (changing Add) (change_of place words)) (cond (bytes_eq verb (codes "sub")) (option_map (changing Sub) (change_of place words)) (cond (bytes_eq verb (codes "let")) (let_of place words) (cond (bytes_eq verb (codes "need")) (need_of place words) None))))) (Some line) e) [
-      | inl p0 ↦ subst (λ (v : List ℕ). IsLine place line (v ∷ words)) (sym ((bytes_eq-Decides verb (codes "get")).0 p0.0)) (get_take place words line p0.1)
-      | inr p0 ↦ elim (choose (bytes_eq verb (codes "set")) (option_map (changing Set) (change_of place words)) (cond (bytes_eq verb (codes "add")) (option_map (changing Add) (change_of place words)) (cond (bytes_eq verb (codes "sub")) (option_map (changing Sub) (change_of place words)) (cond (bytes_eq verb (codes "let")) (let_of place words) (cond (bytes_eq verb (codes "need")) (need_of place words) None)))) (Some line) p0.1) [
-        | inl p1 ↦ subst (λ (v : List ℕ). IsLine place line (v ∷ words)) (sym ((bytes_eq-Decides verb (codes "set")).0 p1.0)) (set_take place words line p1.1)
-        | inr p1 ↦ elim (choose (bytes_eq verb (codes "add")) (option_map (changing Add) (change_of place words)) (cond (bytes_eq verb (codes "sub")) (option_map (changing Sub) (change_of place words)) (cond (bytes_eq verb (codes "let")) (let_of place words) (cond (bytes_eq verb (codes "need")) (need_of place words) None))) (Some line) p1.1) [
-          | inl p2 ↦ subst (λ (v : List ℕ). IsLine place line (v ∷ words)) (sym ((bytes_eq-Decides verb (codes "add")).0 p2.0)) (add_take place words line p2.1)
-          | inr p2 ↦ elim (choose (bytes_eq verb (codes "sub")) (option_map (changing Sub) (change_of place words)) (cond (bytes_eq verb (codes "let")) (let_of place words) (cond (bytes_eq verb (codes "need")) (need_of place words) None)) (Some line) p2.1) [
-            | inl p3 ↦ subst (λ (v : List ℕ). IsLine place line (v ∷ words)) (sym ((bytes_eq-Decides verb (codes "sub")).0 p3.0)) (sub_take place words line p3.1)
-            | inr p3 ↦ elim (choose (bytes_eq verb (codes "let")) (let_of place words) (cond (bytes_eq verb (codes "need")) (need_of place words) None) (Some line) p3.1) [
-              | inl p4 ↦ subst (λ (v : List ℕ). IsLine place line (v ∷ words)) (sym ((bytes_eq-Decides verb (codes "let")).0 p4.0)) (let_take place words line p4.1)
-              | inr p4 ↦ elim (choose (bytes_eq verb (codes "need")) (need_of place words) None (Some line) p4.1) [
-                | inl p5 ↦ subst (λ (v : List ℕ). IsLine place line (v ∷ words)) (sym ((bytes_eq-Decides verb (codes "need")).0 p5.0)) (need_take place words line p5.1)
+action_take scope [] line e = absurd cc
+action_take scope (verb ∷ words) line e =
+    elim (choose (bytes_eq verb (codes "get")) (get_of scope words) (cond (bytes_eq verb (codes "set")) (option_map (changing Set) (change_of scope words)) (cond (bytes_eq verb (codes "add")) (option_map (changing Add) (change_of scope words)) (cond (bytes_eq verb (codes "sub")) (option_map (changing Sub) (change_of scope words)) (cond (bytes_eq verb (codes "let")) (let_of scope words) (cond (bytes_eq verb (codes "need")) (need_of scope words) None))))) (Some line) e) [
+      | inl p0 ↦ subst (λ (v : List ℕ). IsLine scope line (v ∷ words)) (sym ((bytes_eq-Decides verb (codes "get")).0 p0.0)) (get_take scope words line p0.1)
+      | inr p0 ↦ elim (choose (bytes_eq verb (codes "set")) (option_map (changing Set) (change_of scope words)) (cond (bytes_eq verb (codes "add")) (option_map (changing Add) (change_of scope words)) (cond (bytes_eq verb (codes "sub")) (option_map (changing Sub) (change_of scope words)) (cond (bytes_eq verb (codes "let")) (let_of scope words) (cond (bytes_eq verb (codes "need")) (need_of scope words) None)))) (Some line) p0.1) [
+        | inl p1 ↦ subst (λ (v : List ℕ). IsLine scope line (v ∷ words)) (sym ((bytes_eq-Decides verb (codes "set")).0 p1.0)) (set_take scope words line p1.1)
+        | inr p1 ↦ elim (choose (bytes_eq verb (codes "add")) (option_map (changing Add) (change_of scope words)) (cond (bytes_eq verb (codes "sub")) (option_map (changing Sub) (change_of scope words)) (cond (bytes_eq verb (codes "let")) (let_of scope words) (cond (bytes_eq verb (codes "need")) (need_of scope words) None))) (Some line) p1.1) [
+          | inl p2 ↦ subst (λ (v : List ℕ). IsLine scope line (v ∷ words)) (sym ((bytes_eq-Decides verb (codes "add")).0 p2.0)) (add_take scope words line p2.1)
+          | inr p2 ↦ elim (choose (bytes_eq verb (codes "sub")) (option_map (changing Sub) (change_of scope words)) (cond (bytes_eq verb (codes "let")) (let_of scope words) (cond (bytes_eq verb (codes "need")) (need_of scope words) None)) (Some line) p2.1) [
+            | inl p3 ↦ subst (λ (v : List ℕ). IsLine scope line (v ∷ words)) (sym ((bytes_eq-Decides verb (codes "sub")).0 p3.0)) (sub_take scope words line p3.1)
+            | inr p3 ↦ elim (choose (bytes_eq verb (codes "let")) (let_of scope words) (cond (bytes_eq verb (codes "need")) (need_of scope words) None) (Some line) p3.1) [
+              | inl p4 ↦ subst (λ (v : List ℕ). IsLine scope line (v ∷ words)) (sym ((bytes_eq-Decides verb (codes "let")).0 p4.0)) (let_take scope words line p4.1)
+              | inr p4 ↦ elim (choose (bytes_eq verb (codes "need")) (need_of scope words) None (Some line) p4.1) [
+                | inl p5 ↦ subst (λ (v : List ℕ). IsLine scope line (v ∷ words)) (sym ((bytes_eq-Decides verb (codes "need")).0 p5.0)) (need_take scope words line p5.1)
                 | inr p5 ↦ absurd (none_some p5.1)
               ]
             ]

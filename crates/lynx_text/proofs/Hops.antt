@@ -11,12 +11,12 @@ use Rattle.lynx_text.specs.declared.action_line.ActionLine.{ActionLine}
 use Rattle.lynx_words.specs.Digits.{read_number}
 use Rattle.lynx_words.specs.Lines.{◌>>=◌, words_in, AreWords, only_if, joined}
 use Rattle.lynx_text.specs.Pieces.{next_piece, next_words, one_after}
-use Rattle.lynx_set.specs.Standing.{place_in}
+use Rattle.lynx_set.specs.Scopes.{scope_in}
 use Rattle.lynx_text.specs.Parts.{parts, with_name, next_action, goes_action, hop_line, next_hop, goes_hop}
 use Rattle.lynx_set.specs.Plain.{PlainHop, PlainProgram, PlainSet}
-use Rattle.lynx_set.specs.Standing.{Place}
+use Rattle.lynx_set.specs.Scopes.{PlainScope}
 use Rattle.lynx_text.specs.Reading.{action_of}
-use Rattle.lynx_set.specs.Rules.{bound, BindsNew, next_place, FitActions, FitHops, with_hop}
+use Rattle.lynx_set.specs.Rules.{bound, BindsNew, next_scope, FitActions, FitHops, with_hop}
 use Rattle.lynx_set.specs.Text.{bound_names, bound_in, action_words, action_lines}
 use Rattle.lynx_words.proofs.NumberLaws.{number_takes}
 use Rattle.lynx_words.proofs.LineLaws.{words_take}
@@ -50,65 +50,65 @@ next_words_take lines words rest e =
     }
 
 -- these actions were read, after which these names are known
-pub record ActionsRead (place : Place) (lines : List (List ℕ)) (added : List Action) (after : List (List ℕ)) (rest : List (List ℕ)) : Type 0 where
-  pub fit : FitActions place added after
+pub record ActionsRead (scope : PlainScope) (lines : List (List ℕ)) (added : List Action) (after : List (List ℕ)) (rest : List (List ℕ)) : Type 0 where
+  pub fit : FitActions scope added after
   pub more : List (List ℕ)
-  pub grown : after ≡ place.names ++ more
-  pub spelled : (later : List (List ℕ)) → lines ≡ raw (action_lines place.tables (after ++ later) (length place.names) added) ++ rest
+  pub grown : after ≡ scope.names ++ more
+  pub spelled : (later : List (List ℕ)) → lines ≡ raw (action_lines scope.tables (after ++ later) (length scope.names) added) ++ rest
 
 -- none
-none_read : (place : Place) (lines : List (List ℕ)) → ActionsRead place lines [] place.names lines
-none_read place lines = record { fit = refl; more = []; grown = sym (append-nil place.names); spelled = λ later. refl }
+none_read : (scope : PlainScope) (lines : List (List ℕ)) → ActionsRead scope lines [] scope.names lines
+none_read scope lines = record { fit = refl; more = []; grown = sym (append-nil scope.names); spelled = λ later. refl }
 
-pub binds-count : (place : Place) (action : Action) (binds : Option (List ℕ)) → BindsNew place action binds → length (bound binds) ≡ bound_names action
-binds-count place (Get table key) None h = absurd h
-binds-count place (Get table key) (Some name) h = refl
-binds-count place (Set table key value) None h = refl
-binds-count place (Set table key value) (Some name) h = absurd h
-binds-count place (Add table key value) None h = refl
-binds-count place (Add table key value) (Some name) h = absurd h
-binds-count place (Sub table key value) None h = refl
-binds-count place (Sub table key value) (Some name) h = absurd h
-binds-count place (Let left operator right) None h = absurd h
-binds-count place (Let left operator right) (Some name) h = refl
-binds-count place (Need left relation right) None h = refl
-binds-count place (Need left relation right) (Some name) h = absurd h
+pub binds-count : (scope : PlainScope) (action : Action) (binds : Option (List ℕ)) → BindsNew scope action binds → length (bound binds) ≡ bound_names action
+binds-count scope (Get table key) None h = absurd h
+binds-count scope (Get table key) (Some name) h = refl
+binds-count scope (Set table key value) None h = refl
+binds-count scope (Set table key value) (Some name) h = absurd h
+binds-count scope (Add table key value) None h = refl
+binds-count scope (Add table key value) (Some name) h = absurd h
+binds-count scope (Sub table key value) None h = refl
+binds-count scope (Sub table key value) (Some name) h = absurd h
+binds-count scope (Let left operator right) None h = absurd h
+binds-count scope (Let left operator right) (Some name) h = refl
+binds-count scope (Need left relation right) None h = refl
+binds-count scope (Need left relation right) (Some name) h = absurd h
 
 -- one more before them
-one_read : (place : Place) (line : ActionLine) (words : List (List ℕ)) (lines mid : List (List ℕ)) (added : List Action) (after rest : List (List ℕ))
-    → IsLine place line words → IsNext lines words mid → ActionsRead (next_place place line.binds) mid added after rest → ActionsRead place lines (line.action ∷ added) after rest
-one_read place line words lines mid added after rest is next read =
-    let names : List (List ℕ) = place.names ++ bound line.binds in
-    let whole : (later : List (List ℕ)) → after ++ later ≡ place.names ++ (bound line.binds ++ (read.more ++ later)) =
-    λ later. ap (λ a. a ++ later) read.grown ∙ append_assoc names read.more later ∙ append_assoc place.names (bound line.binds) (read.more ++ later) in
-    let count : length names ≡ length place.names + bound_names line.action =
-    length-append place.names (bound line.binds) ∙ ap (λ n. length place.names + n) (binds-count place line.action line.binds is.binds) in
+one_read : (scope : PlainScope) (line : ActionLine) (words : List (List ℕ)) (lines mid : List (List ℕ)) (added : List Action) (after rest : List (List ℕ))
+    → IsLine scope line words → IsNext lines words mid → ActionsRead (next_scope scope line.binds) mid added after rest → ActionsRead scope lines (line.action ∷ added) after rest
+one_read scope line words lines mid added after rest is next read =
+    let names : List (List ℕ) = scope.names ++ bound line.binds in
+    let whole : (later : List (List ℕ)) → after ++ later ≡ scope.names ++ (bound line.binds ++ (read.more ++ later)) =
+    λ later. ap (λ a. a ++ later) read.grown ∙ append_assoc names read.more later ∙ append_assoc scope.names (bound line.binds) (read.more ++ later) in
+    let count : length names ≡ length scope.names + bound_names line.action =
+    length-append scope.names (bound line.binds) ∙ ap (λ n. length scope.names + n) (binds-count scope line.action line.binds is.binds) in
     record {
       fit = (is.room, is.fits, line.binds, is.binds, read.fit);
       more = bound line.binds ++ read.more;
-      grown = read.grown ∙ append_assoc place.names (bound line.binds) read.more;
+      grown = read.grown ∙ append_assoc scope.names (bound line.binds) read.more;
       spelled = λ later.
           next.spelled
-          ∙ ap (λ w. joined w ∷ mid) (is.spelled (read.more ++ later) ∙ ap (λ ns. action_words place.tables ns (length place.names) line.action) (sym (whole later)))
-          ∙ ap (λ m. joined (action_words place.tables (after ++ later) (length place.names) line.action) ∷ m)
-          (read.spelled later ∙ ap (λ n. raw (action_lines place.tables (after ++ later) n added) ++ rest) count);
+          ∙ ap (λ w. joined w ∷ mid) (is.spelled (read.more ++ later) ∙ ap (λ ns. action_words scope.tables ns (length scope.names) line.action) (sym (whole later)))
+          ∙ ap (λ m. joined (action_words scope.tables (after ++ later) (length scope.names) line.action) ∷ m)
+          (read.spelled later ∙ ap (λ n. raw (action_lines scope.tables (after ++ later) n added) ++ rest) count);
     }
 
--- the place after an action
-pub place_next : (set : PlainSet) (server : ℕ) (program : PlainProgram) (actions : List Action) (action : Action) (binds : Option (List ℕ))
-    → place_in set server (with_name program binds) (actions ++ action ∷ []) ≡ next_place (place_in set server program actions) binds
-place_next set server program actions action None =
-    let mk : List (List ℕ) → ℕ → Place = λ ns n. record { tables = set.tables; shards = set.shards; parameters = program.parameters; names = ns; is_first = length program.hops == 0; server = server; actions = n } in
+-- the scope after an action
+pub scope_next : (set : PlainSet) (server : ℕ) (program : PlainProgram) (actions : List Action) (action : Action) (binds : Option (List ℕ))
+    → scope_in set server (with_name program binds) (actions ++ action ∷ []) ≡ next_scope (scope_in set server program actions) binds
+scope_next set server program actions action None =
+    let mk : List (List ℕ) → ℕ → PlainScope = λ ns n. record { tables = set.tables; shards = set.shards; parameters = program.parameters; names = ns; is_first = length program.hops == 0; server = server; actions = n } in
     ap (λ (ns : List (List ℕ)). mk ns (length (actions ++ action ∷ []))) (sym (append-nil program.names)) ∙ ap (mk (program.names ++ [])) (length_push actions action)
-place_next set server program actions action (Some name) =
-    let mk : List (List ℕ) → ℕ → Place = λ ns n. record { tables = set.tables; shards = set.shards; parameters = program.parameters; names = ns; is_first = length program.hops == 0; server = server; actions = n } in
+scope_next set server program actions action (Some name) =
+    let mk : List (List ℕ) → ℕ → PlainScope = λ ns n. record { tables = set.tables; shards = set.shards; parameters = program.parameters; names = ns; is_first = length program.hops == 0; server = server; actions = n } in
     ap (mk (program.names ++ name ∷ [])) (length_push actions action)
 
 -- what an action's line leaves
 pub record ActionRead (set : PlainSet) (server : ℕ) (program : PlainProgram) (actions : List Action) (lines : List (List ℕ)) (out : PlainProgram × List Action) (rest : List (List ℕ)) : Type 0 where
   pub line : ActionLine
   pub words : List (List ℕ)
-  pub is : IsLine (place_in set server program actions) line words
+  pub is : IsLine (scope_in set server program actions) line words
   pub next : IsNext lines words rest
   pub leaves : out ≡ (with_name program line.binds, actions ++ line.action ∷ [])
 
@@ -116,16 +116,16 @@ next_action_take : (set : PlainSet) (server : ℕ) (program : PlainProgram) (act
     → next_action set server (program, actions) lines ≡ Some (out, rest) → ActionRead set server program actions lines out rest
 unfolding next_action
 next_action_take set server program actions lines out rest e =
-    let place = place_in set server program actions in
-    let words = bind_some (next_words lines) (λ w. action_of place w.0 >>= λ l. Some ((with_name program l.binds, actions ++ l.action ∷ []), w.1)) (out, rest) e in
-    let line = bind_some (action_of place words.0.0) (λ l. Some ((with_name program l.binds, actions ++ l.action ∷ []), words.0.1)) (out, rest) words.2 in
+    let scope = scope_in set server program actions in
+    let words = bind_some (next_words lines) (λ w. action_of scope w.0 >>= λ l. Some ((with_name program l.binds, actions ++ l.action ∷ []), w.1)) (out, rest) e in
+    let line = bind_some (action_of scope words.0.0) (λ l. Some ((with_name program l.binds, actions ++ l.action ∷ []), words.0.1)) (out, rest) words.2 in
     let made : PlainProgram × List Action = (with_name program line.0.binds, actions ++ line.0.action ∷ []) in
     let same = both_is made out words.0.1 rest line.2 in
     let next = next_words_take lines words.0.0 words.0.1 words.1 in
     record {
       line = line.0;
       words = words.0.0;
-      is = action_take place words.0.0 line.0 line.1;
+      is = action_take scope words.0.0 line.0 line.1;
       next = subst (λ (r : List (List ℕ)). IsNext lines words.0.0 r) same.1 next;
       leaves = sym same.0;
     }
@@ -134,7 +134,7 @@ next_action_take set server program actions lines out rest e =
 pub record ActionsLeft (set : PlainSet) (server : ℕ) (program : PlainProgram) (actions : List Action) (lines : List (List ℕ)) (out : PlainProgram × List Action) (rest : List (List ℕ)) : Type 0 where
   pub added : List Action
   pub names : List (List ℕ)
-  pub read : ActionsRead (place_in set server program actions) lines added names rest
+  pub read : ActionsRead (scope_in set server program actions) lines added names rest
   pub leaves : out ≡ (record program { names = names }, actions ++ added)
 
 pub names_over : (program : PlainProgram) (binds : Option (List ℕ)) (names : List (List ℕ)) → record (with_name program binds) { names = names } ≡ record program { names = names }
@@ -146,11 +146,11 @@ abbrev more_left : (set : PlainSet) (server : ℕ) (program : PlainProgram) (act
     → ActionRead set server program actions lines next mid → ActionsLeft set server next.0 next.1 mid out rest → ActionsLeft set server program actions lines out rest
 more_left set server program actions lines mid next out rest first later =
     let moved = subst (λ (n : PlainProgram × List Action). ActionsLeft set server n.0 n.1 mid out rest) first.leaves later in
-    let read = subst (λ (p : Place). ActionsRead p mid moved.added moved.names rest) (place_next set server program actions first.line.action first.line.binds) moved.read in
+    let read = subst (λ (p : PlainScope). ActionsRead p mid moved.added moved.names rest) (scope_next set server program actions first.line.action first.line.binds) moved.read in
     record {
       added = first.line.action ∷ moved.added;
       names = moved.names;
-      read = one_read (place_in set server program actions) first.line first.words lines mid moved.added moved.names rest first.is first.next read;
+      read = one_read (scope_in set server program actions) first.line first.words lines mid moved.added moved.names rest first.is first.next read;
       leaves = moved.leaves
           ∙ ap (λ (p : PlainProgram). let o : PlainProgram × List Action = (p, (actions ++ first.line.action ∷ []) ++ moved.added) in o) (names_over program first.line.binds moved.names)
           ∙ ap (λ (a : List Action). let o : PlainProgram × List Action = (record program { names = moved.names }, a) in o) (append_assoc actions (first.line.action ∷ []) moved.added);
@@ -164,7 +164,7 @@ none_left set server program actions lines out rest e =
     record {
       added = [];
       names = program.names;
-      read = subst (λ (r : List (List ℕ)). ActionsRead (place_in set server program actions) lines [] program.names r) same.1 (none_read (place_in set server program actions) lines);
+      read = subst (λ (r : List (List ℕ)). ActionsRead (scope_in set server program actions) lines [] program.names r) same.1 (none_read (scope_in set server program actions) lines);
       leaves = sym same.0 ∙ ap (λ (a : List Action). let o : PlainProgram × List Action = (program, a) in o) (sym (append-nil actions));
     }
 
@@ -217,7 +217,7 @@ pub record HopRead (set : PlainSet) (program : PlainProgram) (lines : List (List
   pub few : length program.hops < 8
   pub known : hop.server < set.servers
   pub some : 0 < length hop.actions
-  pub fit : FitActions (place_in set hop.server program []) hop.actions names
+  pub fit : FitActions (scope_in set hop.server program []) hop.actions names
   pub more : List (List ℕ)
   pub grown : names ≡ program.names ++ more
   pub leaves : out ≡ with_hop program hop names
@@ -238,7 +238,7 @@ next_hop_take set program lines out rest e =
     let moved = subst (λ (n : PlainProgram × List Action). ActionsLeft set server.0 n.0 n.1 first.0.1 later.0.0 later.0.1) one.leaves others in
     let left = more_left set server.0 program [] words.0.1 first.0.1 first.0.0 later.0.0 later.0.1 one others in
     let same = both_is (record later.0.0.0 { hops = later.0.0.0.hops ++ (record { server = server.0; actions = later.0.0.1 }) ∷ [] }) out later.0.1 rest later.2 in
-    let read = subst (λ (r : List (List ℕ)). ActionsRead (place_in set server.0 program []) words.0.1 left.added left.names r) same.1 left.read in
+    let read = subst (λ (r : List (List ℕ)). ActionsRead (scope_in set server.0 program []) words.0.1 left.added left.names r) same.1 left.read in
     record {
       hop = record { server = server.0; actions = left.added };
       names = left.names;
@@ -254,9 +254,9 @@ next_hop_take set program lines out rest e =
 
 -- the lines of hops
 abbrev pub lines_of_hops : List (List ℕ) → List (List ℕ) → ℕ → List PlainHop → List (List (List ℕ))
-lines_of_hops tables names place [] = []
-lines_of_hops tables names place (hop ∷ hops) =
-    ((codes "hop" ∷ decimal hop.server ∷ []) ∷ action_lines tables names place hop.actions) ++ lines_of_hops tables names (place + bound_in hop.actions) hops
+lines_of_hops tables names scope [] = []
+lines_of_hops tables names scope (hop ∷ hops) =
+    ((codes "hop" ∷ decimal hop.server ∷ []) ∷ action_lines tables names scope hop.actions) ++ lines_of_hops tables names (scope + bound_in hop.actions) hops
 
 -- what the hops of a program leave
 pub record HopsLeft (set : PlainSet) (program : PlainProgram) (lines : List (List ℕ)) (out : PlainProgram) (rest : List (List ℕ)) : Type 0 where
@@ -269,10 +269,10 @@ pub record HopsLeft (set : PlainSet) (program : PlainProgram) (lines : List (Lis
   pub spelled : (later : List (List ℕ)) → lines ≡ raw (lines_of_hops set.tables (names ++ later) (length program.names) added) ++ rest
 
 -- as many names as actions bind
-pub count_actions : (place : Place) (actions : List Action) (after : List (List ℕ)) → FitActions place actions after → length after ≡ length place.names + bound_in actions
-count_actions place [] after fit = omega (arith, ap length fit)
-count_actions place (action ∷ actions) after fit =
-    omega (arith, count_actions (next_place place fit.2) actions after fit.4, length-append place.names (bound fit.2), binds-count place action fit.2 fit.3)
+pub count_actions : (scope : PlainScope) (actions : List Action) (after : List (List ℕ)) → FitActions scope actions after → length after ≡ length scope.names + bound_in actions
+count_actions scope [] after fit = omega (arith, ap length fit)
+count_actions scope (action ∷ actions) after fit =
+    omega (arith, count_actions (next_scope scope fit.2) actions after fit.4, length-append scope.names (bound fit.2), binds-count scope action fit.2 fit.3)
 
 no_hops_left : (set : PlainSet) (program : PlainProgram) (lines : List (List ℕ)) (out : PlainProgram) (rest : List (List ℕ)) → both program lines ≡ both out rest → HopsLeft set program lines out rest
 no_hops_left set program lines out rest e =
@@ -293,7 +293,7 @@ abbrev pub more_hops : (set : PlainSet) (program : PlainProgram) (lines mid : Li
 more_hops set program lines mid next out rest first later =
     let moved = subst (λ (p : PlainProgram). HopsLeft set p mid out rest) first.leaves later in
     let names : List (List ℕ) = moved.names in
-    let count : length first.names ≡ length program.names + bound_in first.hop.actions = count_actions (place_in set first.hop.server program []) first.hop.actions first.names first.fit in
+    let count : length first.names ≡ length program.names + bound_in first.hop.actions = count_actions (scope_in set first.hop.server program []) first.hop.actions first.names first.fit in
     let hop_lines : List (List ℕ) → List (List (List ℕ)) = λ ns. (codes "hop" ∷ decimal first.hop.server ∷ []) ∷ action_lines set.tables ns (length program.names) first.hop.actions in
     record {
       added = first.hop ∷ moved.added;

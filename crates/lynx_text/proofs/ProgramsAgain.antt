@@ -10,13 +10,13 @@ use Rattle.lynx_set.specs.declared.action.Action.{Action}
 use Rattle.lynx_words.specs.Digits.{read_number}
 use Rattle.lynx_words.specs.Lines.{◌>>=◌, is_word, AreWords, only_if, joined}
 use Rattle.lynx_text.specs.Pieces.{next_words, begins, one_after}
-use Rattle.lynx_set.specs.Standing.{place_in}
+use Rattle.lynx_set.specs.Scopes.{scope_in}
 use Rattle.lynx_text.specs.Parts.{parts, with_name, next_action, goes_action, hop_line, next_hop, goes_hop, parameters_of, program_line, end_line, next_program, goes_program}
 use Rattle.lynx_set.specs.Plain.{PlainHop, PlainProgram, PlainSet}
 use Rattle.lynx_set.specs.Names.{place_of}
-use Rattle.lynx_set.specs.Standing.{Place}
+use Rattle.lynx_set.specs.Scopes.{PlainScope}
 use Rattle.lynx_text.specs.Reading.{name_of, new_name}
-use Rattle.lynx_set.specs.Rules.{IsNew, AreNew, bound, next_place, FitActions, FitHops, with_hop, FitsProgram, FitPrograms, with_program}
+use Rattle.lynx_set.specs.Rules.{IsNew, AreNew, bound, next_scope, FitActions, FitHops, with_hop, FitsProgram, FitPrograms, with_program}
 use Rattle.lynx_set.specs.Text.{bound_names, bound_in, action_words, action_lines}
 use Rattle.lynx_words.specs.Word.{is_name}
 use Rattle.lynx_words.proofs.WordLaws.{both_true, name-word, number-word}
@@ -24,7 +24,7 @@ use Rattle.lynx_words.proofs.NumberLaws.{number_again}
 use Rattle.lynx_text.proofs.Lookups.{both}
 use Rattle.lynx_text.proofs.Known.{bind_is, only_if_yes, Known, none_known, one_known, new_again}
 use Rattle.lynx_text.proofs.ActionsAgain.{IsOpen}
-use Rattle.lynx_text.proofs.Hops.{raw, place_next, binds-count, count_actions, names_over, lines_of_hops}
+use Rattle.lynx_text.proofs.Hops.{raw, scope_next, binds-count, count_actions, names_over, lines_of_hops}
 use Rattle.lynx_text.proofs.HopsAgain.{IsMore, more_behind, next_words_again, begins_again, parts_stop, parts_step, open_next, grown_names, few_actions, known_after, one_again, names_with, actions_again}
 use Rattle.lynx_text.proofs.Programs.{lines_of_program, lines_of_programs, names_count}
 
@@ -53,13 +53,13 @@ hop_line_again servers hops server few lt fits =
 
 -- the actions of a hop, the first of which has to be there
 first_again : (set : PlainSet) (server : ℕ) (program : PlainProgram) (action : Action) (actions : List Action) (names later rest : List (List ℕ))
-    → FitActions (place_in set server program []) (action ∷ actions) names → IsOpen (place_in set server program []) → IsMore rest → goes_action rest ≡ false
+    → FitActions (scope_in set server program []) (action ∷ actions) names → IsOpen (scope_in set server program []) → IsMore rest → goes_action rest ≡ false
     → (next_action set server (program, []) (raw (action_lines set.tables (names ++ later) (length program.names) (action ∷ actions)) ++ rest)
     >>= λ f. parts goes_action (next_action set server) (16 - length f.0.1) f.0 f.1) ≡ Some ((record program { names = names }, action ∷ actions), rest)
 first_again set server program action actions names later rest fit open_ left stops =
     let binds = fit.2 in
-    let place = place_in set server program [] in
-    let grown = grown_names (next_place place binds) actions names fit.4 in
+    let scope = scope_in set server program [] in
+    let grown = grown_names (next_scope scope binds) actions names fit.4 in
     let whole : names ++ later ≡ program.names ++ (bound binds ++ (grown.0 ++ later)) =
     ap (λ a. a ++ later) grown.1 ∙ append_assoc (program.names ++ bound binds) grown.0 later ∙ append_assoc program.names (bound binds) (grown.0 ++ later) in
     let tail : List (List ℕ) = raw (action_lines set.tables (names ++ later) (length program.names + bound_names action) actions) ++ rest in
@@ -68,22 +68,22 @@ first_again set server program action actions names later rest fit open_ left st
     let next : PlainProgram × List Action = (with_name program binds, action ∷ []) in
     let out : PlainProgram × List Action = (record program { names = names }, action ∷ actions) in
     let count : length (with_name program binds).names ≡ length program.names + bound_names action =
-    ap length (names_with program binds) ∙ length-append program.names (bound binds) ∙ ap (λ n. length program.names + n) (binds-count place action binds fit.3) in
-    let same_place = place_after set server program action binds in
-    let few : length actions ≤ 15 = omega (arith, few_actions place (action ∷ actions) names fit (omega arith)) in
+    ap length (names_with program binds) ∙ length-append program.names (bound binds) ∙ ap (λ n. length program.names + n) (binds-count scope action binds fit.3) in
+    let same_scope = place_after set server program action binds in
+    let few : length actions ≤ 15 = omega (arith, few_actions scope (action ∷ actions) names fit (omega arith)) in
     ap (λ ns. next_action set server (program, []) (joined (action_words set.tables ns (length program.names) action) ∷ tail) >>= then_) whole
     ∙ bind_is (next_action set server (program, []) (joined (action_words set.tables (program.names ++ (bound binds ++ (grown.0 ++ later))) (length program.names) action) ∷ tail)) then_ (next, tail) (Some (out, rest)) one.0
     (ap (λ n. parts goes_action (next_action set server) 15 next (raw (action_lines set.tables (names ++ later) n actions) ++ rest)) (sym count)
     ∙ actions_again set server (with_name program binds) (action ∷ []) actions names later 15 rest
-    (subst (λ (p : Place). FitActions p actions names) (sym same_place) fit.4) (subst IsOpen (sym same_place) (open_next place action binds open_ fit.3)) few left stops
+    (subst (λ (p : PlainScope). FitActions p actions names) (sym same_scope) fit.4) (subst IsOpen (sym same_scope) (open_next scope action binds open_ fit.3)) few left stops
     ∙ ap (λ (p : PlainProgram). let o : PlainProgram × List Action = (p, action ∷ actions) in Some (o, rest)) (names_over program binds names))
   where
-    place_after : (set : PlainSet) (server : ℕ) (program : PlainProgram) (action : Action) (binds : Option (List ℕ)) → place_in set server (with_name program binds) (action ∷ []) ≡ next_place (place_in set server program []) binds
-    place_after set server program action binds = place_next set server program [] action binds
+    place_after : (set : PlainSet) (server : ℕ) (program : PlainProgram) (action : Action) (binds : Option (List ℕ)) → scope_in set server (with_name program binds) (action ∷ []) ≡ next_scope (scope_in set server program []) binds
+    place_after set server program action binds = scope_next set server program [] action binds
 
 pub hop_again : (set : PlainSet) (program : PlainProgram) (server : ℕ) (actions : List Action) (names later rest : List (List ℕ))
-    → set.servers ≤ 16 → length program.hops < 8 → server < set.servers → 0 < length actions → FitActions (place_in set server program []) actions names
-    → IsOpen (place_in set server program []) → IsMore rest → goes_action rest ≡ false
+    → set.servers ≤ 16 → length program.hops < 8 → server < set.servers → 0 < length actions → FitActions (scope_in set server program []) actions names
+    → IsOpen (scope_in set server program []) → IsMore rest → goes_action rest ≡ false
     → next_hop set program (joined (codes "hop" ∷ decimal server ∷ []) ∷ raw (action_lines set.tables (names ++ later) (length program.names) actions) ++ rest) ≡ Some (with_hop program (record { server = server; actions = actions }) names, rest)
 unfolding next_hop
 hop_again set program server [] names later rest limit few known some fit open_ left stops = absurd (omega arith)
@@ -104,7 +104,7 @@ hop_again set program server (action ∷ actions) names later rest limit few kno
 pub grown_by_hops : (set : PlainSet) (program : PlainProgram) (hops : List PlainHop) (after : List (List ℕ)) → FitHops set program hops after → (more : List (List ℕ)) × (after ≡ program.names ++ more)
 grown_by_hops set program [] after fit = ([], sym fit ∙ sym (append-nil program.names))
 grown_by_hops set program (hop ∷ hops) after fit =
-    let first = grown_names (place_in set hop.server program []) hop.actions fit.3 fit.4 in
+    let first = grown_names (scope_in set hop.server program []) hop.actions fit.3 fit.4 in
     let later = grown_by_hops set (with_hop program hop fit.3) hops after fit.5 in
     (first.0 ++ later.0, later.1 ∙ ap (λ n. n ++ later.0) first.1 ∙ append_assoc program.names first.0 later.0)
 
@@ -114,12 +114,12 @@ few_hops set program (hop ∷ hops) after fit few =
     omega (arith, few_hops set (with_hop program hop fit.3) hops after fit.5 (omega (arith, fit.0, length_push program.hops hop)), length_push program.hops hop)
 
 -- what hops leave is not one more action
-hops_stop : (set : PlainSet) (program : PlainProgram) (hops : List PlainHop) (names after rest : List (List ℕ)) (place : ℕ)
-    → set.servers ≤ 16 → FitHops set program hops after → goes_action rest ≡ false → goes_action (raw (lines_of_hops set.tables names place hops) ++ rest) ≡ false
-hops_stop set program [] names after rest place limit fit stops = stops
-hops_stop set program (hop ∷ hops) names after rest place limit fit stops =
+hops_stop : (set : PlainSet) (program : PlainProgram) (hops : List PlainHop) (names after rest : List (List ℕ)) (scope : ℕ)
+    → set.servers ≤ 16 → FitHops set program hops after → goes_action rest ≡ false → goes_action (raw (lines_of_hops set.tables names scope hops) ++ rest) ≡ false
+hops_stop set program [] names after rest scope limit fit stops = stops
+hops_stop set program (hop ∷ hops) names after rest scope limit fit stops =
     let words : List (List ℕ) = codes "hop" ∷ decimal hop.server ∷ [] in
-    let below : List (List ℕ) = raw (action_lines set.tables names place hop.actions ++ lines_of_hops set.tables names (place + bound_in hop.actions) hops) ++ rest in
+    let below : List (List ℕ) = raw (action_lines set.tables names scope hop.actions ++ lines_of_hops set.tables names (scope + bound_in hop.actions) hops) ++ rest in
     ap (λ b. not b && not (begins (joined words ∷ below) (codes "end"))) (begins_again (codes "hop") (decimal hop.server ∷ []) below (codes "hop") (hop_words hop.server (omega (arith, fit.1))) ∙ hop_is)
   where
     hop_is : bytes_eq (codes "hop") (codes "hop") ≡ true
@@ -138,18 +138,18 @@ one_hop : (set : PlainSet) (program : PlainProgram) (hop : PlainHop) (hops : Lis
     × (next_hop set program (raw (lines_of_hops set.tables (after ++ later) (length program.names) (hop ∷ hops)) ++ rest) ≡ Some (with_hop program hop names, raw (lines_of_hops set.tables (after ++ later) (length names) hops) ++ rest))
 one_hop set program hop hops after later rest limit tables known enough fit left stops =
     let names : List (List ℕ) = fit.3 in
-    let place = place_in set hop.server program [] in
-    let grown = grown_names place hop.actions names fit.4 in
+    let scope = scope_in set hop.server program [] in
+    let grown = grown_names scope hop.actions names fit.4 in
     let more = grown_by_hops set (with_hop program hop names) hops after fit.5 in
     let whole : after ++ later ≡ names ++ (more.0 ++ later) = ap (λ a. a ++ later) more.1 ∙ append_assoc names more.0 later in
-    let count : length names ≡ length program.names + bound_in hop.actions = count_actions place hop.actions names fit.4 in
+    let count : length names ≡ length program.names + bound_in hop.actions = count_actions scope hop.actions names fit.4 in
     let own_lines : List (List ℕ) → List (List (List ℕ)) = λ ns. (codes "hop" ∷ decimal hop.server ∷ []) ∷ action_lines set.tables ns (length program.names) hop.actions in
     let others : ℕ → List (List (List ℕ)) = λ n. lines_of_hops set.tables (after ++ later) n hops in
     let tail : List (List ℕ) = raw (others (length names)) ++ rest in
-    let open_ : IsOpen place = record { names = known; tables = tables; few = enough } in (
+    let open_ : IsOpen scope = record { names = known; tables = tables; few = enough } in (
       names,
       fit.5,
-      known_after place hop.actions names fit.4 known,
+      known_after scope hop.actions names fit.4 known,
       omega (arith, ap length grown.1, length-append program.names grown.0),
       ap (next_hop set program) (ap (λ ls. ls ++ rest) (map-append joined (own_lines (after ++ later)) (others (length program.names + bound_in hop.actions)))
           ∙ append_assoc (raw (own_lines (after ++ later))) (raw (others (length program.names + bound_in hop.actions))) rest

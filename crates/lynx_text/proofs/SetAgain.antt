@@ -12,11 +12,11 @@ use Rattle.lynx_set.specs.declared.action.Action.{Action}
 use Rattle.lynx_words.specs.Digits.{read_number}
 use Rattle.lynx_words.specs.Lines.{◌>>=◌, is_feed, is_printable, AreWords, only_if, joined}
 use Rattle.lynx_text.specs.Pieces.{next_words, begins, one_after, ends, after_version}
-use Rattle.lynx_set.specs.Standing.{place_in}
+use Rattle.lynx_set.specs.Scopes.{scope_in}
 use Rattle.lynx_text.specs.Parts.{servers_of, parts, goes_table, next_table, goes_program, next_program, set_at, lines_at, read_text}
 use Rattle.lynx_set.specs.Plain.{PlainHop, PlainProgram, PlainSet, plain_set}
-use Rattle.lynx_set.specs.Standing.{Place}
-use Rattle.lynx_set.specs.Rules.{IsNew, bound, next_place, FitActions, FitHops, with_hop, FitsProgram, FitPrograms, with_program, FitShards, FitTables, with_table, no_tables, no_programs, IsPlainSet}
+use Rattle.lynx_set.specs.Scopes.{PlainScope}
+use Rattle.lynx_set.specs.Rules.{IsNew, bound, next_scope, FitActions, FitHops, with_hop, FitsProgram, FitPrograms, with_program, FitShards, FitTables, with_table, no_tables, no_programs, IsPlainSet}
 use Rattle.lynx_set.specs.Set.{Set}
 use Rattle.lynx_set.specs.Text.{text, bound_names, bound_in, action_words, action_lines, shard_words, tables_lines, text_of}
 use Rattle.lynx_words.proofs.WordLaws.{and_true, both_true, number-word, printable-joined}
@@ -44,18 +44,18 @@ all_words : (xs ys : List (List (List ℕ))) → AllWords xs → AllWords ys →
 all_words [] ys xs_are ys_are = ys_are
 all_words (x ∷ xs) ys xs_are ys_are = (xs_are.0, all_words xs ys xs_are.1 ys_are)
 
-actions_words : (place : Place) (actions : List Action) (after later : List (List ℕ)) → FitActions place actions after → IsOpen place → AllWords (action_lines place.tables (after ++ later) (length place.names) actions)
-actions_words place [] after later fit open_ = tt
-actions_words place (action ∷ actions) after later fit open_ =
+actions_words : (scope : PlainScope) (actions : List Action) (after later : List (List ℕ)) → FitActions scope actions after → IsOpen scope → AllWords (action_lines scope.tables (after ++ later) (length scope.names) actions)
+actions_words scope [] after later fit open_ = tt
+actions_words scope (action ∷ actions) after later fit open_ =
     let binds = fit.2 in
-    let next = next_place place binds in
+    let next = next_scope scope binds in
     let grown = grown_names next actions after fit.4 in
-    let whole : after ++ later ≡ place.names ++ (bound binds ++ (grown.0 ++ later)) =
-    ap (λ a. a ++ later) grown.1 ∙ append_assoc (place.names ++ bound binds) grown.0 later ∙ append_assoc place.names (bound binds) (grown.0 ++ later) in
-    let count : length next.names ≡ length place.names + bound_names action = length-append place.names (bound binds) ∙ ap (λ n. length place.names + n) (binds-count place action binds fit.3) in
-    let is = action_again place action binds (grown.0 ++ later) open_ fit.0 fit.1 fit.3 in (
-      subst (λ (ns : List (List ℕ)). AreWords (action_words place.tables ns (length place.names) action)) (sym whole) is.are,
-      subst (λ (n : ℕ). AllWords (action_lines place.tables (after ++ later) n actions)) count (actions_words next actions after later fit.4 (open_next place action binds open_ fit.3)),
+    let whole : after ++ later ≡ scope.names ++ (bound binds ++ (grown.0 ++ later)) =
+    ap (λ a. a ++ later) grown.1 ∙ append_assoc (scope.names ++ bound binds) grown.0 later ∙ append_assoc scope.names (bound binds) (grown.0 ++ later) in
+    let count : length next.names ≡ length scope.names + bound_names action = length-append scope.names (bound binds) ∙ ap (λ n. length scope.names + n) (binds-count scope action binds fit.3) in
+    let is = action_again scope action binds (grown.0 ++ later) open_ fit.0 fit.1 fit.3 in (
+      subst (λ (ns : List (List ℕ)). AreWords (action_words scope.tables ns (length scope.names) action)) (sym whole) is.are,
+      subst (λ (n : ℕ). AllWords (action_lines scope.tables (after ++ later) n actions)) count (actions_words next actions after later fit.4 (open_next scope action binds open_ fit.3)),
     )
 
 hops_words : (set : PlainSet) (program : PlainProgram) (hops : List PlainHop) (after later : List (List ℕ))
@@ -63,17 +63,17 @@ hops_words : (set : PlainSet) (program : PlainProgram) (hops : List PlainHop) (a
 hops_words set program [] after later limit tables known enough fit = tt
 hops_words set program (hop ∷ hops) after later limit tables known enough fit =
     let names : List (List ℕ) = fit.3 in
-    let place = place_in set hop.server program [] in
-    let grown = grown_names place hop.actions names fit.4 in
+    let scope = scope_in set hop.server program [] in
+    let grown = grown_names scope hop.actions names fit.4 in
     let more = grown_by_hops set (with_hop program hop names) hops after fit.5 in
     let whole : after ++ later ≡ names ++ (more.0 ++ later) = ap (λ a. a ++ later) more.1 ∙ append_assoc names more.0 later in
-    let count : length names ≡ length program.names + bound_in hop.actions = count_actions place hop.actions names fit.4 in
-    let open_ : IsOpen place = record { names = known; tables = tables; few = enough } in (
+    let count : length names ≡ length program.names + bound_in hop.actions = count_actions scope hop.actions names fit.4 in
+    let open_ : IsOpen scope = record { names = known; tables = tables; few = enough } in (
       hop_words hop.server (omega (arith, fit.1)),
       all_words (action_lines set.tables (after ++ later) (length program.names) hop.actions) (lines_of_hops set.tables (after ++ later) (length program.names + bound_in hop.actions) hops)
-          (subst (λ (ns : List (List ℕ)). AllWords (action_lines set.tables ns (length program.names) hop.actions)) (sym whole) (actions_words place hop.actions names (more.0 ++ later) fit.4 open_))
+          (subst (λ (ns : List (List ℕ)). AllWords (action_lines set.tables ns (length program.names) hop.actions)) (sym whole) (actions_words scope hop.actions names (more.0 ++ later) fit.4 open_))
           (subst (λ (n : ℕ). AllWords (lines_of_hops set.tables (after ++ later) n hops)) count
-          (hops_words set (with_hop program hop names) hops after later limit tables (known_after place hop.actions names fit.4 known) (omega (arith, ap length grown.1, length-append program.names grown.0)) fit.5)),
+          (hops_words set (with_hop program hop names) hops after later limit tables (known_after scope hop.actions names fit.4 known) (omega (arith, ap length grown.1, length-append program.names grown.0)) fit.5)),
     )
 
 program_words : (set : PlainSet) (program : List ℕ × PlainProgram) → set.servers ≤ 16 → Known set.tables → IsNew (map (λ named. named.0) set.programs) program.0 → FitsProgram set program.1 → AllWords (lines_of_program set.tables program)

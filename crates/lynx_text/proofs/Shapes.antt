@@ -6,42 +6,42 @@ use Rattle.lynx_text.specs.Pieces.{one_after}
 use Rattle.std.proofs.Common.{◌<◌, get_or}
 use Rattle.std.specs.Prelude.{codes}
 use Rattle.std.specs.Str.{bytes_eq}
-use Rattle.lynx_set.specs.Standing.{Place}
+use Rattle.lynx_set.specs.Scopes.{PlainScope}
 use Rattle.lynx_text.specs.Reading.{get_of, change_of, let_of, need_of}
 use Rattle.lynx_text.specs.Parts.{shard_line, program_line, end_line}
 
-pub get_of_other : (place : Place) (words : List (Bor (List ℕ))) → length words ≢ 3 → get_of place (texts words) ≡ None
+pub get_of_other : (scope : PlainScope) (words : List (Bor (List ℕ))) → length words ≢ 3 → get_of scope (texts words) ≡ None
 unfolding get_of
-get_of_other place [] h = refl
-get_of_other place (a ∷ []) h = refl
-get_of_other place (a ∷ b ∷ []) h = refl
-get_of_other place (a ∷ b ∷ c ∷ []) h = absurd (h (omega arith))
-get_of_other place (a ∷ b ∷ c ∷ d ∷ words) h = refl
+get_of_other scope [] h = refl
+get_of_other scope (a ∷ []) h = refl
+get_of_other scope (a ∷ b ∷ []) h = refl
+get_of_other scope (a ∷ b ∷ c ∷ []) h = absurd (h (omega arith))
+get_of_other scope (a ∷ b ∷ c ∷ d ∷ words) h = refl
 
-pub change_of_other : (place : Place) (words : List (Bor (List ℕ))) → length words ≢ 3 → change_of place (texts words) ≡ None
+pub change_of_other : (scope : PlainScope) (words : List (Bor (List ℕ))) → length words ≢ 3 → change_of scope (texts words) ≡ None
 unfolding change_of
-change_of_other place [] h = refl
-change_of_other place (a ∷ []) h = refl
-change_of_other place (a ∷ b ∷ []) h = refl
-change_of_other place (a ∷ b ∷ c ∷ []) h = absurd (h (omega arith))
-change_of_other place (a ∷ b ∷ c ∷ d ∷ words) h = refl
+change_of_other scope [] h = refl
+change_of_other scope (a ∷ []) h = refl
+change_of_other scope (a ∷ b ∷ []) h = refl
+change_of_other scope (a ∷ b ∷ c ∷ []) h = absurd (h (omega arith))
+change_of_other scope (a ∷ b ∷ c ∷ d ∷ words) h = refl
 
-pub let_of_other : (place : Place) (words : List (Bor (List ℕ))) → length words ≢ 4 → let_of place (texts words) ≡ None
+pub let_of_other : (scope : PlainScope) (words : List (Bor (List ℕ))) → length words ≢ 4 → let_of scope (texts words) ≡ None
 unfolding let_of
-let_of_other place [] h = refl
-let_of_other place (a ∷ []) h = refl
-let_of_other place (a ∷ b ∷ []) h = refl
-let_of_other place (a ∷ b ∷ c ∷ []) h = refl
-let_of_other place (a ∷ b ∷ c ∷ d ∷ []) h = absurd (h (omega arith))
-let_of_other place (a ∷ b ∷ c ∷ d ∷ e ∷ words) h = refl
+let_of_other scope [] h = refl
+let_of_other scope (a ∷ []) h = refl
+let_of_other scope (a ∷ b ∷ []) h = refl
+let_of_other scope (a ∷ b ∷ c ∷ []) h = refl
+let_of_other scope (a ∷ b ∷ c ∷ d ∷ []) h = absurd (h (omega arith))
+let_of_other scope (a ∷ b ∷ c ∷ d ∷ e ∷ words) h = refl
 
-pub need_of_other : (place : Place) (words : List (Bor (List ℕ))) → length words ≢ 3 → need_of place (texts words) ≡ None
+pub need_of_other : (scope : PlainScope) (words : List (Bor (List ℕ))) → length words ≢ 3 → need_of scope (texts words) ≡ None
 unfolding need_of
-need_of_other place [] h = refl
-need_of_other place (a ∷ []) h = refl
-need_of_other place (a ∷ b ∷ []) h = refl
-need_of_other place (a ∷ b ∷ c ∷ []) h = absurd (h (omega arith))
-need_of_other place (a ∷ b ∷ c ∷ d ∷ words) h = refl
+need_of_other scope [] h = refl
+need_of_other scope (a ∷ []) h = refl
+need_of_other scope (a ∷ b ∷ []) h = refl
+need_of_other scope (a ∷ b ∷ c ∷ []) h = absurd (h (omega arith))
+need_of_other scope (a ∷ b ∷ c ∷ d ∷ words) h = refl
 
 pub shard_line_other : (count : ℕ) (words : List (Bor (List ℕ))) → length words ≢ 4 → shard_line count (texts words) ≡ None
 unfolding shard_line

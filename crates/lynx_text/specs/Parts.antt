@@ -12,7 +12,7 @@ use Rattle.std.specs.List.{slice_split}
 use Rattle.lynx_names.specs.declared.limits.TheConstants.{MAX_ACTIONS, MAX_HOPS, MAX_PARAMETERS, MAX_PROGRAMS, MAX_SERVERS, MAX_SHARDS, MAX_TABLES, MAX_TEXT_BYTES}
 use Rattle.lynx_set.specs.Plain.{PlainProgram, PlainSet}
 use Rattle.lynx_set.specs.Names.{place_of}
-use Rattle.lynx_set.specs.Standing.{place_in}
+use Rattle.lynx_set.specs.Scopes.{scope_in}
 use Rattle.lynx_text.specs.Reading.{name_of, new_name, action_of}
 
 -- servers N
@@ -107,7 +107,7 @@ with_name program (Some name) = record program { names = program.names ++ name �
 unfoldable pub next_action : PlainSet → ℕ → PlainProgram × List Action → List (List ℕ) → Option ((PlainProgram × List Action) × List (List ℕ))
 next_action set server hop lines = do
   words ← next_words lines
-  line ← action_of (place_in set server hop.0 hop.1) words.0
+  line ← action_of (scope_in set server hop.0 hop.1) words.0
   Some ((with_name hop.0 line.binds, hop.1 ++ line.action ∷ []), words.1)
 
 abbrev pub goes_action : List (List ℕ) → Bool

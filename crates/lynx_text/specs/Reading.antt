@@ -13,7 +13,7 @@ use Rattle.lynx_set.specs.declared.action.Operator.TheVariants.{Plus, Minus}
 use Rattle.lynx_set.specs.declared.action.Relation.{Relation}
 use Rattle.lynx_set.specs.declared.action.Relation.TheVariants.{Below, AtMost, Same, Differs, AtLeast, Above}
 use Rattle.lynx_set.specs.Names.{place_of, place_below}
-use Rattle.lynx_set.specs.Standing.{Place, is_home}
+use Rattle.lynx_set.specs.Scopes.{PlainScope, is_home}
 use Rattle.lynx_text.specs.declared.action_line.ActionLine.{ActionLine}
 use Rattle.lynx_words.specs.Digits.{read_number, begins_with_digit}
 use Rattle.lynx_words.specs.Lines.{◌>>=◌, only_if}
@@ -58,12 +58,12 @@ relation_of word =
     else (if bytes_eq word (codes ">") then Some Above else None)))))
 
 -- the hop has room for one more action
-abbrev pub room : Place → Option (Unit {0})
-room place = only_if (nat_lt place.actions MAX_ACTIONS) tt
+abbrev pub room : PlainScope → Option (Unit {0})
+room scope = only_if (nat_lt scope.actions MAX_ACTIONS) tt
 
 -- a literal key is at the hop's server
-abbrev pub home : Place → ℕ → Key → Option (Unit {0})
-home place table key = only_if (is_home place.shards place.server table key) tt
+abbrev pub home : PlainScope → ℕ → Key → Option (Unit {0})
+home scope table key = only_if (is_home scope.shards scope.server table key) tt
 
 -- an action that binds a name
 abbrev pub binding : List ℕ → Action → ActionLine
@@ -74,60 +74,60 @@ abbrev pub plain : Action → ActionLine
 plain action = record { action = action; binds = None }
 
 -- NAME TABLE KEY
-unfoldable pub get_of : Place → List (List ℕ) → Option ActionLine
-get_of place (name ∷ table ∷ key ∷ []) = do
-  ok ← room place
-  n ← new_name place.names name
-  t ← table_of place.tables table
-  k ← read_key place.names place.parameters key
-  at ← home place t k
+unfoldable pub get_of : PlainScope → List (List ℕ) → Option ActionLine
+get_of scope (name ∷ table ∷ key ∷ []) = do
+  ok ← room scope
+  n ← new_name scope.names name
+  t ← table_of scope.tables table
+  k ← read_key scope.names scope.parameters key
+  at ← home scope t k
   Some (binding n (Get t k))
-get_of place words = None
+get_of scope words = None
 
 -- TABLE KEY VALUE
-unfoldable pub change_of : Place → List (List ℕ) → Option (ℕ × Key × Operand)
-change_of place (table ∷ key ∷ value ∷ []) = do
-  ok ← room place
-  t ← table_of place.tables table
-  k ← read_key place.names place.parameters key
-  v ← operand_of place.names value
-  at ← home place t k
+unfoldable pub change_of : PlainScope → List (List ℕ) → Option (ℕ × Key × Operand)
+change_of scope (table ∷ key ∷ value ∷ []) = do
+  ok ← room scope
+  t ← table_of scope.tables table
+  k ← read_key scope.names scope.parameters key
+  v ← operand_of scope.names value
+  at ← home scope t k
   Some (t, k, v)
-change_of place words = None
+change_of scope words = None
 
 -- NAME VALUE OPERATOR VALUE
-unfoldable pub let_of : Place → List (List ℕ) → Option ActionLine
-let_of place (name ∷ left ∷ operator ∷ right ∷ []) = do
+unfoldable pub let_of : PlainScope → List (List ℕ) → Option ActionLine
+let_of scope (name ∷ left ∷ operator ∷ right ∷ []) = do
   o ← operator_of operator
-  ok ← room place
-  n ← new_name place.names name
-  l ← operand_of place.names left
-  r ← operand_of place.names right
+  ok ← room scope
+  n ← new_name scope.names name
+  l ← operand_of scope.names left
+  r ← operand_of scope.names right
   Some (binding n (Let l o r))
-let_of place words = None
+let_of scope words = None
 
 -- VALUE RELATION VALUE
-unfoldable pub need_of : Place → List (List ℕ) → Option ActionLine
-need_of place (left ∷ relation ∷ right ∷ []) = do
+unfoldable pub need_of : PlainScope → List (List ℕ) → Option ActionLine
+need_of scope (left ∷ relation ∷ right ∷ []) = do
   o ← relation_of relation
-  first ← only_if {X = Unit {0}} place.is_first tt
-  ok ← room place
-  l ← operand_of place.names left
-  r ← operand_of place.names right
+  first ← only_if {X = Unit {0}} scope.is_first tt
+  ok ← room scope
+  l ← operand_of scope.names left
+  r ← operand_of scope.names right
   Some (plain (Need l o r))
-need_of place words = None
+need_of scope words = None
 
 -- an action that changes a cell
 abbrev pub changing : (ℕ → Key → Operand → Action) → ℕ × Key × Operand → ActionLine
 changing action change = plain (action change.0 change.1 change.2)
 
 -- the words of an action's line
-unfoldable pub action_of : Place → List (List ℕ) → Option ActionLine
-action_of place [] = None
-action_of place (verb ∷ words) =
-    if bytes_eq verb (codes "get") then get_of place words
-    else (if bytes_eq verb (codes "set") then option_map (changing Set) (change_of place words)
-    else (if bytes_eq verb (codes "add") then option_map (changing Add) (change_of place words)
-    else (if bytes_eq verb (codes "sub") then option_map (changing Sub) (change_of place words)
-    else (if bytes_eq verb (codes "let") then let_of place words
-    else (if bytes_eq verb (codes "need") then need_of place words else None)))))
+unfoldable pub action_of : PlainScope → List (List ℕ) → Option ActionLine
+action_of scope [] = None
+action_of scope (verb ∷ words) =
+    if bytes_eq verb (codes "get") then get_of scope words
+    else (if bytes_eq verb (codes "set") then option_map (changing Set) (change_of scope words)
+    else (if bytes_eq verb (codes "add") then option_map (changing Add) (change_of scope words)
+    else (if bytes_eq verb (codes "sub") then option_map (changing Sub) (change_of scope words)
+    else (if bytes_eq verb (codes "let") then let_of scope words
+    else (if bytes_eq verb (codes "need") then need_of scope words else None)))))

@@ -1,2 +1,2 @@
 -- Definitions that no public clause cites: they serve the functions within.
-pub mod Places
+pub mod Scopes

@@ -4,7 +4,7 @@ ghost use Rattle.std.specs.Prelude.{◌<◌, ◌≡◌, option_map, OnOk};
 ghost use Rattle.lynx_names.specs.declared.limits.TheConstants.{MAX_ACTIONS};
 ghost use Rattle.lynx_words.specs.Gives.{Gives};
 ghost use Rattle.lynx_words.specs.Lines.{texts};
-ghost use Rattle.lynx_text.specs.inner.Places.{place};
+ghost use Rattle.lynx_text.specs.inner.Scopes.{plain_scope};
 ghost use Rattle.lynx_text.specs.Reading.{operator_of, relation_of, binding, plain, changing, get_of, change_of, let_of, need_of, action_of};
 
 use crate::lines::{four_words, three_words};
@@ -23,7 +23,7 @@ pub(crate) struct ActionLine {
 /// The action of a line's words.
 #[tactic(auto, unfolding(crate::specs::Reading::action_of))]
 pub(crate) fn read_action(words: &[&[u8]], scope: &Scope) -> Result<ActionLine, FaultKind>
-    ensures value { Gives (λ line. line) result (action_of (place scope.now) (texts words.now)) }
+    ensures value { Gives (λ line. line) result (action_of (plain_scope scope.now) (texts words.now)) }
     ensures room { OnOk result (scope.now.actions < MAX_ACTIONS) }
 {
     let [verb, rest @ ..] = words else {
@@ -49,7 +49,7 @@ pub(crate) fn read_action(words: &[&[u8]], scope: &Scope) -> Result<ActionLine, 
 /// `get NAME TABLE KEY`
 #[tactic(auto, using(crate::proofs::Shapes::get_of_other), unfolding(crate::specs::Reading::get_of))]
 fn read_get(words: &[&[u8]], scope: &Scope) -> Result<ActionLine, FaultKind>
-    ensures value { Gives (λ line. line) result (get_of (place scope.now) (texts words.now)) }
+    ensures value { Gives (λ line. line) result (get_of (plain_scope scope.now) (texts words.now)) }
     ensures room { OnOk result (scope.now.actions < MAX_ACTIONS) }
 {
     let (name, table, key) = three_words(words)?;
@@ -64,7 +64,7 @@ fn read_get(words: &[&[u8]], scope: &Scope) -> Result<ActionLine, FaultKind>
 /// `set TABLE KEY VALUE`
 fn read_set(words: &[&[u8]], scope: &Scope) -> Result<ActionLine, FaultKind>
     ensures value { Gives (λ line. line) result (option_map (changing Action.Set) (change_of
-        (place scope.now) (texts words.now))) }
+        (plain_scope scope.now) (texts words.now))) }
     ensures room { OnOk result (scope.now.actions < MAX_ACTIONS) }
 {
     let (table, key, value) = read_change(words, scope)?;
@@ -74,7 +74,7 @@ fn read_set(words: &[&[u8]], scope: &Scope) -> Result<ActionLine, FaultKind>
 /// `add TABLE KEY VALUE`
 fn read_add(words: &[&[u8]], scope: &Scope) -> Result<ActionLine, FaultKind>
     ensures value { Gives (λ line. line) result (option_map (changing Action.Add) (change_of
-        (place scope.now) (texts words.now))) }
+        (plain_scope scope.now) (texts words.now))) }
     ensures room { OnOk result (scope.now.actions < MAX_ACTIONS) }
 {
     let (table, key, value) = read_change(words, scope)?;
@@ -84,7 +84,7 @@ fn read_add(words: &[&[u8]], scope: &Scope) -> Result<ActionLine, FaultKind>
 /// `sub TABLE KEY VALUE`
 fn read_sub(words: &[&[u8]], scope: &Scope) -> Result<ActionLine, FaultKind>
     ensures value { Gives (λ line. line) result (option_map (changing Action.Sub) (change_of
-        (place scope.now) (texts words.now))) }
+        (plain_scope scope.now) (texts words.now))) }
     ensures room { OnOk result (scope.now.actions < MAX_ACTIONS) }
 {
     let (table, key, value) = read_change(words, scope)?;
@@ -94,7 +94,7 @@ fn read_sub(words: &[&[u8]], scope: &Scope) -> Result<ActionLine, FaultKind>
 /// `TABLE KEY VALUE`, what changes a cell.
 #[tactic(auto, using(crate::proofs::Shapes::change_of_other), unfolding(crate::specs::Reading::change_of))]
 fn read_change(words: &[&[u8]], scope: &Scope) -> Result<(TableId, Key, Operand), FaultKind>
-    ensures value { Gives (λ change. change) result (change_of (place scope.now)
+    ensures value { Gives (λ change. change) result (change_of (plain_scope scope.now)
         (texts words.now)) }
     ensures room { OnOk result (scope.now.actions < MAX_ACTIONS) }
 {
@@ -110,7 +110,7 @@ fn read_change(words: &[&[u8]], scope: &Scope) -> Result<(TableId, Key, Operand)
 /// `let NAME VALUE + VALUE`, or with `-`.
 #[tactic(auto, using(crate::proofs::Shapes::let_of_other), unfolding(crate::specs::Reading::let_of))]
 fn read_let(words: &[&[u8]], scope: &Scope) -> Result<ActionLine, FaultKind>
-    ensures value { Gives (λ line. line) result (let_of (place scope.now) (texts words.now)) }
+    ensures value { Gives (λ line. line) result (let_of (plain_scope scope.now) (texts words.now)) }
     ensures room { OnOk result (scope.now.actions < MAX_ACTIONS) }
 {
     let (name, left, operator, right) = four_words(words)?;
@@ -132,7 +132,7 @@ fn read_let(words: &[&[u8]], scope: &Scope) -> Result<ActionLine, FaultKind>
 /// `need VALUE RELATION VALUE`
 #[tactic(auto, using(crate::proofs::Shapes::need_of_other), unfolding(crate::specs::Reading::need_of))]
 fn read_need(words: &[&[u8]], scope: &Scope) -> Result<ActionLine, FaultKind>
-    ensures value { Gives (λ line. line) result (need_of (place scope.now) (texts words.now)) }
+    ensures value { Gives (λ line. line) result (need_of (plain_scope scope.now) (texts words.now)) }
     ensures room { OnOk result (scope.now.actions < MAX_ACTIONS) }
 {
     let (left, relation, right) = three_words(words)?;

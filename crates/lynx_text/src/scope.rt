@@ -5,7 +5,7 @@ ghost use Rattle.lynx_names.specs.declared.limits.TheConstants.{MAX_ACTIONS};
 ghost use Rattle.lynx_words.specs.Digits.{read_number, begins_with_digit};
 ghost use Rattle.lynx_words.specs.Gives.{Gives};
 ghost use Rattle.lynx_set.specs.Names.{place_of, place_below};
-ghost use Rattle.lynx_set.specs.Standing.{is_home};
+ghost use Rattle.lynx_set.specs.Scopes.{is_home};
 ghost use Rattle.lynx_text.specs.Reading.{name_of, new_name, known_name, table_of, read_key, operand_of};
 ghost use Rattle.lynx_words.specs.Lines.{only_if};
 

@@ -8,9 +8,9 @@ use Rattle.lynx_cells.specs.Database.{Database, value_at, with_value}
 use Rattle.lynx_set.specs.declared.action.Action.{Action}
 use Rattle.lynx_set.specs.declared.action.Action.TheVariants.{Get, Set as SetCell, Add, Sub, Let, Need}
 use Rattle.lynx_set.specs.declared.program.Program.{Program}
-use Rattle.lynx_set.specs.Standing.{place_in}
+use Rattle.lynx_set.specs.Scopes.{place_in}
 use Rattle.lynx_set.specs.Plain.{PlainHop, PlainProgram, PlainSet, plain_hop, plain_program, plain_named, plain_set}
-use Rattle.lynx_set.specs.Standing.{Place}
+use Rattle.lynx_set.specs.Scopes.{Place}
 use Rattle.lynx_set.specs.Rules.{FitActions, FitHops, FitsProgram, FitPrograms, next_place, with_hop, with_program, no_programs, IsSet}
 use Rattle.lynx_set.specs.Set.{Set}
 use Rattle.lynx_hops.specs.Meaning.{HopOutcome, after_results, run, meaning, key_of, value_of, sum_of, difference_of, result_of}

@@ -1,4 +1,4 @@
--- Where an action stands: what it may name.
+-- What an action may name, and where it stands.
 use Rattle.std.specs.Prelude.{ℕ, Bool, true, List, length, ◌==◌}
 use Rattle.lynx_shards.specs.declared.shard.Shard.{Shard}
 use Rattle.lynx_shards.specs.Shards.{server_of}
@@ -7,8 +7,8 @@ use Rattle.lynx_set.specs.declared.action.Key.{Key}
 use Rattle.lynx_set.specs.declared.action.Key.TheVariants.{Literal, Param}
 use Rattle.lynx_set.specs.Plain.{PlainProgram, PlainSet}
 
--- what an action may name, and where it stands
-pub record Place : Type 0 where
+-- the names, tables and shards that an action has before it, and where it stands
+pub record PlainScope : Type 0 where
   pub tables : List (List ℕ)
   pub shards : List (List Shard)
   pub parameters : ℕ
@@ -23,8 +23,8 @@ is_home shards server table (Literal key) = server_of shards table key == server
 is_home shards server table (Param place) = true
 
 -- where the next action of a hop stands
-abbrev pub place_in : PlainSet → ℕ → PlainProgram → List Action → Place
-place_in set server program actions = record {
+abbrev pub scope_in : PlainSet → ℕ → PlainProgram → List Action → PlainScope
+scope_in set server program actions = record {
   tables = set.tables;
   shards = set.shards;
   parameters = program.parameters;

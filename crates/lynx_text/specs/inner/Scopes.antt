@@ -1,10 +1,10 @@
--- Where an action stands.
+-- What an action may name, without its borrows.
 use Rattle.lynx_text.specs.declared.scope.Scope.{Scope}
-use Rattle.lynx_set.specs.Standing.{Place}
+use Rattle.lynx_set.specs.Scopes.{PlainScope}
 
--- what a scope says of it
-abbrev pub place : Scope → Place
-place scope = record {
+-- what a scope says
+abbrev pub plain_scope : Scope → PlainScope
+plain_scope scope = record {
   tables = scope.set.now.tables;
   shards = scope.set.now.shards;
   parameters = scope.parameters;

@@ -7,8 +7,8 @@ use Rattle.lynx_graph.specs.declared.nodes.Node.{Node}
 use Rattle.lynx_graph.specs.declared.search.Outcome.{Outcome}
 use Rattle.lynx_graph.specs.declared.search.Outcome.TheVariants.{Found, Nothing, Longer}
 use Rattle.lynx_graph.specs.declared.visit.Visit.{Visit}
-use Rattle.lynx_graph.specs.Tracing.{IsSound}
-use Rattle.lynx_graph.specs.Searches.{Answers, ClosesNone, better}
+use Rattle.lynx_graph.specs.inner.Tracing.{IsSound}
+use Rattle.lynx_graph.specs.inner.Searches.{Answers, ClosesNone, better}
 
 -- the best walk offends, and where there is none no start so far closes one
 abbrev pub IsBest : List Node → ℕ → Option (List Visit) → Type 0

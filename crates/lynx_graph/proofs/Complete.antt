@@ -14,11 +14,12 @@ use Rattle.lynx_graph.specs.declared.tracing.Step.{Step}
 use Rattle.lynx_graph.specs.declared.visit.Visit.{Visit}
 use Rattle.lynx_graph.specs.Walks.{IsAccepted}
 use Rattle.lynx_graph.specs.Tests.{crosses, differs, entrance_of, exit_of, joins}
-use Rattle.lynx_graph.specs.Nodes.{nodes_of, places_of}
-use Rattle.lynx_graph.specs.Marks.{goes_on, is_abroad, leaves, leaving_table, mark_at, next_table, table_within}
-use Rattle.lynx_graph.specs.Tracing.{arrival_after, first_step, next_step, step_by}
+use Rattle.lynx_graph.specs.Nodes.{places_of}
+use Rattle.lynx_graph.specs.inner.Nodes.{nodes_of}
+use Rattle.lynx_graph.specs.inner.Marks.{goes_on, is_abroad, leaves, leaving_table, mark_at, next_table, table_within}
+use Rattle.lynx_graph.specs.inner.Tracing.{arrival_after, first_step, next_step, step_by}
 use Rattle.std.specs.Option.{option_or}
-use Rattle.lynx_graph.specs.Searches.{ClosesNone, HasNone}
+use Rattle.lynx_graph.specs.inner.Searches.{ClosesNone, HasNone}
 use Rattle.lynx_graph.proofs.Decides.{Decides-joins, Decides-leaves_origin, Decides-some_crosses}
 use Rattle.lynx_graph.proofs.Lists.{found-any, is_some-find}
 use Rattle.lynx_graph.proofs.Places.{Conflict, hop_right, node_at, place_of}

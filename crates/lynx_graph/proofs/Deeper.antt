@@ -5,9 +5,9 @@ use Rattle.std.proofs.lemmas.Bool.{cases_lt}
 use Rattle.std.proofs.lemmas.List.FromFn.{map-range_with_len_more}
 use Rattle.lynx_graph.specs.declared.nodes.Node.{Node}
 use Rattle.lynx_graph.specs.declared.marks.Marks.{Marks}
-use Rattle.lynx_graph.specs.Marks.{leaves, next_table, table_within}
-use Rattle.lynx_graph.specs.Tracing.{AreLevels}
-use Rattle.lynx_graph.specs.Searches.{ClosesNone}
+use Rattle.lynx_graph.specs.inner.Marks.{leaves, next_table, table_within}
+use Rattle.lynx_graph.specs.inner.Tracing.{AreLevels}
+use Rattle.lynx_graph.specs.inner.Searches.{ClosesNone}
 use Rattle.lynx_graph.proofs.Tables.{length-table_within, next_table-grows, table_within-same, table_within-suc, unset_in}
 
 -- the levels so far close no walk, and this is the table after them

@@ -11,9 +11,9 @@ use Rattle.lynx_graph.specs.declared.marks.Marks.{Marks}
 use Rattle.lynx_graph.specs.declared.tracing.Arrival.{Arrival}
 use Rattle.lynx_graph.specs.declared.tracing.Step.{Step}
 use Rattle.lynx_graph.specs.declared.visit.Visit.{Visit}
-use Rattle.lynx_graph.specs.Nodes.{nodes_of}
-use Rattle.lynx_graph.specs.Marks.{first_table, mark, mark_at, next_table, table_within}
-use Rattle.lynx_graph.specs.Tracing.{AreLevels, IsSound, arrival_after, next_step}
+use Rattle.lynx_graph.specs.inner.Nodes.{nodes_of}
+use Rattle.lynx_graph.specs.inner.Marks.{first_table, mark, mark_at, next_table, table_within}
+use Rattle.lynx_graph.specs.inner.Tracing.{AreLevels, IsSound, arrival_after, next_step}
 use Rattle.lynx_graph.proofs.Complete.{next_step-some}
 use Rattle.lynx_graph.proofs.Lists.{slice_get-within}
 use Rattle.lynx_graph.proofs.Places.{place_at}

@@ -12,7 +12,8 @@ use Rattle.lynx_foot.specs.Feet.{foot_of, footprint_of}
 use Rattle.lynx_foot.specs.Conflicts.{MayConflict}
 use Rattle.lynx_graph.specs.declared.meeting.Place.{Place}
 use Rattle.lynx_graph.specs.declared.nodes.Node.{Node}
-use Rattle.lynx_graph.specs.Nodes.{node_of, nodes_of, places_in, places_of}
+use Rattle.lynx_graph.specs.Nodes.{places_in, places_of}
+use Rattle.lynx_graph.specs.inner.Nodes.{node_of, nodes_of}
 use Rattle.lynx_graph.proofs.Lists.{slice_get-flat_map, slice_get-mapped, slice_get-range}
 use Rattle.lynx_set.specs.Lookups.{hop_at, program_at}
 

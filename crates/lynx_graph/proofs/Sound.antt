@@ -15,9 +15,10 @@ use Rattle.lynx_graph.specs.declared.tracing.Step.{Step}
 use Rattle.lynx_graph.specs.declared.visit.Visit.{Visit}
 use Rattle.lynx_graph.specs.Walks.{IsOffending}
 use Rattle.lynx_graph.specs.Tests.{crosses, differs, entrance_of, joins, offends}
-use Rattle.lynx_graph.specs.Nodes.{node_of, nodes_of, places_of}
-use Rattle.lynx_graph.specs.Marks.{first_table, is_abroad, is_goal, mark_at}
-use Rattle.lynx_graph.specs.Tracing.{arrival_after, first_step, next_step, step_by}
+use Rattle.lynx_graph.specs.Nodes.{places_of}
+use Rattle.lynx_graph.specs.inner.Nodes.{node_of, nodes_of}
+use Rattle.lynx_graph.specs.inner.Marks.{first_table, is_abroad, is_goal, mark_at}
+use Rattle.lynx_graph.specs.inner.Tracing.{arrival_after, first_step, next_step, step_by}
 use Rattle.std.specs.Option.{option_or}
 use Rattle.lynx_graph.proofs.Decides.{Decides-joins, Decides-joins_around, Decides-offends}
 use Rattle.lynx_graph.proofs.Lists.{find-Some, found-Some}

@@ -14,7 +14,7 @@ use Rattle.std.proofs.lemmas.List.{length-map}
 use Rattle.std.proofs.lemmas.Slice.Zip.{length-zip}
 use Rattle.lynx_graph.specs.declared.nodes.Node.{Node}
 use Rattle.lynx_graph.specs.declared.marks.Marks.{Marks}
-use Rattle.lynx_graph.specs.Marks.{first_marks, first_table, goes_on, is_goal, is_marked, leaves, leaving_marks, leaving_table, mark, mark_at, marks_by, next_marks, next_table, some_marks, table_within}
+use Rattle.lynx_graph.specs.inner.Marks.{first_marks, first_table, goes_on, is_goal, is_marked, leaves, leaving_marks, leaving_table, mark, mark_at, marks_by, next_marks, next_table, some_marks, table_within}
 use Rattle.lynx_graph.proofs.Lists.{slice_get-within, slice_get-zip}
 
 -- ---- marks

@@ -1,17 +1,10 @@
--- The hops of a set as a graph.
-use Rattle.std.specs.Prelude.{Bool, ◌==◌, ℕ, List, map, filter, length}
-use Rattle.std.specs.List.{enumerate_from, flat_map, range_with_len}
+-- The hops of a set.
+use Rattle.std.specs.Prelude.{ℕ, List, map, length}
+use Rattle.std.specs.List.{flat_map, range_with_len}
 use Rattle.lynx_set.specs.Set.{Set}
 use Rattle.lynx_graph.specs.declared.meeting.Place.{Place}
-use Rattle.lynx_graph.specs.declared.nodes.Exit.{Exit}
-use Rattle.lynx_graph.specs.declared.nodes.Node.{Node}
-use Rattle.lynx_graph.specs.Tests.{joins}
 use Rattle.std.specs.Option.{option_map_or}
-use Rattle.lynx_set.specs.Lookups.{origin_of, program_at}
-
--- what is made of the places that pass the test, each with its number
-abbrev pub found : {X : Type 0} → (Place → Bool) → (ℕ × Place → X) → ℕ → List Place → List X
-found test make first places = map make (filter (λ numbered. test numbered.1) (enumerate_from first places))
+use Rattle.lynx_set.specs.Lookups.{program_at}
 
 -- the hops of a program
 abbrev pub places_in : Set → ℕ → List Place
@@ -20,22 +13,3 @@ places_in set program = map (λ hop. record { program = program; hop = hop }) (r
 -- all hops, by program and then by number
 abbrev pub places_of : Set → List Place
 places_of set = flat_map (places_in set) (range_with_len 0 (length set.programs))
-
--- the hops of the same program
-abbrev pub exits_of : List Place → Place → List Exit
-exits_of places place = found (λ other. other.program == place.program) (λ numbered. record { hop = numbered.1.hop; node = numbered.0 }) 0 places
-
--- the hops with which the place may conflict
-abbrev pub neighbours_of : Set → List Place → Place → List ℕ
-neighbours_of set places place = found (joins set place) (λ numbered. numbered.0) 0 places
-
-abbrev pub node_of : Set → List Place → Place → Node
-node_of set places place = record {
-  place = place;
-  origin = origin_of set place.program;
-  exits = exits_of places place;
-  neighbours = neighbours_of set places place;
-}
-
-abbrev pub nodes_of : Set → List Node
-nodes_of set = map (node_of set (places_of set)) (places_of set)

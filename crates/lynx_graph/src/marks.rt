@@ -1,6 +1,6 @@
 //! From which hops a walk can be closed within so many further visits.
 ghost use Rattle.std.specs.Prelude.{◌≡◌, IfOk};
-ghost use Rattle.lynx_graph.specs.Marks.{first_marks, first_table, goes_on, is_abroad, is_goal, is_marked, leaves, leaving_marks, leaving_table, mark, mark_at, next_marks, next_table, some_marks};
+ghost use Rattle.lynx_graph.specs.inner.Marks.{first_marks, first_table, goes_on, is_abroad, is_goal, is_marked, leaves, leaving_marks, leaving_table, mark, mark_at, next_marks, next_table, some_marks};
 
 use crate::meeting::same_server;
 use crate::nodes::Node;

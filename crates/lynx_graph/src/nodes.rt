@@ -2,7 +2,8 @@
 //! may conflict.
 ghost use Rattle.std.specs.Prelude.{◌≡◌, ◌<◌, ◌++◌, IfOk, OnOk, map};
 ghost use Rattle.lynx_names.specs.declared.limits.TheConstants.{MAX_PROGRAMS};
-ghost use Rattle.lynx_graph.specs.Nodes.{exits_of, neighbours_of, node_of, nodes_of, places_in, places_of};
+ghost use Rattle.lynx_graph.specs.Nodes.{places_in, places_of};
+ghost use Rattle.lynx_graph.specs.inner.Nodes.{exits_of, neighbours_of, node_of, nodes_of};
 
 use crate::meeting::{Place, joins};
 use lynx_names::{Items, Memory, ProgramId, ServerId};

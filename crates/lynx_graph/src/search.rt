@@ -2,7 +2,7 @@
 ghost use Rattle.std.specs.Prelude.{◌≡◌, ◌↔◌, IsTrue, IfOk, false, nat_le};
 ghost use Rattle.std.specs.Option.{option_map_or};
 ghost use Rattle.std.specs.List.{Contains};
-ghost use Rattle.lynx_graph.specs.Searches.{Answers};
+ghost use Rattle.lynx_graph.specs.inner.Searches.{Answers};
 
 use crate::marks::{Marks, first_table, leaves, next_table};
 use crate::nodes::Node;

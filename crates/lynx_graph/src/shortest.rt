@@ -1,7 +1,7 @@
 //! The least of the shortest walks of a set.
 ghost use Rattle.std.specs.Prelude.{◌≡◌, ◌↔◌, IfOk, IsSome, MatchOption};
-ghost use Rattle.lynx_graph.specs.Tracing.{IsSound};
-ghost use Rattle.lynx_graph.specs.Searches.{HasNone, better};
+ghost use Rattle.lynx_graph.specs.inner.Tracing.{IsSound};
+ghost use Rattle.lynx_graph.specs.inner.Searches.{HasNone, better};
 
 use crate::nodes::Node;
 use crate::search::{Outcome, search};

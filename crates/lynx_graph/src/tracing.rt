@@ -1,8 +1,8 @@
 //! The least of the shortest walks from one start, read off its tables.
 ghost use Rattle.std.specs.Prelude.{◌≡◌, IfOk, find};
 ghost use Rattle.std.specs.List.{Contains};
-ghost use Rattle.lynx_graph.specs.Marks.{mark_at};
-ghost use Rattle.lynx_graph.specs.Tracing.{AreLevels, IsSound, arrival_after, first_step, next_step, step_by};
+ghost use Rattle.lynx_graph.specs.inner.Marks.{mark_at};
+ghost use Rattle.lynx_graph.specs.inner.Tracing.{AreLevels, IsSound, arrival_after, first_step, next_step, step_by};
 
 use crate::marks::{Marks, Table, is_abroad, mark_at};
 use crate::nodes::{Exit, Node};

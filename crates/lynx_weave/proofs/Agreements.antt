@@ -18,9 +18,9 @@ use Rattle.lynx_world.specs.Servers.{Servers}
 use Rattle.lynx_world.proofs.Once.{both}
 use Rattle.lynx_weave.specs.declared.told.ToldItem.{ToldItem}
 use Rattle.lynx_weave.specs.declared.told.ToldItem.TheVariants.{Answered, Seen}
-use Rattle.lynx_weave.specs.Judging.{IsAgreedAt, IsSolePlace, agrees_at, is_sought, passes_at}
+use Rattle.lynx_weave.specs.inner.Judging.{IsAgreedAt, IsSolePlace, agrees_at, is_sought, passes_at}
 use Rattle.lynx_weave.specs.Lists.{entry_in}
-use Rattle.lynx_weave.specs.Rebuilt.{histories_of}
+use Rattle.lynx_weave.specs.inner.Rebuilt.{histories_of}
 use Rattle.lynx_weave.specs.Told.{bears, is_other_call, same_request, server_told}
 use Rattle.lynx_weave.proofs.Gets.{found_none, found_passes, item}
 use Rattle.lynx_weave.proofs.Lawfuls.{IsSole, sole_act, sole_record}

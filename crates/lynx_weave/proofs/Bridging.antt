@@ -12,7 +12,7 @@ use Rattle.lynx_world.proofs.Members.{IsIn, any_of, in_history, in_list}
 use Rattle.lynx_world.proofs.Standing.{stands as stands_in_legal}
 use Rattle.lynx_weave.specs.declared.told.ToldItem.{ToldItem}
 use Rattle.lynx_weave.specs.Lists.{IsListOf, entry_in}
-use Rattle.lynx_weave.specs.Judging.{StandsIn, agrees_at, are_topped, is_fresh_at, is_full_here}
+use Rattle.lynx_weave.specs.inner.Judging.{StandsIn, agrees_at, are_topped, is_fresh_at, is_full_here}
 use Rattle.lynx_weave.specs.Told.{agrees, is_fresh, is_fresh_by, is_full_in, is_topmost, server_told, stands, tells_full}
 use Rattle.lynx_weave.proofs.Gets.{in_place, item, place_in}
 use Rattle.lynx_weave.proofs.Sending.{entry_here, entry_there}

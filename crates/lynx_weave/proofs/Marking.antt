@@ -15,7 +15,7 @@ use Rattle.lynx_server.proofs.Indexing.{tied_pairs}
 use Rattle.lynx_world.proofs.Once.{both}
 use Rattle.lynx_weave.specs.declared.told.ToldItem.{ToldItem}
 use Rattle.lynx_weave.specs.declared.told.ToldItem.TheVariants.{Answered, Seen}
-use Rattle.lynx_weave.specs.Judging.{AreAllWellTold, AreMarked, AreWellTold, IsAgreedAt, IsBadAt, IsBadIn, IsWellTold, JudgesItem, StandsIn, agrees_at, is_fresh_at, is_full_here, marks_at}
+use Rattle.lynx_weave.specs.inner.Judging.{AreAllWellTold, AreMarked, AreWellTold, IsAgreedAt, IsBadAt, IsBadIn, IsWellTold, JudgesItem, StandsIn, agrees_at, is_fresh_at, is_full_here, marks_at}
 use Rattle.lynx_weave.specs.Since.{IsFreshByOld, is_from_before}
 use Rattle.lynx_weave.specs.Told.{agrees, greatest_told, is_fresh, server_told, stamp_told, tells_full}
 use Rattle.lynx_weave.specs.Weaving.{all_told}

@@ -15,9 +15,9 @@ use Rattle.lynx_world.specs.Placed.{Placed}
 use Rattle.lynx_world.specs.Legal.{IsSent}
 use Rattle.lynx_world.specs.Servers.{Servers, list_of, placed_of}
 use Rattle.lynx_weave.specs.Lists.{IsListOf}
-use Rattle.lynx_weave.specs.Orders.{IsLeastNext, IsNextAt, IsOrderOf}
-use Rattle.lynx_weave.specs.Rebuilt.{AreRebuilt, histories_of}
-use Rattle.lynx_weave.specs.Senders.{AreAllSent}
+use Rattle.lynx_weave.specs.inner.Orders.{IsLeastNext, IsNextAt, IsOrderOf}
+use Rattle.lynx_weave.specs.inner.Rebuilt.{AreRebuilt, histories_of}
+use Rattle.lynx_weave.specs.inner.Senders.{AreAllSent}
 use Rattle.lynx_weave.proofs.Agreements.{history_there}
 use Rattle.lynx_weave.proofs.Lawfuls.{few_before}
 use Rattle.lynx_server.proofs.InHistory.{lawful_in}

@@ -10,12 +10,13 @@ use Rattle.lynx_world.specs.Servers.{Servers}
 use Rattle.std.specs.Global.{Vec}
 use Rattle.std.specs.List.{list_any}
 use Rattle.lynx_weave.specs.declared.told.ToldItem.{ToldItem}
-use Rattle.lynx_weave.specs.Judging.{are_topped}
+use Rattle.lynx_weave.specs.inner.Judging.{are_topped}
 use Rattle.lynx_weave.specs.Told.{is_topmost}
-use Rattle.lynx_weave.specs.Rebuilt.{AreRebuilt, histories_of, told_in}
+use Rattle.lynx_weave.specs.Rebuilt.{told_in}
+use Rattle.lynx_weave.specs.inner.Rebuilt.{AreRebuilt, histories_of}
 use Rattle.lynx_weave.proofs.Gets.{in_place}
 use Rattle.lynx_world.proofs.Members.{any_of}
-use Rattle.lynx_weave.specs.Senders.{IsUnsent}
+use Rattle.lynx_weave.specs.inner.Senders.{IsUnsent}
 use Rattle.lynx_weave.specs.Weaving.{IsUnsentAt}
 use Rattle.lynx_weave.proofs.Agreements.{history_there}
 use Rattle.lynx_weave.proofs.Sending.{AreLawful, unsent_at}

@@ -1,7 +1,7 @@
 //! Where the messages of later hops were sent.
 ghost use Rattle.std.specs.Prelude.{◌≡◌, ◌↔◌, IfOk, IsTrue, option_copied};
-ghost use Rattle.lynx_weave.specs.Rebuilt.{AreRebuilt, histories_of};
-ghost use Rattle.lynx_weave.specs.Senders.{FindsSenders, IsSentBefore, IsUnsentFirst, sender_at, sent_before};
+ghost use Rattle.lynx_weave.specs.inner.Rebuilt.{AreRebuilt, histories_of};
+ghost use Rattle.lynx_weave.specs.inner.Senders.{FindsSenders, IsSentBefore, IsUnsentFirst, sender_at, sent_before};
 
 use crate::fault::WeaveFault;
 use crate::servers::server_at;

@@ -18,7 +18,8 @@ use Rattle.lynx_world.specs.declared.added.Added.{Added}
 use Rattle.lynx_world.specs.Placed.{Placed}
 use Rattle.lynx_world.specs.Legal.{IsLegal, IsSent}
 use Rattle.lynx_world.specs.Order.{hop_in}
-use Rattle.lynx_world.specs.Servers.{AreServers, Servers, act_among, act_in, list_of}
+use Rattle.lynx_world.specs.Servers.{AreServers, Servers, list_of}
+use Rattle.lynx_world.specs.inner.Servers.{act_among, act_in}
 use Rattle.lynx_world.specs.Steps.{is_message_of, sent_message}
 use Rattle.lynx_world.specs.Worlds.{messages_of}
 use Rattle.lynx_world.proofs.Members.{IsIn, found_in, in_history, in_list, sender_of}

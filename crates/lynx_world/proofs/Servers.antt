@@ -22,7 +22,8 @@ use Rattle.lynx_server.proofs.Chains.{get_before, get_last}
 use Rattle.lynx_world.specs.declared.added.Added.{Added}
 use Rattle.lynx_world.specs.Placed.{Placed}
 use Rattle.lynx_world.specs.Legal.{IsLegal, IsSent, MayFollow}
-use Rattle.lynx_world.specs.Servers.{AreServers, IsServerOf, Servers, act_among, held_of, list_of, placed_of}
+use Rattle.lynx_world.specs.Servers.{AreServers, IsServerOf, Servers, held_of, list_of, placed_of}
+use Rattle.lynx_world.specs.inner.Servers.{act_among}
 use Rattle.lynx_world.specs.inner.Calls.{noted}
 use Rattle.lynx_world.specs.Steps.{list_with}
 use Rattle.lynx_world.specs.Worlds.{history_of}

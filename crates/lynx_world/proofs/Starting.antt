@@ -9,7 +9,8 @@ use Rattle.lynx_rules.proofs.Ranges.{range_more}
 use Rattle.lynx_server.specs.Serving.{Serving}
 use Rattle.lynx_world.specs.declared.added.Added.{Added}
 use Rattle.lynx_world.specs.Legal.{IsSent}
-use Rattle.lynx_world.specs.Servers.{AreServers, IsServerOf, Servers, cells_left, held_of, list_of, new_server, new_servers}
+use Rattle.lynx_world.specs.Servers.{AreServers, IsServerOf, Servers, held_of, list_of}
+use Rattle.lynx_world.specs.inner.Servers.{cells_left, new_server, new_servers}
 use Rattle.lynx_world.specs.Tables.{cells_after, cells_of}
 use Rattle.lynx_world.specs.Worlds.{history_of, new_world}
 use Rattle.lynx_world.proofs.Stepping.{world_of}

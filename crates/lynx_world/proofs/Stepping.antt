@@ -31,7 +31,8 @@ use Rattle.lynx_server.proofs.Delivering.{IsPlain, delivery-plain}
 use Rattle.lynx_world.specs.declared.added.Added.{Added}
 use Rattle.lynx_world.specs.Placed.{Placed}
 use Rattle.lynx_world.specs.Legal.{IsSent, MayFollow}
-use Rattle.lynx_world.specs.Servers.{AreServers, Servers, held_of, list_of, waking}
+use Rattle.lynx_world.specs.Servers.{AreServers, Servers, held_of, list_of}
+use Rattle.lynx_world.specs.inner.Servers.{waking}
 use Rattle.lynx_world.specs.inner.Calls.{HasBegun, HasDelivered, WokeNone, HasWoken, HasWokenOne, held_then, noted}
 use Rattle.lynx_world.specs.Steps.{begin_at, deliver_sent, deliver_to, destination_of, held_at, is_full_answer, sent_message, stands_now, stays, step, wake_at, list_with}
 use Rattle.lynx_world.specs.Worlds.{WorldState, history_of}

@@ -1,2 +1,3 @@
 -- Definitions that no public clause cites: they serve the functions within.
 pub mod Calls
+pub mod Servers

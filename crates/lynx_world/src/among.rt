@@ -1,6 +1,6 @@
 //! The entries of hops, wherever they ran.
 ghost use Rattle.std.specs.Prelude.{◌≡◌, option_copied};
-ghost use Rattle.lynx_world.specs.Servers.{act_among};
+ghost use Rattle.lynx_world.specs.inner.Servers.{act_among};
 
 use lynx_entry::Entry;
 use lynx_keep::MemoryKeeper;

@@ -1,7 +1,7 @@
 //! The cells of all servers.
 ghost use Rattle.std.specs.Prelude.{◌≡◌, IfOk};
 ghost use Rattle.std.specs.List.{flat_map};
-ghost use Rattle.lynx_world.specs.Servers.{cells_left};
+ghost use Rattle.lynx_world.specs.inner.Servers.{cells_left};
 
 use lynx_keep::MemoryKeeper;
 use lynx_names::{Memory, TableId};

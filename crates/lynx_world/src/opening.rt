@@ -1,7 +1,7 @@
 //! The servers of a world in which nothing happened yet.
 ghost use Rattle.std.specs.Prelude.{◌≡◌, IfOk, replicate};
 ghost use Rattle.lynx_keep.specs.Kept.{nothing_kept};
-ghost use Rattle.lynx_world.specs.Servers.{new_servers};
+ghost use Rattle.lynx_world.specs.inner.Servers.{new_servers};
 
 use lynx_keep::MemoryKeeper;
 use lynx_names::{Memory, ServerId};

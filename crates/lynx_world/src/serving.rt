@@ -1,7 +1,7 @@
 //! A call of one server, with a note of the entry that it adds.
 ghost use Rattle.std.specs.Prelude.{◌≡◌, ◌++◌, [], IfOk, None, OnErr, OnOk, false, length};
 ghost use Rattle.lynx_server.specs.inner.Repeating.{HasAdded};
-ghost use Rattle.lynx_world.specs.Servers.{waking};
+ghost use Rattle.lynx_world.specs.inner.Servers.{waking};
 ghost use Rattle.lynx_world.specs.inner.Calls.{HasBegun, HasDelivered, HasWoken, noted};
 
 use crate::added::{Added, note};

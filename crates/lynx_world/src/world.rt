@@ -47,7 +47,8 @@ impl World {
     ghost use Rattle.lynx_keep.specs.Kept.{nothing_kept};
     ghost use Rattle.lynx_world.specs.Worlds.{new_world};
     ghost use Rattle.lynx_world.specs.Legal.{IsLegal, IsSent};
-    ghost use Rattle.lynx_world.specs.Servers.{AreServers, act_in, held_of, list_of, placed_as};
+    ghost use Rattle.lynx_world.specs.Servers.{AreServers, held_of, list_of, placed_as};
+    ghost use Rattle.lynx_world.specs.inner.Servers.{act_in};
     ghost use Rattle.lynx_world.specs.Tables.{cells_of, triple_cmp};
     ghost use Rattle.lynx_world.specs.Steps.{HasGrown, step, is_server, sent_message, destination_of, held_at};
 

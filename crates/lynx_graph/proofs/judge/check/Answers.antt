@@ -1,8 +1,8 @@
 use Rattle.std.proofs.Common.{List, Option, MatchOption, sym, subst, ◌∙◌}
 use Rattle.lynx_graph.specs.declared.visit.Visit.{Visit}
 use Rattle.lynx_graph.specs.Walks.{IsAccepted}
-use Rattle.lynx_graph.specs.Tracing.{IsSound}
-use Rattle.lynx_graph.specs.Searches.{HasNone}
+use Rattle.lynx_graph.specs.inner.Tracing.{IsSound}
+use Rattle.lynx_graph.specs.inner.Searches.{HasNone}
 use Rattle.lynx_graph.proofs.Complete.{accepted_from_none}
 use Rattle.lynx_graph.proofs.judge.check.Goals as goal
 use Rattle.lynx_graph.proofs.judge.check.Goals.{In-None}

@@ -1,8 +1,8 @@
 use Rattle.std.proofs.Common.{◌≡◌, List, false, sym, ap, subst, ◌∙◌}
 use Rattle.std.proofs.lemmas.Bool.{false≢true}
 use Rattle.lynx_graph.specs.declared.marks.Marks.{Marks}
-use Rattle.lynx_graph.specs.Marks.{leaves, next_table}
-use Rattle.lynx_graph.specs.Tracing.{AreLevels}
+use Rattle.lynx_graph.specs.inner.Marks.{leaves, next_table}
+use Rattle.lynx_graph.specs.inner.Tracing.{AreLevels}
 use Rattle.lynx_graph.proofs.Deeper.{AreLevels-from_Deeper, ClosesNone-from_same, Deeper, Deeper-first, Deeper-more, fewer_unset}
 use Rattle.lynx_graph.proofs.Tables.{table_within-zero}
 use Rattle.lynx_graph.proofs.search.search.Goals as goal

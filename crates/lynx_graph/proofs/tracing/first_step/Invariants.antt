@@ -1,5 +1,5 @@
 use Rattle.std.proofs.Common.{◌≡◌, drop}
-use Rattle.lynx_graph.specs.Tracing.{first_step}
+use Rattle.lynx_graph.specs.inner.Tracing.{first_step}
 use Rattle.lynx_graph.proofs.tracing.first_step.Given as goal
 
 -- none of the exits so far has a marked arrival after it

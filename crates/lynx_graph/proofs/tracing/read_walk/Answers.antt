@@ -3,8 +3,8 @@ use Rattle.std.specs.Prelude.{is_some, slice_get}
 use Rattle.std.proofs.lemmas.Option.{slice_get-get_or}
 use Rattle.lynx_graph.specs.declared.marks.Marks.{Marks}
 use Rattle.lynx_graph.specs.declared.visit.Visit.{Visit}
-use Rattle.lynx_graph.specs.Marks.{leaves, mark_at, table_within}
-use Rattle.lynx_graph.specs.Tracing.{IsSound}
+use Rattle.lynx_graph.specs.inner.Marks.{leaves, mark_at, table_within}
+use Rattle.lynx_graph.specs.inner.Tracing.{IsSound}
 use Rattle.lynx_graph.proofs.Complete.{is_some-arrival_after}
 use Rattle.lynx_graph.proofs.Levels.{Reads, Reads-all, Reads-first, Reads-some, Reads-step, Reads-within, insert-first, level_at}
 use Rattle.lynx_graph.proofs.tracing.read_walk.Goals as goal

@@ -1,5 +1,5 @@
 use Rattle.std.proofs.Common.{sym, subst}
-use Rattle.lynx_weave.specs.Judging.{IsSolePlace}
+use Rattle.lynx_weave.specs.inner.Judging.{IsSolePlace}
 use Rattle.lynx_weave.specs.Told.{bears}
 use Rattle.lynx_weave.proofs.Agreements.{place_by, place_none}
 use Rattle.lynx_weave.proofs.agreeing.borne_out_at.Goals as goal

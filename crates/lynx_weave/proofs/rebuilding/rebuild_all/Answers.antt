@@ -1,6 +1,7 @@
 use Rattle.std.proofs.Common.{◌+◌, ◌∙◌, Err, sym, subst, arith}
 use Rattle.lynx_server.specs.Rebuilding.{IsRebuilt}
-use Rattle.lynx_weave.specs.Rebuilt.{RebuildsOne, histories_in}
+use Rattle.lynx_weave.specs.Rebuilt.{histories_in}
+use Rattle.lynx_weave.specs.inner.Rebuilt.{RebuildsOne}
 use Rattle.lynx_weave.proofs.Rebuildings.{AreRebuiltBelow, first_behind, history_at, rebuild_fault, rebuilt_more}
 use Rattle.lynx_weave.proofs.rebuilding.rebuild_all.Goals as goal
 

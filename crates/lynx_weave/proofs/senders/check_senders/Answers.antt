@@ -1,7 +1,7 @@
 use Rattle.std.proofs.Common.{◌∙◌, Some, sym, ap, subst, arith}
 use Rattle.std.proofs.lemmas.Option.{slice_get-get_or}
-use Rattle.lynx_weave.specs.Rebuilt.{histories_of}
-use Rattle.lynx_weave.specs.Senders.{AreSent, IsUnsent, IsUnsentFirst}
+use Rattle.lynx_weave.specs.inner.Rebuilt.{histories_of}
+use Rattle.lynx_weave.specs.inner.Senders.{AreSent, IsUnsent, IsUnsentFirst}
 use Rattle.lynx_weave.proofs.Agreements.{history_there}
 use Rattle.lynx_weave.proofs.Sending.{all_sent, all_sent_more}
 use Rattle.lynx_weave.proofs.Servings.{many_of, unsent_there}

@@ -1,4 +1,4 @@
-use Rattle.lynx_weave.specs.Rebuilt.{histories_of}
+use Rattle.lynx_weave.specs.inner.Rebuilt.{histories_of}
 use Rattle.lynx_weave.proofs.Sending.{AreAllSentBelow}
 use Rattle.lynx_weave.proofs.senders.check_senders.Given as goal
 

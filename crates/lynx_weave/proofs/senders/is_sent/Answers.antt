@@ -1,6 +1,6 @@
 use Rattle.std.proofs.Common.{◌∙◌, sym}
-use Rattle.lynx_weave.specs.Rebuilt.{histories_of}
-use Rattle.lynx_weave.specs.Senders.{sent_before}
+use Rattle.lynx_weave.specs.inner.Rebuilt.{histories_of}
+use Rattle.lynx_weave.specs.inner.Senders.{sent_before}
 use Rattle.lynx_weave.proofs.Sames.{same_found}
 use Rattle.lynx_weave.proofs.senders.is_sent.Goals as goal
 

@@ -2,9 +2,10 @@ use Rattle.std.proofs.Common.{◌∙◌, Err, map, length, sym, ap, subst, arith
 use Rattle.std.specs.Prelude.{All}
 use Rattle.std.specs.List.{range_with_len}
 use Rattle.lynx_world.specs.Servers.{held_of, list_of}
-use Rattle.lynx_weave.specs.Judging.{AreAllWellTold, JudgesAll}
-use Rattle.lynx_weave.specs.Orders.{IsOrderOf}
-use Rattle.lynx_weave.specs.Rebuilt.{histories_of, told_in}
+use Rattle.lynx_weave.specs.inner.Judging.{AreAllWellTold, JudgesAll}
+use Rattle.lynx_weave.specs.inner.Orders.{IsOrderOf}
+use Rattle.lynx_weave.specs.Rebuilt.{told_in}
+use Rattle.lynx_weave.specs.inner.Rebuilt.{histories_of}
 use Rattle.lynx_weave.specs.Since.{IsFreshByOld, WeavesSince, counts_at}
 use Rattle.lynx_weave.specs.Weaving.{IsWoven, all_told}
 use Rattle.lynx_weave.proofs.Counting.{fresh_fits}

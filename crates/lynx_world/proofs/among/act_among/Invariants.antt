@@ -1,5 +1,5 @@
 use Rattle.std.proofs.Common.{◌≡◌, drop}
-use Rattle.lynx_world.specs.Servers.{act_among}
+use Rattle.lynx_world.specs.inner.Servers.{act_among}
 use Rattle.lynx_world.proofs.among.act_among.Given as goal
 
 -- none of the servers so far has it

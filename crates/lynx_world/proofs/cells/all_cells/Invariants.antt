@@ -1,6 +1,6 @@
 use Rattle.std.proofs.Common.{◌≡◌, take}
 use Rattle.std.specs.List.{flat_map}
-use Rattle.lynx_world.specs.Servers.{cells_left}
+use Rattle.lynx_world.specs.inner.Servers.{cells_left}
 use Rattle.lynx_world.proofs.cells.all_cells.Given as goal
 
 abbrev pub invariant-loop-server : goal.invariant-loop-server

@@ -1,7 +1,7 @@
 use Rattle.std.proofs.Common.{◌≡◌, ◌≤◌, ◌-◌, map, replicate}
 use Rattle.std.specs.List.{range_with_len}
 use Rattle.lynx_keep.specs.Kept.{nothing_kept}
-use Rattle.lynx_world.specs.Servers.{new_server}
+use Rattle.lynx_world.specs.inner.Servers.{new_server}
 use Rattle.lynx_world.proofs.opening.open_all.Given as goal
 
 abbrev pub invariant-loop-number : goal.invariant-loop-number

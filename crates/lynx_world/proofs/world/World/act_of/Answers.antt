@@ -1,5 +1,6 @@
 use Rattle.std.proofs.Common.{◌∙◌, ap}
-use Rattle.lynx_world.specs.Servers.{Servers, act_among, act_in}
+use Rattle.lynx_world.specs.Servers.{Servers}
+use Rattle.lynx_world.specs.inner.Servers.{act_among, act_in}
 use Rattle.lynx_world.specs.Worlds.{WorldState}
 use Rattle.lynx_world.proofs.Finding.{act_is}
 use Rattle.lynx_world.proofs.world.World.act_of.Goals as goal

@@ -1,7 +1,7 @@
 use Rattle.std.proofs.Common.{◌≡◌, ℕ, List, ap, subst, ◌∙◌}
 use Rattle.std.specs.List.Sorted.{IsPermutation}
 use Rattle.std.specs.List.{flat_map}
-use Rattle.lynx_world.specs.Servers.{cells_left}
+use Rattle.lynx_world.specs.inner.Servers.{cells_left}
 use Rattle.lynx_world.specs.Tables.{cells_of}
 use Rattle.lynx_world.proofs.Starting.{cells_are}
 use Rattle.lynx_world.proofs.world.World.cells.Goals as goal

@@ -5,13 +5,13 @@ use Rattle.std.specs.List.{range_with_len}
 use Rattle.lynx_set.specs.Set.{Set}
 use Rattle.lynx_graph.specs.declared.visit.Visit.{Visit}
 use Rattle.lynx_graph.specs.Walks.{IsOffending}
-use Rattle.lynx_graph.specs.Nodes.{nodes_of}
+use Rattle.lynx_graph.specs.inner.Nodes.{nodes_of}
 use Rattle.lynx_graph.specs.declared.nodes.Exit.{Exit}
 use Rattle.lynx_graph.specs.declared.nodes.Node.{Node}
 use Rattle.lynx_graph.specs.declared.marks.Marks.{Marks}
 use Rattle.lynx_graph.specs.declared.tracing.Arrival.{Arrival}
 use Rattle.lynx_graph.specs.declared.tracing.Step.{Step}
-use Rattle.lynx_graph.specs.Marks.{is_abroad, leaves, mark_at, table_within}
+use Rattle.lynx_graph.specs.inner.Marks.{is_abroad, leaves, mark_at, table_within}
 
 -- the first marked arrival for a walk that leaves at this node
 abbrev pub arrival_after : List Marks → Node → Bool → Bool → Option Arrival

@@ -4,8 +4,8 @@ use Rattle.lynx_graph.specs.declared.nodes.Node.{Node}
 use Rattle.lynx_graph.specs.declared.search.Outcome.{Outcome}
 use Rattle.lynx_graph.specs.declared.search.Outcome.TheVariants.{Found, Nothing, Longer}
 use Rattle.lynx_graph.specs.declared.visit.Visit.{Visit}
-use Rattle.lynx_graph.specs.Marks.{leaves, table_within}
-use Rattle.lynx_graph.specs.Tracing.{IsSound}
+use Rattle.lynx_graph.specs.inner.Marks.{leaves, table_within}
+use Rattle.lynx_graph.specs.inner.Tracing.{IsSound}
 
 -- no walk leaves at the start, of whatever length
 abbrev pub ClosesNone : List Node → Node → Type 0

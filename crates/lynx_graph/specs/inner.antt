@@ -1,0 +1,5 @@
+-- Definitions that no public clause cites: they serve the functions within.
+pub mod Marks
+pub mod Nodes
+pub mod Searches
+pub mod Tracing

@@ -1,0 +1,5 @@
+-- Definitions that no public clause cites: they serve the functions within.
+pub mod Judging
+pub mod Orders
+pub mod Rebuilt
+pub mod Senders

@@ -7,9 +7,9 @@ use Rattle.lynx_foot.specs.Kinds.{commute}
 use Rattle.lynx_foot.specs.Tests.{collide}
 use Rattle.lynx_search.specs.declared.touched.ChainTouch.{ChainTouch}
 use Rattle.lynx_world.proofs.Once.{both}
-use Rattle.lynx_order.specs.declared.rising.Front.{Front}
+use Rattle.lynx_order.specs.declared.rising.Sweep.{Sweep}
 use Rattle.lynx_order.specs.Lists.{IsIn, AreDifferent, StandsBefore}
-use Rattle.lynx_order.specs.inner.Certificates.{AreNumbers, GoesOn, HoldsOrder, Inverts, IsCounted, IsNoLater, IsOfCell, KeepsRank, Rise, rank_at}
+use Rattle.lynx_order.specs.inner.Certificates.{AreNumbers, MayFollow, HoldsOrder, Inverts, IsCounted, IsNoLater, IsOfCell, KeepsRank, Rise, rank_at}
 use Rattle.lynx_order.proofs.Found.{different_from_before}
 use Rattle.lynx_order.proofs.Places.{in_at}
 
@@ -109,8 +109,8 @@ get_next x xs i y there = subst (λ k. slice_get (x ∷ xs) k ≡ Some y) (next 
     next i = omega arith
 
 -- the touches up to a place are counted
-abbrev pub AreCounted : List ℕ → List ChainTouch → ℕ → Front → Type 0
-AreCounted ranks touches last front = (k : ℕ) (one : ChainTouch) → k ≤ last → slice_get touches k ≡ Some one → IsCounted ranks front one
+abbrev pub AreCounted : List ℕ → List ChainTouch → ℕ → Sweep → Type 0
+AreCounted ranks touches last sweep = (k : ℕ) (one : ChainTouch) → k ≤ last → slice_get touches k ≡ Some one → IsCounted ranks sweep one
 
 -- they keep their ranks
 abbrev pub RiseTo : List ℕ → List ChainTouch → ℕ → Type 0
@@ -122,9 +122,9 @@ same_touch touches k last one touch there same at =
     let found : Some touch ≡ Some one = sym there ∙ ap (slice_get touches) (sym same) ∙ at in
     cc
 
-pub counted_first : (ranks : List ℕ) (touches : List ChainTouch) (front : Front) (first : ChainTouch) → slice_get touches 0 ≡ Some first → IsCounted ranks front first →
-    AreCounted ranks touches 0 front
-counted_first ranks touches front first there own = λ k one least at. subst (IsCounted ranks front) (same_touch touches k 0 one first there (omega arith) at) own
+pub counted_first : (ranks : List ℕ) (touches : List ChainTouch) (sweep : Sweep) (first : ChainTouch) → slice_get touches 0 ≡ Some first → IsCounted ranks sweep first →
+    AreCounted ranks touches 0 sweep
+counted_first ranks touches sweep first there own = λ k one least at. subst (IsCounted ranks sweep) (same_touch touches k 0 one first there (omega arith) at) own
 
 pub rise_first : (ranks : List ℕ) (touches : List ChainTouch) → RiseTo ranks touches 0
 rise_first ranks touches = λ k later one other less least. absurd (omega arith)
@@ -132,18 +132,18 @@ rise_first ranks touches = λ k later one other less least. absurd (omega arith)
 at_most : (k last : ℕ) → k ≤ last + 1 → (k ≤ last) ⊎ (k ≡ last + 1)
 at_most k last least = elim (cases_lt last k) [ inl above ↦ inr (omega arith) | inr below ↦ inl (omega arith) ]
 
-pub counted_more : (ranks : List ℕ) (touches : List ChainTouch) (last : ℕ) (front next : Front) (touch : ChainTouch) → slice_get touches (last + 1) ≡ Some touch →
-    GoesOn ranks front next touch → AreCounted ranks touches last front → AreCounted ranks touches (last + 1) next
-counted_more ranks touches last front next touch there goes old = λ k one least at. elim (at_most k last least) [
-  | inl before ↦ goes.counted one (old k one before at)
-  | inr same ↦ subst (IsCounted ranks next) (same_touch touches k (last + 1) one touch there same at) goes.own
+pub counted_more : (ranks : List ℕ) (touches : List ChainTouch) (last : ℕ) (sweep next : Sweep) (touch : ChainTouch) → slice_get touches (last + 1) ≡ Some touch →
+    MayFollow ranks sweep next touch → AreCounted ranks touches last sweep → AreCounted ranks touches (last + 1) next
+counted_more ranks touches last sweep next touch there follows old = λ k one least at. elim (at_most k last least) [
+  | inl before ↦ follows.counted one (old k one before at)
+  | inr same ↦ subst (IsCounted ranks next) (same_touch touches k (last + 1) one touch there same at) follows.own
 ]
 
-pub rise_more : (ranks : List ℕ) (touches : List ChainTouch) (last : ℕ) (front next : Front) (touch : ChainTouch) → slice_get touches (last + 1) ≡ Some touch →
-    GoesOn ranks front next touch → AreCounted ranks touches last front → RiseTo ranks touches last → RiseTo ranks touches (last + 1)
-rise_more ranks touches last front next touch there goes counted old = λ k later one other less least at too. elim (at_most later last least) [
+pub rise_more : (ranks : List ℕ) (touches : List ChainTouch) (last : ℕ) (sweep next : Sweep) (touch : ChainTouch) → slice_get touches (last + 1) ≡ Some touch →
+    MayFollow ranks sweep next touch → AreCounted ranks touches last sweep → RiseTo ranks touches last → RiseTo ranks touches (last + 1)
+rise_more ranks touches last sweep next touch there follows counted old = λ k later one other less least at too. elim (at_most later last least) [
   | inl before ↦ old k later one other less before at too
-  | inr same ↦ subst (KeepsRank ranks one) (same_touch touches later (last + 1) other touch there same too) (goes.kept one (counted k one (omega arith) at))
+  | inr same ↦ subst (KeepsRank ranks one) (same_touch touches later (last + 1) other touch there same too) (follows.kept one (counted k one (omega arith) at))
 ]
 
 -- ---- different numbers

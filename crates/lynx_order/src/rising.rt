@@ -1,6 +1,6 @@
 //! Whether ranks rise along the touches of each cell.
 ghost use Rattle.std.specs.Prelude.{◌≡◌, ◌↔◌, IsTrue, IfSome, slice_index_or};
-ghost use Rattle.lynx_order.specs.inner.Certificates.{GoesOn, IsCounted, IsNoLater, IsOfCell, Rise, rank_at};
+ghost use Rattle.lynx_order.specs.inner.Certificates.{MayFollow, IsCounted, IsNoLater, IsOfCell, Rise, rank_at};
 
 use lynx_foot::Kind;
 use lynx_search::ChainTouch;
@@ -83,38 +83,38 @@ fn rank_of(ranks: &[usize], touch: &ChainTouch) -> usize
 
 /// The last touch of those that were gone over, and the greatest ranks of its cell.
 #[derive(Clone, Copy, Debug)]
-struct Front {
+struct Sweep {
     last: ChainTouch,
     greatest: Greatest,
 }
 
-impl Front {
-    fn first(ranks: &[usize], touch: &ChainTouch) -> Front
+impl Sweep {
+    fn first(ranks: &[usize], touch: &ChainTouch) -> Sweep
         ensures last { result.last ≡ touch.now }
         ensures own { IsCounted ranks.now result touch.now }
     {
         let rank = rank_of(ranks, touch);
-        Front {
+        Sweep {
             last: *touch,
             greatest: Greatest::none().with(touch.touch.kind, rank),
         }
     }
 
-    /// The front behind the next touch, if that one may come here.
-    fn next(self, ranks: &[usize], touch: &ChainTouch) -> Option<Front>
-        ensures { IfSome result (λ next. GoesOn ranks.now self next touch.now) }
+    /// The sweep behind the next touch, if that one may come here.
+    fn next(self, ranks: &[usize], touch: &ChainTouch) -> Option<Sweep>
+        ensures { IfSome result (λ next. MayFollow ranks.now self next touch.now) }
     {
         if !is_no_later(&self.last, touch) {
             return None;
         }
         let rank = rank_of(ranks, touch);
         if !is_of_cell(&self.last, touch) {
-            return Some(Front::first(ranks, touch));
+            return Some(Sweep::first(ranks, touch));
         }
         if !self.greatest.allows(touch.touch.kind, rank) {
             return None;
         }
-        Some(Front {
+        Some(Sweep {
             last: *touch,
             greatest: self.greatest.with(touch.touch.kind, rank),
         })
@@ -128,10 +128,10 @@ pub(crate) fn rise(ranks: &[usize], touches: &[ChainTouch]) -> bool
     let Some((first, rest)) = touches.split_first() else {
         return true;
     };
-    let mut front = Front::first(ranks, first);
+    let mut sweep = Sweep::first(ranks, first);
     for touch in rest {
-        match front.next(ranks, touch) {
-            Some(next) => front = next,
+        match sweep.next(ranks, touch) {
+            Some(next) => sweep = next,
             None => return false,
         }
     }

@@ -12,6 +12,6 @@ mod graph;
 mod nearest;
 mod picking;
 mod round;
-mod runs;
 pub mod searching;
+mod stretches;
 pub mod touched;

@@ -3,7 +3,7 @@ use crate::graph::{Graph, degrees_of};
 use crate::nearest::predecessors;
 use crate::picking::pick;
 use crate::round::cycle_from;
-use crate::runs::edges_of;
+use crate::stretches::edges_of;
 use crate::touched::ChainTouch;
 use lynx_names::{Items, Memory};
 use std::alloc::Global;

@@ -8,10 +8,9 @@ use Rattle.lynx_cells.specs.Database.{Database, value_at, with_value}
 use Rattle.lynx_set.specs.declared.action.Action.{Action}
 use Rattle.lynx_set.specs.declared.action.Action.TheVariants.{Get, Set as SetCell, Add, Sub, Let, Need}
 use Rattle.lynx_set.specs.declared.program.Program.{Program}
-use Rattle.lynx_set.specs.Scopes.{place_in}
+use Rattle.lynx_set.specs.Scopes.{PlainScope, scope_in}
 use Rattle.lynx_set.specs.Plain.{PlainHop, PlainProgram, PlainSet, plain_hop, plain_program, plain_named, plain_set}
-use Rattle.lynx_set.specs.Scopes.{Place}
-use Rattle.lynx_set.specs.Rules.{FitActions, FitHops, FitsProgram, FitPrograms, next_place, with_hop, with_program, no_programs, IsSet}
+use Rattle.lynx_set.specs.Rules.{FitActions, FitHops, FitsProgram, FitPrograms, next_scope, with_hop, with_program, no_programs, IsSet}
 use Rattle.lynx_set.specs.Set.{Set}
 use Rattle.lynx_hops.specs.Meaning.{HopOutcome, after_results, run, meaning, key_of, value_of, sum_of, difference_of, result_of}
 use Rattle.lynx_world.proofs.HopsOf.{HasHop, actions_are}
@@ -26,23 +25,23 @@ refused_behind value (Ok (results, db)) need e = cc
 refused_behind value (Err other) need e = e
 
 -- actions that stand in a later hop have no need
-never_refuse : (place : Place) (actions : List Action) (known : List (List ℕ)) → place.is_first ≡ false → FitActions place actions known → NeverRefuse actions
-never_refuse place [] known later fit args needs names db need e = cc
-never_refuse place (Get table key ∷ actions) known later fit args needs names db need e =
+never_refuse : (scope : PlainScope) (actions : List Action) (known : List (List ℕ)) → scope.is_first ≡ false → FitActions scope actions known → NeverRefuse actions
+never_refuse scope [] known later fit args needs names db need e = cc
+never_refuse scope (Get table key ∷ actions) known later fit args needs names db need e =
     let value = value_at db table (key_of args key) in
-    never_refuse (next_place place fit.2) actions known later fit.4 args needs (names ++ value ∷ []) db need (refused_behind value _ need e)
-never_refuse place (SetCell table key value ∷ actions) known later fit args needs names db need e =
-    never_refuse (next_place place fit.2) actions known later fit.4 args needs names (with_value db table (key_of args key) (value_of names value)) need e
-never_refuse place (Add table key value ∷ actions) known later fit args needs names db need e =
-    never_refuse (next_place place fit.2) actions known later fit.4 args needs names
+    never_refuse (next_scope scope fit.2) actions known later fit.4 args needs (names ++ value ∷ []) db need (refused_behind value _ need e)
+never_refuse scope (SetCell table key value ∷ actions) known later fit args needs names db need e =
+    never_refuse (next_scope scope fit.2) actions known later fit.4 args needs names (with_value db table (key_of args key) (value_of names value)) need e
+never_refuse scope (Add table key value ∷ actions) known later fit args needs names db need e =
+    never_refuse (next_scope scope fit.2) actions known later fit.4 args needs names
     (with_value db table (key_of args key) (sum_of (value_at db table (key_of args key)) (value_of names value))) need e
-never_refuse place (Sub table key value ∷ actions) known later fit args needs names db need e =
-    never_refuse (next_place place fit.2) actions known later fit.4 args needs names
+never_refuse scope (Sub table key value ∷ actions) known later fit args needs names db need e =
+    never_refuse (next_scope scope fit.2) actions known later fit.4 args needs names
     (with_value db table (key_of args key) (difference_of (value_at db table (key_of args key)) (value_of names value))) need e
-never_refuse place (Let left operator right ∷ actions) known later fit args needs names db need e =
+never_refuse scope (Let left operator right ∷ actions) known later fit args needs names db need e =
     let value = result_of operator (value_of names left) (value_of names right) in
-    never_refuse (next_place place fit.2) actions known later fit.4 args needs (names ++ value ∷ []) db need (refused_behind value _ need e)
-never_refuse place (Need left relation right ∷ actions) known later fit args needs names db need e = cc (fit.1.0)
+    never_refuse (next_scope scope fit.2) actions known later fit.4 args needs (names ++ value ∷ []) db need (refused_behind value _ need e)
+never_refuse scope (Need left relation right ∷ actions) known later fit args needs names db need e = cc (fit.1.0)
 
 -- a hop that isn't the first stands behind some
 not_first : {X : Type 0} (xs : List X) (i : ℕ) → i ≡ 0 → 0 < length xs + i → nat_eq (length xs) 0 ≡ false
@@ -64,7 +63,7 @@ hop_fits set program (first ∷ hops) after zero hop fit is =
     let same : first ≡ hop = cc in
     subst (FitsHop set.servers (0 < length program.hops + 0)) same (record {
       server = fit.1;
-      actions = λ later. never_refuse (place_in set first.server program []) first.actions fit.3 (not_first program.hops 0 refl later) fit.4;
+      actions = λ later. never_refuse (scope_in set first.server program []) first.actions fit.3 (not_first program.hops 0 refl later) fit.4;
     })
 hop_fits set program (first ∷ hops) after (suc i) hop fit is =
     let rest = hop_fits set (with_hop program first fit.3) hops after i hop fit.5 is in

@@ -9,7 +9,7 @@ use Rattle.lynx_foot.specs.Tests.{collide}
 use Rattle.lynx_search.specs.declared.touched.ChainTouch.{ChainTouch}
 use Rattle.lynx_world.specs.Placed.{Placed}
 use Rattle.lynx_order.specs.declared.rising.Greatest.{Greatest}
-use Rattle.lynx_order.specs.declared.rising.Front.{Front}
+use Rattle.lynx_order.specs.declared.rising.Sweep.{Sweep}
 use Rattle.lynx_order.specs.declared.explained.Explained.{Explained}
 use Rattle.lynx_order.specs.declared.explained.Explained.TheVariants.{Order}
 use Rattle.lynx_order.specs.inner.ChainsAt.{chain_at}
@@ -82,12 +82,12 @@ with_rank greatest Setting rank = record { getting = greatest.getting; setting =
 with_rank greatest Adding rank = record { getting = greatest.getting; setting = greatest.setting; adding = max greatest.adding rank }
 
 -- a touch that is not behind the last one, and whose rank is counted if it is of the same cell
-pub record IsCounted (ranks : List ℕ) (front : Front) (one : ChainTouch) : Type 0 where
-  pub no_later : IsNoLater one front.last
-  pub counted : IsOfCell one front.last → rank_at ranks one ≤ greatest_of front.greatest one.touch.kind
+pub record IsCounted (ranks : List ℕ) (sweep : Sweep) (one : ChainTouch) : Type 0 where
+  pub no_later : IsNoLater one sweep.last
+  pub counted : IsOfCell one sweep.last → rank_at ranks one ≤ greatest_of sweep.greatest one.touch.kind
 
 -- the touch may come after those that are counted, and is counted with them then
-pub record GoesOn (ranks : List ℕ) (front next : Front) (touch : ChainTouch) : Type 0 where
-  pub kept : (one : ChainTouch) → IsCounted ranks front one → KeepsRank ranks one touch
-  pub counted : (one : ChainTouch) → IsCounted ranks front one → IsCounted ranks next one
+pub record MayFollow (ranks : List ℕ) (sweep next : Sweep) (touch : ChainTouch) : Type 0 where
+  pub kept : (one : ChainTouch) → IsCounted ranks sweep one → KeepsRank ranks one touch
+  pub counted : (one : ChainTouch) → IsCounted ranks sweep one → IsCounted ranks next one
   pub own : IsCounted ranks next touch

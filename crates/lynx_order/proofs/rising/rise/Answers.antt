@@ -5,7 +5,7 @@ use Rattle.lynx_order.proofs.rising.rise.Goals as goal
 
 pub loop-touch-init : goal.loop-touch-init
 loop-touch-init c = record {
-  counted = counted_first c.args.ranks.now c.args.touches.now c.first-front.result c.in-Some.first.now (ap (λ l. slice_get l 0) c.in-Some.ensures.cases.0) c.first-front.ensures.own;
+  counted = counted_first c.args.ranks.now c.args.touches.now c.first-sweep.result c.in-Some.first.now (ap (λ l. slice_get l 0) c.in-Some.ensures.cases.0) c.first-sweep.ensures.own;
   kept = rise_first c.args.ranks.now c.args.touches.now;
 }
 
@@ -16,8 +16,8 @@ loop-touch-preserved c =
     let there = ap (λ l. slice_get l (i + 1)) c.in-Some.ensures.cases.0
     ∙ get_next c.in-Some.first.now rest i c.touch-item.result (slice_get_read rest (length rest) i c.touch-item.result refl c.loop-touch-test.true c.touch-item.is) in
     record {
-      counted = counted_more c.args.ranks.now c.args.touches.now i c.loop-touch.front c.in-Some-next.next c.touch-item.result there c.in-Some-next.ensures c.loop-touch.invariant.counted;
-      kept = rise_more c.args.ranks.now c.args.touches.now i c.loop-touch.front c.in-Some-next.next c.touch-item.result there c.in-Some-next.ensures c.loop-touch.invariant.counted
+      counted = counted_more c.args.ranks.now c.args.touches.now i c.loop-touch.sweep c.in-Some-next.next c.touch-item.result there c.in-Some-next.ensures c.loop-touch.invariant.counted;
+      kept = rise_more c.args.ranks.now c.args.touches.now i c.loop-touch.sweep c.in-Some-next.next c.touch-item.result there c.in-Some-next.ensures c.loop-touch.invariant.counted
           c.loop-touch.invariant.kept;
     }
 

@@ -1,62 +1,60 @@
-//! Runs of touches of one cell that commute with each other. Each run precedes the one behind it, and through that one
-//! all that come after, so edges between neighbours say all.
+//! Stretches of touches of one cell that commute with each other. Each stretch precedes the one behind it, and through
+//! that one all that come after, so edges between neighbours say all.
 use crate::edges::Edges;
 use crate::touched::ChainTouch;
 use lynx_names::Memory;
 use std::alloc::Global;
 use std::mem;
 
-/// The numbers of the last two runs that a chain is in, from 1; 0 for none.
+/// The numbers of the last two stretches that a chain is in, from 1; 0 for none.
 #[derive(Clone, Copy, Debug)]
-struct Visits {
+struct Seen {
     last: usize,
     before: usize,
 }
 
-/// The run that is read and the one before it in the same cell, each chain once.
+/// The stretch that is read and the one before it in the same cell, each chain once.
 #[derive(Debug, Drop)]
-struct Runs {
+struct Stretches {
     number: usize,
     earlier: Vec<usize>,
     later: Vec<usize>,
-    visits: Vec<Visits>,
+    seen: Vec<Seen>,
 }
 
-impl Runs {
-    fn new(alloc: Global, chains: usize) -> Result<Runs, Memory> {
-        Ok(Runs {
+impl Stretches {
+    fn new(alloc: Global, chains: usize) -> Result<Stretches, Memory> {
+        Ok(Stretches {
             number: 1,
             earlier: Vec::new(alloc),
             later: Vec::new(alloc),
-            visits: vec![in alloc; Visits { last: 0, before: 0 }; chains]?,
+            seen: vec![in alloc; Seen { last: 0, before: 0 }; chains]?,
         })
     }
 
-    /// The touch of a chain belongs to the run.
+    /// The touch of a chain belongs to the stretch.
     fn add(&mut self, chain: usize) -> Result<(), Memory> {
-        let Some(visits) = self.visits.get_mut(chain) else {
+        let Some(seen) = self.seen.get_mut(chain) else {
             return Ok(());
         };
-        if visits.last != self.number {
-            visits.before = visits.last;
-            visits.last = self.number;
+        if seen.last != self.number {
+            seen.before = seen.last;
+            seen.last = self.number;
             self.later.push(chain)?;
         }
         Ok(())
     }
 
-    /// Whether the chain is in both runs.
+    /// Whether the chain is in both stretches.
     fn is_shared(&self, chain: usize) -> bool {
-        match self.visits.get(chain) {
-            Some(visits) => {
-                visits.last == self.number && visits.before == self.number.wrapping_sub(1)
-            }
+        match self.seen.get(chain) {
+            Some(seen) => { seen.last == self.number && seen.before == self.number.wrapping_sub(1) }
             None => false,
         }
     }
 
-    /// The node through which the edges go from all of the earlier run to all of the later: a chain that is in both, the
-    /// only one of either, or a joint.
+    /// The node through which the edges go from all of the earlier stretch to all of the later: a chain that is in
+    /// both, the only one of either, or a joint.
     fn hub(&self, edges: &mut Edges) -> Option<usize> {
         let shared = self
             .earlier
@@ -71,7 +69,7 @@ impl Runs {
         }
     }
 
-    /// Chains that are in both runs precede each other: edges around all of them.
+    /// Chains that are in both stretches precede each other: edges around all of them.
     fn join_shared(&self, edges: &mut Edges, first: usize) -> Result<(), Memory> {
         let mut last = first;
         for chain in self.earlier.iter().copied() {
@@ -83,7 +81,7 @@ impl Runs {
         edges.add(last, first)
     }
 
-    /// Adds the edges from the earlier run to the later.
+    /// Adds the edges from the earlier stretch to the later.
     fn join(&self, edges: &mut Edges) -> Result<(), Memory> {
         let Some(hub) = self.hub(edges) else {
             return Ok(());
@@ -104,7 +102,7 @@ impl Runs {
         Ok(())
     }
 
-    /// A run begins: behind the one that was read, or the first of a cell.
+    /// A stretch begins: behind the one that was read, or the first of a cell.
     fn begin(&mut self, is_first: bool) {
         mem::swap(&mut self.earlier, &mut self.later);
         self.later.clear();
@@ -123,18 +121,18 @@ pub(crate) fn edges_of(
     touches: &[ChainTouch],
 ) -> Result<Edges, Memory> {
     let mut edges = Edges::new(alloc, chains);
-    let mut runs = Runs::new(alloc, chains)?;
+    let mut stretches = Stretches::new(alloc, chains)?;
     let mut before: Option<&ChainTouch> = None;
     for touch in touches {
         let is_first = before.is_none_or(|before| before.cell() != touch.cell());
         let is_same = before.is_some_and(|before| before.touch.kind.commutes(touch.touch.kind));
         if is_first || !is_same {
-            runs.join(&mut edges)?;
-            runs.begin(is_first);
+            stretches.join(&mut edges)?;
+            stretches.begin(is_first);
         }
-        runs.add(touch.chain)?;
+        stretches.add(touch.chain)?;
         before = Some(touch);
     }
-    runs.join(&mut edges)?;
+    stretches.join(&mut edges)?;
     Ok(edges)
 }

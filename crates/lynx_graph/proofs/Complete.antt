@@ -13,7 +13,8 @@ use Rattle.lynx_graph.specs.declared.tracing.Arrival.{Arrival}
 use Rattle.lynx_graph.specs.declared.tracing.Step.{Step}
 use Rattle.lynx_graph.specs.declared.visit.Visit.{Visit}
 use Rattle.lynx_graph.specs.Walks.{IsAccepted}
-use Rattle.lynx_graph.specs.Tests.{crosses, differs, entrance_of, exit_of, joins}
+use Rattle.lynx_graph.specs.Tests.{joins}
+use Rattle.lynx_graph.specs.inner.Tests.{crosses, differs, entrance_of, exit_of}
 use Rattle.lynx_graph.specs.Nodes.{places_of}
 use Rattle.lynx_graph.specs.inner.Nodes.{nodes_of}
 use Rattle.lynx_graph.specs.inner.Marks.{goes_on, is_abroad, leaves, leaving_table, mark_at, next_table, table_within}

@@ -13,7 +13,8 @@ use Rattle.lynx_graph.specs.declared.meeting.Place.{Place}
 use Rattle.lynx_graph.specs.declared.visit.Visit.{Visit}
 use Rattle.std.proofs.lemmas.List.Folds.{Any-from_list_any, list_any-from_Any}
 use Rattle.lynx_graph.specs.Walks.{Crosses, Differ, IsClosedWalk, IsOffending, Joins, JoinsAround}
-use Rattle.lynx_graph.specs.Tests.{crosses, differs, is_closed, joins, joins_around, joins_next, leaves_origin, offends, same_server}
+use Rattle.lynx_graph.specs.Tests.{joins, same_server}
+use Rattle.lynx_graph.specs.inner.Tests.{crosses, differs, is_closed, joins_around, joins_next, leaves_origin, offends}
 use Rattle.lynx_set.specs.Lookups.{origin_of, server_at}
 
 pub Decides-same_server : (left right : Option ℕ) → Decides (same_server left right) (left ≡ right)

@@ -14,7 +14,8 @@ use Rattle.lynx_graph.specs.declared.tracing.Arrival.{Arrival}
 use Rattle.lynx_graph.specs.declared.tracing.Step.{Step}
 use Rattle.lynx_graph.specs.declared.visit.Visit.{Visit}
 use Rattle.lynx_graph.specs.Walks.{IsOffending}
-use Rattle.lynx_graph.specs.Tests.{crosses, differs, entrance_of, joins, offends}
+use Rattle.lynx_graph.specs.Tests.{joins}
+use Rattle.lynx_graph.specs.inner.Tests.{crosses, differs, entrance_of, offends}
 use Rattle.lynx_graph.specs.Nodes.{places_of}
 use Rattle.lynx_graph.specs.inner.Nodes.{node_of, nodes_of}
 use Rattle.lynx_graph.specs.inner.Marks.{first_table, is_abroad, is_goal, mark_at}

@@ -5,7 +5,7 @@ use Rattle.lynx_set.specs.Set.{Set}
 use Rattle.lynx_graph.specs.declared.meeting.Place.{Place}
 use Rattle.lynx_graph.specs.declared.visit.Visit.{Visit}
 use Rattle.lynx_graph.specs.Walks.{JoinsAround}
-use Rattle.lynx_graph.specs.Tests.{entrance_of, exit_of}
+use Rattle.lynx_graph.specs.inner.Tests.{entrance_of, exit_of}
 use Rattle.lynx_graph.proofs.Places.{Conflict, hop_left}
 use Rattle.lynx_set.specs.Lookups.{hop_at}
 

@@ -2,4 +2,5 @@
 pub mod Marks
 pub mod Nodes
 pub mod Searches
+pub mod Tests
 pub mod Tracing

@@ -1,7 +1,7 @@
 ghost use Rattle.std.specs.Prelude.{◌≡◌, ◌↔◌, IsTrue, not, ◌==◌};
 ghost use Rattle.std.specs.List.{list_any};
 ghost use Rattle.lynx_graph.specs.Walks.{IsOffending};
-ghost use Rattle.lynx_graph.specs.Tests.{crosses, differs, is_closed, joins_around, joins_next, leaves_origin, offends};
+ghost use Rattle.lynx_graph.specs.inner.Tests.{crosses, differs, is_closed, joins_around, joins_next, leaves_origin, offends};
 
 use crate::meeting::{Place, joins, same_server};
 use crate::visit::{Visit, Walk};

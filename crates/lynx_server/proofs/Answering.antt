@@ -7,7 +7,8 @@ use Rattle.lynx_entry.specs.Entry.{History}
 use Rattle.lynx_keep.specs.Kept.{Terms}
 use Rattle.lynx_rules.specs.Answers.{Begins, answer}
 use Rattle.lynx_server.specs.History.{grown}
-use Rattle.lynx_server.specs.Keeping.{Fails, kept_of}
+use Rattle.lynx_server.specs.Keeping.{kept_of}
+use Rattle.lynx_server.specs.inner.Keeping.{Fails}
 use Rattle.lynx_server.specs.Serving.{Serving, Becomes, IsAnswered}
 
 pub answered : {K : Type 0} (old new : Serving K) (request : Request) (seen : ℕ) (given : Answer) (begins : Begins) →

@@ -8,7 +8,8 @@ use Rattle.lynx_entry.specs.Entry.{History}
 use Rattle.lynx_keep.specs.Kept.{HasRisen, KeptState, Terms, with_entry}
 use Rattle.lynx_keep.specs.declared.fault.KeepFault.{KeepFault}
 use Rattle.lynx_keep.specs.declared.fault.KeepFault.TheVariants.{Failed, Memory}
-use Rattle.lynx_server.specs.Keeping.{AreChangesOf, Commits, HasKept, StopLeaves, kept_of}
+use Rattle.lynx_server.specs.Keeping.{kept_of}
+use Rattle.lynx_server.specs.inner.Keeping.{AreChangesOf, Commits, HasKept, StopLeaves}
 use Rattle.lynx_server.proofs.Growing.{kept_more}
 
 -- a stop leaves what was kept, or that with the entry

@@ -5,8 +5,8 @@ use Rattle.lynx_entry.specs.declared.message.Message.{Message}
 use Rattle.lynx_entry.specs.Entry.{History}
 use Rattle.std.proofs.lemmas.Bool.{ltb-true}
 use Rattle.lynx_names.specs.declared.limits.TheConstants.{MAX_ENTRIES, STAMP_LIMIT}
-use Rattle.lynx_server.specs.Hops as hops
-use Rattle.lynx_server.specs.Hops.{outcome_of, hop_entry}
+use Rattle.lynx_server.specs.inner.Hops as hops
+use Rattle.lynx_server.specs.inner.Hops.{outcome_of, hop_entry}
 use Rattle.lynx_rules.specs.Checks.{request_fault}
 use Rattle.lynx_cells.specs.Database.{Database}
 use Rattle.lynx_hops.specs.Meaning.{HopOutcome, meaning}

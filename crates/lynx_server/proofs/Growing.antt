@@ -14,7 +14,8 @@ use Rattle.lynx_cells.specs.Database.{Database, ChangeSet, applied, empty_databa
 use Rattle.lynx_entry.specs.declared.entry.BegunEntry.{BegunEntry}
 use Rattle.lynx_keep.specs.Kept.{KeptState, with_entry}
 use Rattle.lynx_seq.specs.Counters.{has_number}
-use Rattle.lynx_server.specs.Keeping.{AreChangesOf, kept_of}
+use Rattle.lynx_server.specs.Keeping.{kept_of}
+use Rattle.lynx_server.specs.inner.Keeping.{AreChangesOf}
 use Rattle.lynx_server.proofs.Numbers.{numbers_visit}
 use Rattle.lynx_set.specs.Set.{Set}
 use Rattle.lynx_entry.specs.declared.entry.Entry.{Entry}
@@ -27,7 +28,8 @@ use Rattle.lynx_rules.specs.Checks.{begins, same_numbers}
 use Rattle.lynx_rules.specs.Lawful.{IsLawful}
 use Rattle.lynx_rules.proofs.Steps.{begins_visiting-lawful}
 use Rattle.lynx_server.specs.History.{IsLawfulAfter, IsLawfulHistory}
-use Rattle.lynx_server.specs.Books.{IsBooks, Grows, IsFoundAt, begins_as, begins_found}
+use Rattle.lynx_server.specs.Books.{IsBooks, IsFoundAt, begins_as, begins_found}
+use Rattle.lynx_server.specs.inner.Books.{Grows}
 use Rattle.lynx_server.proofs.Chains.{found_more, found_new, found_nowhere, find_one_more, get_last, get_elsewhere}
 
 lawful_after-push : (set : Set) (server : ℕ) (before history : History) (entry : Entry) →

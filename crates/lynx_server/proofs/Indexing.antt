@@ -18,7 +18,7 @@ use Rattle.lynx_rules.specs.Lawful.{is_record_of, record_of, is_hop_of, hop_entr
 use Rattle.lynx_rules.specs.Tables.{tables_of}
 use Rattle.lynx_entry.specs.declared.message.Message.{Message}
 use Rattle.std.proofs.Common.{List}
-use Rattle.lynx_server.specs.Hops.{hop_entry}
+use Rattle.lynx_server.specs.inner.Hops.{hop_entry}
 use Rattle.lynx_server.specs.inner.Begins.{due}
 use Rattle.lynx_server.specs.Books.{BooksState, IsFoundAt}
 use Rattle.lynx_server.specs.Indexes.{IsIndexed, hop_cmp, keeps_request, is_hop_at}

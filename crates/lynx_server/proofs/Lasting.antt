@@ -7,7 +7,8 @@ use Rattle.lynx_keep.specs.Kept.{KeptState, HasRisen, Terms}
 use Rattle.lynx_server.specs.Books.{BooksState}
 use Rattle.lynx_server.specs.inner.Begins.{books_with}
 use Rattle.lynx_server.specs.History.{grown}
-use Rattle.lynx_server.specs.Keeping.{GoesTo, kept_of}
+use Rattle.lynx_server.specs.Keeping.{kept_of}
+use Rattle.lynx_server.specs.inner.Keeping.{GoesTo}
 use Rattle.lynx_server.specs.Serving.{IsServing}
 
 -- a history grows by one entry at most

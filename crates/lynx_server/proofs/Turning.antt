@@ -11,7 +11,7 @@ use Rattle.lynx_rules.specs.Deliveries.{Delivers, deliver_by_turn, done_by, earl
 use Rattle.lynx_server.specs.declared.sorting.Sorted.{Sorted}
 use Rattle.lynx_server.specs.declared.sorting.Sorted.TheVariants.{Answered, Waits, Runs}
 use Rattle.lynx_server.specs.Books.{BooksState}
-use Rattle.lynx_server.specs.Hops.{outcome_of}
+use Rattle.lynx_server.specs.inner.Hops.{outcome_of}
 use Rattle.lynx_server.specs.inner.Sorting.{Sorts, IsEarly, unchanged}
 
 past_by : (a b : Bool) → Past ≡ (if a then Past else (if b then Early else Now)) → a ≡ true

@@ -1,5 +1,5 @@
 -- What contracts see of the books of a server, and what is counted in them.
-use Rattle.std.specs.Prelude.{◌≡◌, ℕ, ◌+◌, ◌<◌, ◌==◌, Bool, false, if◌then◌else◌, List, [], ◌∷◌, ◌++◌, length, slice_index, slice_get, find, Option, Some, None}
+use Rattle.std.specs.Prelude.{◌≡◌, ℕ, ◌<◌, ◌==◌, Bool, false, List, length, slice_index, slice_get, find, Option, Some, None}
 use Rattle.std.specs.List.{list_any}
 use Rattle.lynx_names.specs.declared.limits.TheConstants.{MAX_SERVERS}
 use Rattle.lynx_names.specs.declared.numbers.NumberAt.{NumberAt}
@@ -9,10 +9,9 @@ use Rattle.lynx_entry.specs.declared.entry.Entry.{Entry}
 use Rattle.lynx_entry.specs.declared.entry.Entry.TheVariants.{Begun, Refused, Hop}
 use Rattle.lynx_entry.specs.declared.message.Message.{Message}
 use Rattle.lynx_entry.specs.Entry.{History}
-use Rattle.lynx_rules.specs.Turns.{is_begun, begun_count, begins_visiting, number_for, ends_visit, turn_of}
-use Rattle.lynx_rules.specs.Tables.{after_entry, tables_of}
+use Rattle.lynx_rules.specs.Turns.{begun_count, number_for, turn_of}
+use Rattle.lynx_rules.specs.Tables.{tables_of}
 use Rattle.lynx_rules.specs.Checks.{begins}
-use Rattle.lynx_rules.specs.Lawful.{IsLawful}
 use Rattle.lynx_server.specs.History.{IsLawfulHistory}
 
 -- the books of a server: all that it did, and the numbers that are drawn and neither bound nor given back
@@ -50,13 +49,3 @@ pub record IsBooks (set : Set) (server : ℕ) (history : History) (counters turn
   -- one entry alone began a chain
   pub sole : (message : Message) → list_any (begins message) history ≡ begins_found message (find (begins_as message.chain.index) history)
   pub cells_are : cells ≡ tables_of set history
-
--- what stands beside a history grew with a lawful entry
-pub record Grows (set : Set) (server : ℕ) (history : History) (entry : Entry) (counters turns chains : List ℕ) (cells : Database) (more_counters more_turns more_chains : List ℕ) (more_cells : Database) : Type 0 where
-  pub lawful : IsLawful set server history entry
-  pub counters_rise : (visited : ℕ) → visited < MAX_SERVERS → slice_index more_counters visited
-      ≡ (if begins_visiting set visited entry then slice_index counters visited + 1 else slice_index counters visited)
-  pub turns_rise : (origin : ℕ) → origin < MAX_SERVERS → slice_index more_turns origin
-      ≡ (if ends_visit set server origin entry then slice_index turns origin + 1 else slice_index turns origin)
-  pub chains_grow : more_chains ≡ (if is_begun entry then chains ++ length history ∷ [] else chains)
-  pub cells_grow : more_cells ≡ after_entry set cells entry

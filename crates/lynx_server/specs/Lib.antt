@@ -2,7 +2,6 @@ pub mod Acts
 pub mod Books
 pub mod Owed
 pub mod History
-pub mod Hops
 pub mod Indexes
 pub mod Keeping
 pub mod Opening

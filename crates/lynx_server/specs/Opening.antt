@@ -11,8 +11,6 @@ use Rattle.lynx_server.specs.declared.fault.OpenFault.{OpenFault}
 use Rattle.lynx_server.specs.declared.fault.OpenFault.TheVariants.{Damaged, Store, Memory}
 use Rattle.lynx_server.specs.History.{IsFirstUnlawful, IsLawfulHistory}
 use Rattle.lynx_server.specs.Keeping.{kept_of}
-use Rattle.lynx_server.specs.inner.Repeating.{IsReplayed}
-use Rattle.lynx_server.specs.declared.replay.Unkept.{Unkept}
 use Rattle.lynx_server.specs.Serving.{Serving}
 
 -- all entries are lawful, and the cells aren't those that they leave

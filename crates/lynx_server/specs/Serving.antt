@@ -13,7 +13,6 @@ use Rattle.lynx_names.specs.declared.limits.TheConstants.{MAX_HELD}
 use Rattle.lynx_hops.specs.Meaning.{meaning}
 use Rattle.lynx_rules.specs.Deliveries.{Delivers as DeliveredSo, delivery, done_by}
 use Rattle.lynx_rules.specs.Tables.{tables_of}
-use Rattle.lynx_server.specs.Hops.{IsDue}
 use Rattle.lynx_entry.specs.declared.entry.Entry.{Entry}
 use Rattle.lynx_entry.specs.declared.message.Message.{Message}
 use Rattle.lynx_entry.specs.declared.request.Request.{Request}
@@ -29,7 +28,7 @@ use Rattle.lynx_rules.specs.Turns.{turn_of}
 use Rattle.lynx_server.specs.declared.server.Woken.{Woken}
 use Rattle.lynx_server.specs.Books.{BooksState}
 use Rattle.lynx_server.specs.History.{grown}
-use Rattle.lynx_server.specs.Keeping.{Fails, GoesTo, HasKept, kept_of}
+use Rattle.lynx_server.specs.Keeping.{kept_of}
 
 -- a server over a keeper
 pub record Serving (K : Type 0) : Type 0 where

@@ -2,8 +2,9 @@
 ghost use Rattle.std.specs.Prelude.{◌≡◌, ◌++◌, ◌∷◌, [], IfOk, OnErr, OnOk};
 ghost use Rattle.lynx_entry.specs.declared.entry.Entry.TheVariants.{Hop};
 ghost use Rattle.lynx_rules.specs.Deliveries.{done_at};
-ghost use Rattle.lynx_server.specs.Hops.{HasCome, HasRun, IsDue, hop_entry};
-ghost use Rattle.lynx_server.specs.Keeping.{Commits, kept_of};
+ghost use Rattle.lynx_server.specs.inner.Hops.{HasCome, HasRun, IsDue, hop_entry};
+ghost use Rattle.lynx_server.specs.Keeping.{kept_of};
+ghost use Rattle.lynx_server.specs.inner.Keeping.{Commits};
 
 use crate::books::Books;
 use crate::keeping::release;

@@ -4,7 +4,8 @@ ghost use Rattle.lynx_cells.specs.Contents.{IsStaged};
 ghost use Rattle.lynx_entry.specs.declared.entry.Entry.TheVariants.{Begun};
 ghost use Rattle.lynx_rules.specs.Lawful.{IsLawful};
 ghost use Rattle.lynx_rules.specs.Turns.{is_begun};
-ghost use Rattle.lynx_server.specs.Keeping.{AreChangesOf, Commits, kept_of};
+ghost use Rattle.lynx_server.specs.Keeping.{kept_of};
+ghost use Rattle.lynx_server.specs.inner.Keeping.{AreChangesOf, Commits};
 
 use crate::books::Books;
 use crate::counting::count_turn;

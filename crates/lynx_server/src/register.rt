@@ -2,11 +2,12 @@
 ghost use Rattle.std.specs.Prelude.{◌≡◌, IfOk, OnErr, OnOk, [], option_copied};
 ghost use Rattle.lynx_rules.specs.Lawful.{hop_entry_of, record_of};
 ghost use Rattle.lynx_server.specs.Acts.{act_of};
-ghost use Rattle.lynx_server.specs.Hops as hops;
-ghost use Rattle.lynx_server.specs.Hops.{due_delivery};
+ghost use Rattle.lynx_server.specs.inner.Hops as hops;
+ghost use Rattle.lynx_server.specs.inner.Hops.{due_delivery};
 ghost use Rattle.lynx_server.specs.inner.Begins.{CanBegin, KeepsBegin};
 ghost use Rattle.lynx_server.specs.Books.{IsFoundAt};
-ghost use Rattle.lynx_server.specs.Keeping.{Commits, kept_of};
+ghost use Rattle.lynx_server.specs.Keeping.{kept_of};
+ghost use Rattle.lynx_server.specs.inner.Keeping.{Commits};
 ghost use Rattle.lynx_server.specs.History.{grown};
 
 use crate::books::Books;

@@ -21,7 +21,8 @@ use Rattle.lynx_server.specs.declared.steps.Stepped.{Stepped}
 use Rattle.lynx_server.specs.declared.steps.Stepped.TheVariants.{Ran, Refused}
 use Rattle.lynx_server.specs.Books.{BooksState}
 use Rattle.lynx_server.specs.History.{grown}
-use Rattle.lynx_server.specs.Keeping.{Commits, kept_of}
+use Rattle.lynx_server.specs.Keeping.{kept_of}
+use Rattle.lynx_server.specs.inner.Keeping.{Commits}
 
 -- nothing answers the request before its hop runs
 pub record IsDue (books : BooksState) (request : Request) (seen : ℕ) : Type 0 where

@@ -11,7 +11,7 @@ use Rattle.lynx_rules.specs.Deliveries.{Delivers, early, deliver_by_turn, delive
 use Rattle.lynx_server.specs.declared.sorting.Sorted.{Sorted}
 use Rattle.lynx_server.specs.declared.sorting.Sorted.TheVariants.{Answered, Waits, Runs}
 use Rattle.lynx_server.specs.Books.{BooksState}
-use Rattle.lynx_server.specs.Hops.{IsDue, outcome_of}
+use Rattle.lynx_server.specs.inner.Hops.{IsDue, outcome_of}
 
 -- an answer that changes nothing
 abbrev pub unchanged : Delivered → List Message → Delivers

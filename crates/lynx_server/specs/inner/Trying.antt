@@ -6,7 +6,7 @@ use Rattle.lynx_entry.specs.declared.answer.Delivered.TheVariants.{Done}
 use Rattle.lynx_hops.specs.Meaning.{meaning}
 use Rattle.lynx_rules.specs.Deliveries.{Delivers as DeliveredSo, delivery, done_by}
 use Rattle.lynx_rules.specs.Tables.{tables_of}
-use Rattle.lynx_server.specs.Hops.{IsDue}
+use Rattle.lynx_server.specs.inner.Hops.{IsDue}
 use Rattle.lynx_entry.specs.declared.entry.Entry.{Entry}
 use Rattle.lynx_entry.specs.declared.message.Message.{Message}
 use Rattle.lynx_entry.specs.declared.request.Request.{Request}
@@ -14,7 +14,8 @@ use Rattle.lynx_keep.specs.Kept.{Terms}
 use Rattle.lynx_keep.specs.declared.fault.KeepFault.{KeepFault}
 use Rattle.lynx_keep.specs.declared.fault.KeepFault.TheVariants.{Memory as WantOfMemory, Failed}
 use Rattle.lynx_server.specs.History.{grown}
-use Rattle.lynx_server.specs.Keeping.{Fails, GoesTo, HasKept, kept_of}
+use Rattle.lynx_server.specs.Keeping.{kept_of}
+use Rattle.lynx_server.specs.inner.Keeping.{Fails, GoesTo, HasKept}
 use Rattle.lynx_server.specs.Serving.{Serving, Becomes, HasStopped, IsAnswered, IsDelivered, delivery_of}
 
 -- what such a call left of the keeper, by how it ended

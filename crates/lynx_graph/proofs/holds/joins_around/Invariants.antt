@@ -1,5 +1,5 @@
 use Rattle.std.proofs.Common.{◌≡◌, drop}
-use Rattle.lynx_graph.specs.Tests.{joins_around}
+use Rattle.lynx_graph.specs.inner.Tests.{joins_around}
 use Rattle.lynx_graph.proofs.holds.joins_around.Given as goal
 
 -- what is left to ask decides

@@ -1,6 +1,6 @@
 use Rattle.std.proofs.Common.{ap, ◌∙◌}
 use Rattle.std.proofs.lemmas.Bool.Decides.{Decides-at}
-use Rattle.lynx_graph.specs.Tests.{offends}
+use Rattle.lynx_graph.specs.inner.Tests.{offends}
 use Rattle.lynx_graph.proofs.Decides.{Decides-offends}
 use Rattle.lynx_graph.proofs.holds.walk_holds.Goals as goal
 

@@ -2,7 +2,7 @@ use Rattle.std.proofs.Common.{◌<◌, ◌∙◌, ap, subst}
 use Rattle.lynx_names.specs.declared.limits.TheConstants.{MAX_SERVERS}
 use Rattle.lynx_cells.specs.Database.{applied}
 use Rattle.lynx_rules.specs.Lawful.{IsLawful}
-use Rattle.lynx_server.specs.Keeping.{AreChangesOf}
+use Rattle.lynx_server.specs.inner.Keeping.{AreChangesOf}
 use Rattle.lynx_server.proofs.Committing.{committed, not_committed}
 use Rattle.lynx_server.proofs.Growing.{books_with_other}
 use Rattle.lynx_server.proofs.InRange.{lawful-in_range}

@@ -4,7 +4,7 @@ use Rattle.lynx_entry.specs.declared.entry.Entry.TheVariants.{Hop}
 use Rattle.lynx_entry.specs.Entry.{History}
 use Rattle.lynx_server.specs.declared.hop_steps.TakenMessage.{TakenMessage}
 use Rattle.lynx_server.specs.Books.{BooksState}
-use Rattle.lynx_server.specs.Hops.{IsDue, RanOn, hop_entry}
+use Rattle.lynx_server.specs.inner.Hops.{IsDue, RanOn, hop_entry}
 use Rattle.lynx_server.specs.Indexes.{IsRegister, request_cmp, keeps_request, hop_cmp, is_hop_at}
 use Rattle.lynx_server.proofs.Indexing.{indexed_more, indexed_other, indexed_back, hop_at_key, hop_tied, same_hop_key}
 use Rattle.lynx_server.proofs.register.Register.run_message.Goals as goal

@@ -3,7 +3,7 @@ use Rattle.lynx_entry.specs.declared.answer.Delivered.{Delivered}
 use Rattle.lynx_turn.specs.Held.{is_for}
 use Rattle.lynx_server.specs.Books.{BooksState}
 use Rattle.lynx_server.specs.History.{grown}
-use Rattle.lynx_server.specs.Hops.{outcome_of}
+use Rattle.lynx_server.specs.inner.Hops.{outcome_of}
 use Rattle.lynx_server.specs.inner.Trying.{is_done}
 use Rattle.lynx_server.proofs.Delivering.{same_delivered, same_added, held_then}
 use Rattle.lynx_server.proofs.Lasting.{free_with, serves_on}

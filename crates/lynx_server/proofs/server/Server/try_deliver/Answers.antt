@@ -1,6 +1,6 @@
 use Rattle.std.proofs.Common.{subst}
 use Rattle.lynx_server.specs.Books.{BooksState}
-use Rattle.lynx_server.specs.Hops.{IsDue}
+use Rattle.lynx_server.specs.inner.Hops.{IsDue}
 use Rattle.lynx_server.specs.inner.Sorting.{IsSorted}
 use Rattle.lynx_server.specs.declared.sorting.Sorted.{Sorted}
 use Rattle.lynx_server.proofs.Lasting.{free_books}

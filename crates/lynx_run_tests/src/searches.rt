@@ -1,7 +1,8 @@
 //! What is searched for holds: of random runs the search explains each by itself.
 use lynx_entry::{Event, Request};
-use lynx_names::{ChainId, ClientId, Memory, ProgramId, ServerId, Stamp, Values};
+use lynx_names::{ChainId, ClientId, Memory, ServerId, Stamp, Values};
 use lynx_order::{Explained, explain, explain_by_search};
+use lynx_samples::made::{program, server};
 use lynx_samples::texts::read;
 use lynx_world::{World, empty_keepers};
 use std::alloc::Global;
@@ -21,22 +22,27 @@ fn next(state: &mut u64, limit: u64) -> u64 {
     }
 }
 
-fn server(state: &mut u64) -> ServerId {
-    ServerId::at(next(state, 3) as u8)
+/// The next of them as a byte.
+fn next_byte(state: &mut u64, limit: u64) -> Result<u8, Memory> {
+    u8::try_from(next(state, limit)).map_err(|_| Memory)
+}
+
+fn next_server(state: &mut u64) -> Result<ServerId, Memory> {
+    server(next_byte(state, 3)?)
 }
 
 /// A begin of some program at some server, or a delivery of some chain's second hop.
 fn event(alloc: Global, state: &mut u64, number: u64) -> Result<Event, Memory> {
     if next(state, 2) == 0 {
-        let origin = server(state);
+        let origin = next_server(state)?;
         let index = next(state, 4);
         return Ok(Event::Deliver {
             chain: ChainId { origin, index },
             hop: 1,
         });
     }
-    let program = ProgramId::new(next(state, 4) as u8).ok_or(Memory)?;
-    let server = server(state);
+    let program = program(next_byte(state, 4)?)?;
+    let server = next_server(state)?;
     Ok(Event::Begin {
         server,
         request: Request {

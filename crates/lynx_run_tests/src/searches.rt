@@ -80,12 +80,12 @@ fn search(alloc: Global, seed: u64) -> Result<(bool, bool), Memory> {
 
 #[test]
 fn the_search_explains_each_run(rt: HostRuntime) -> Result<(), Memory> {
-    let mut cycles = 0;
+    let mut cycles: u64 = 0;
     for seed in 0..500 {
         let (holds, is_cycle) = search(rt.alloc(), seed)?;
         assert!(rt; holds);
         if is_cycle {
-            cycles += 1;
+            cycles = cycles.saturating_add(1);
         }
     }
     assert!(rt; 50 < cycles);

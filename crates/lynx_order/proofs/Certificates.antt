@@ -55,8 +55,8 @@ no_later_self touch = record { tables = omega arith; keys = λ same. omega arith
 -- what is between two touches of one cell is of that cell
 pub of_cells : (a b c : ChainTouch) → IsNoLater a b → IsNoLater b c → IsOfCell a c → IsOfCell a b × IsOfCell b c
 of_cells a b c one two same =
-    let t1 = one.tables in
-    let t2 = two.tables in
+    let tables_before = one.tables in
+    let tables_behind = two.tables in
     let st = same.0 in
     let sk = same.1 in
     let e1 : a.touch.table ≡ b.touch.table = omega arith in
@@ -67,8 +67,8 @@ of_cells a b c one two same =
 
 pub no_later_far : (a b c : ChainTouch) → IsNoLater a b → IsNoLater b c → IsNoLater a c
 no_later_far a b c one two =
-    let t1 = one.tables in
-    let t2 = two.tables in
+    let tables_before = one.tables in
+    let tables_behind = two.tables in
     record {
       tables = omega arith;
       keys = λ same.

@@ -1,5 +1,7 @@
 pub mod Walks
 pub mod Tests
 pub mod Nodes
+pub mod Blocks
+pub mod Acceptance
 pub mod Verdicts
 pub mod inner

@@ -37,5 +37,5 @@ abbrev pub IsOffending : Set → List Visit → Type 0
 IsOffending set walk = IsClosedWalk set walk × Offends set walk
 
 -- no closed walk of the set offends, of whatever length
-abbrev pub IsAccepted : Set → Type 0
-IsAccepted set = (walk : List Visit) → IsOffending set walk → ⊥
+abbrev pub NoWalkOffends : Set → Type 0
+NoWalkOffends set = (walk : List Visit) → IsOffending set walk → ⊥

@@ -1,17 +1,20 @@
 -- The hops of a set as a graph.
-use Rattle.std.specs.Prelude.{Bool, ◌==◌, ℕ, List, map, filter}
+use Rattle.std.specs.Prelude.{Bool, ◌==◌, ◌&&◌, ℕ, List, map, filter}
 use Rattle.std.specs.List.{enumerate_from}
 use Rattle.lynx_set.specs.Set.{Set}
 use Rattle.lynx_graph.specs.declared.meeting.Place.{Place}
 use Rattle.lynx_graph.specs.declared.nodes.Exit.{Exit}
 use Rattle.lynx_graph.specs.declared.nodes.Node.{Node}
-use Rattle.lynx_graph.specs.Tests.{joins}
-use Rattle.lynx_set.specs.Lookups.{origin_of}
+use Rattle.lynx_graph.specs.Tests.{joins, same_server}
+use Rattle.lynx_set.specs.Lookups.{origin_of, server_at}
+use Rattle.lynx_foot.specs.Feet.{footprint_of}
+use Rattle.lynx_foot.specs.Tests.{some_may_collide}
+use Rattle.lynx_graph.specs.declared.site.Site.{Site}
 use Rattle.lynx_graph.specs.Nodes.{places_of}
 
--- what is made of the places that pass the test, each with its number
-abbrev pub found : {X : Type 0} → (Place → Bool) → (ℕ × Place → X) → ℕ → List Place → List X
-found test make first places = map make (filter (λ numbered. test numbered.1) (enumerate_from first places))
+-- what is made of those that pass the test, each with its number
+abbrev pub found : {X Y : Type 0} → (Y → Bool) → (ℕ × Y → X) → ℕ → List Y → List X
+found test make first all = map make (filter (λ numbered. test numbered.1) (enumerate_from first all))
 
 -- the hops of the same program
 abbrev pub exits_of : List Place → Place → List Exit
@@ -31,3 +34,32 @@ node_of set places place = record {
 
 abbrev pub nodes_of : Set → List Node
 nodes_of set = map (node_of set (places_of set)) (places_of set)
+
+-- a hop with its server and its feet
+abbrev pub site_of : Set → Place → Site
+site_of set place = record {
+  place = place;
+  server = server_at set place.program place.hop;
+  feet = footprint_of set place.program place.hop;
+}
+
+abbrev pub sites_of : Set → List Site
+sites_of set = map (site_of set) (places_of set)
+
+-- whether two hops may conflict, and the surroundings of a hop, told from such
+abbrev pub meet : Site → Site → Bool
+meet left right = same_server left.server right.server && some_may_collide left.feet right.feet
+
+abbrev pub exits_among : List Site → Place → List Exit
+exits_among sites place = found (λ other. other.place.program == place.program) (λ numbered. record { hop = numbered.1.place.hop; node = numbered.0 }) 0 sites
+
+abbrev pub neighbours_among : List Site → Site → List ℕ
+neighbours_among sites site = found (meet site) (λ numbered. numbered.0) 0 sites
+
+abbrev pub node_among : Set → List Site → Site → Node
+node_among set sites site = record {
+  place = site.place;
+  origin = origin_of set site.place.program;
+  exits = exits_among sites site.place;
+  neighbours = neighbours_among sites site;
+}

@@ -124,6 +124,40 @@ found-any {X} test make first (here ∷ places) (suc at) place there passes aske
     by_test true rest = or_right _ _ rest
     by_test false rest = rest
 
+-- ---- numbered elements
+
+-- a numbered element that passes
+pub enumerated-any : {X : Type 0} (test : ℕ × X → Bool) (first : ℕ) (xs : List X) (n : ℕ) (x : X) → slice_get xs n ≡ Some x → test (first + n, x) ≡ true →
+    list_any test (enumerate_from first xs) ≡ true
+enumerated-any test first [] n x there passes = absurd (none-some x there)
+enumerated-any {X} test first (y ∷ xs) zero x there passes =
+    let same : first + zero ≡ first = omega arith in
+    or_left _ _ (ap (λ (z : X). test (first, z)) (same_Some y x there) ∙ ap (λ (n : ℕ). test (n, x)) (sym same) ∙ passes)
+enumerated-any {X} test first (y ∷ xs) (suc n) x there passes =
+    let same : first + suc n ≡ (first + 1) + n = omega arith in
+    or_right _ _ (enumerated-any test (first + 1) xs n x there (ap (λ (m : ℕ). test (m, x)) (sym same) ∙ passes))
+
+-- some numbered element passes
+pub record Numbered {X : Type 0} (test : ℕ × X → Bool) (first : ℕ) (xs : List X) : Type 0 where
+  pub at : ℕ
+  pub value : X
+  pub there : slice_get xs at ≡ Some value
+  pub passes : test (first + at, value) ≡ true
+
+pub enumerated-found : {X : Type 0} (test : ℕ × X → Bool) (first : ℕ) (xs : List X) → list_any test (enumerate_from first xs) ≡ true → Numbered test first xs
+enumerated-found test first [] passes = absurd (false≢true passes)
+enumerated-found test first (x ∷ xs) passes = by_test (test (first, x)) refl passes (enumerated-found test (first + 1) xs)
+  where
+    by_test : (b : Bool) → test (first, x) ≡ b → (b || list_any test (enumerate_from (first + 1) xs)) ≡ true →
+        (list_any test (enumerate_from (first + 1) xs) ≡ true → Numbered test (first + 1) xs) → Numbered test first (x ∷ xs)
+    by_test true is passes later =
+        let same : first + zero ≡ first = omega arith in
+        record { at = zero; value = x; there = refl; passes = ap (λ (n : ℕ). test (n, x)) same ∙ is }
+    by_test false is passes later =
+        let rest = later passes in
+        let same : first + suc rest.at ≡ (first + 1) + rest.at = omega arith in
+        record { at = suc rest.at; value = rest.value; there = rest.there; passes = ap (λ (n : ℕ). test (n, rest.value)) same ∙ rest.passes }
+
 -- ---- one number more
 
 flat_map-range : {X : Type 0} (f : ℕ → List X) (a n m : ℕ) → a + n ≡ m → flat_map f (range_with_len a (suc n)) ≡ flat_map f (range_with_len a n) ++ f m

@@ -3,9 +3,10 @@
 ghost use Rattle.std.specs.Prelude.{◌≡◌, ◌<◌, ◌++◌, IfOk, OnOk, map};
 ghost use Rattle.lynx_names.specs.declared.limits.TheConstants.{MAX_PROGRAMS};
 ghost use Rattle.lynx_graph.specs.Nodes.{places_in, places_of};
-ghost use Rattle.lynx_graph.specs.inner.Nodes.{exits_of, neighbours_of, node_of, nodes_of};
+ghost use Rattle.lynx_graph.specs.inner.Nodes.{exits_among, neighbours_among, node_among, nodes_of};
 
-use crate::meeting::{Place, joins};
+use crate::meeting::Place;
+use crate::site::{Site, meet, sites_of};
 use lynx_names::{Items, Memory, ProgramId, ServerId};
 use lynx_set::ChainSet;
 use std::alloc::Global;
@@ -26,47 +27,41 @@ pub(crate) struct Node {
     pub neighbours: Items<usize>,
 }
 
-fn exits_of(alloc: Global, places: &[Place], place: &Place) -> Result<Vec<Exit>, Memory>
-    ensures { IfOk result (λ exits. exits.items ≡ exits_of places.now place.now) }
+fn exits_of(alloc: Global, sites: &[Site], place: &Place) -> Result<Vec<Exit>, Memory>
+    ensures { IfOk result (λ exits. exits.items ≡ exits_among sites.now place.now) }
 {
-    let exits = places
+    let exits = sites
         .iter()
         .enumerate()
-        .filter(|(_, other)| other.program == place.program)
+        .filter(|(_, other)| other.place.program == place.program)
         .map(|(node, other)| Exit {
-            hop: other.hop,
+            hop: other.place.hop,
             node,
         })
         .collect(alloc)?;
     Ok(exits)
 }
 
-fn neighbours_of(
-    alloc: Global,
-    set: &ChainSet,
-    places: &[Place],
-    place: &Place,
-) -> Result<Vec<usize>, Memory>
-    ensures { IfOk result (λ neighbours. neighbours.items
-        ≡ neighbours_of set.now places.now place.now) }
+fn neighbours_of(alloc: Global, sites: &[Site], site: &Site) -> Result<Vec<usize>, Memory>
+    ensures { IfOk result (λ neighbours. neighbours.items ≡ neighbours_among sites.now site.now) }
 {
-    let neighbours = places
+    let neighbours = sites
         .iter()
         .enumerate()
-        .filter(|(_, other)| joins(set, place, other))
+        .filter(|(_, other)| meet(site, other))
         .map(|(node, _)| node)
         .collect(alloc)?;
     Ok(neighbours)
 }
 
-fn node_of(alloc: Global, set: &ChainSet, places: &[Place], place: &Place) -> Result<Node, Memory>
-    ensures { IfOk result (λ node. node ≡ node_of set.now places.now place.now) }
+fn node_of(alloc: Global, set: &ChainSet, sites: &[Site], site: &Site) -> Result<Node, Memory>
+    ensures { IfOk result (λ node. node ≡ node_among set.now sites.now site.now) }
 {
     Ok(Node {
-        place: *place,
-        origin: set.origin(place.program),
-        exits: Items::from_vec(exits_of(alloc, places, place)?),
-        neighbours: Items::from_vec(neighbours_of(alloc, set, places, place)?),
+        place: site.place,
+        origin: set.origin(site.place.program),
+        exits: Items::from_vec(exits_of(alloc, sites, &site.place)?),
+        neighbours: Items::from_vec(neighbours_of(alloc, sites, site)?),
     })
 }
 
@@ -106,11 +101,11 @@ pub fn places_of(alloc: Global, set: &ChainSet) -> Result<Items<Place>, Memory>
 pub(crate) fn nodes_of(alloc: Global, set: &ChainSet) -> Result<Items<Node>, Memory>
     ensures { IfOk result (λ nodes. nodes ≡ nodes_of set.now) }
 {
-    let all = places_of(alloc, set)?;
-    let places = all.as_slice();
+    let all = sites_of(alloc, set)?;
+    let sites = all.as_slice();
     let mut nodes = Items::new(alloc);
-    for place in places {
-        nodes.push(node_of(alloc, set, places, place)?)?;
+    for site in sites {
+        nodes.push(node_of(alloc, set, sites, site)?)?;
     }
     Ok(nodes)
 }

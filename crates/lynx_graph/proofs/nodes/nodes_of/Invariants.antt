@@ -1,6 +1,6 @@
 use Rattle.std.proofs.Common.{◌≡◌, map, take}
-use Rattle.lynx_graph.specs.inner.Nodes.{node_of}
+use Rattle.lynx_graph.specs.inner.Nodes.{node_among}
 use Rattle.lynx_graph.proofs.nodes.nodes_of.Given as goal
 
-abbrev pub invariant-loop-place : goal.invariant-loop-place
-invariant-loop-place l = l.nodes ≡ map (node_of l.set l.places) (take l.place-index l.places)
+abbrev pub invariant-loop-site : goal.invariant-loop-site
+invariant-loop-site l = l.nodes ≡ map (node_among l.set l.sites) (take l.site-index l.sites)

@@ -1,0 +1,72 @@
+//! The hops of a set with their footprints, each made once, so that each two can be asked whether they may conflict.
+ghost use Rattle.std.specs.Prelude.{◌≡◌, IfOk};
+ghost use Rattle.std.specs.List.{list_any};
+ghost use Rattle.lynx_foot.specs.Tests.{may_collide, some_may_collide};
+ghost use Rattle.lynx_set.specs.Lookups.{server_at};
+ghost use Rattle.lynx_graph.specs.inner.Nodes.{meet, site_of, sites_of};
+
+use crate::meeting::{Place, same_server};
+use crate::nodes::places_of;
+use lynx_foot::{Foot, feet_may_collide, footprint};
+use lynx_names::{Items, Memory, ServerId};
+use lynx_set::ChainSet;
+use std::alloc::Global;
+
+/// A hop, its server and its feet.
+#[derive(Debug, Drop)]
+pub(crate) struct Site {
+    pub place: Place,
+    pub server: Option<ServerId>,
+    pub feet: Items<Foot>,
+}
+
+/// Whether the foot may collide with one of these.
+fn may_collide_with_any(left: &Foot, rights: &[Foot]) -> bool
+    ensures { result ≡ list_any (λ right. may_collide left.now right) rights.now }
+{
+    rights.iter().any(|right| feet_may_collide(*left, *right))
+}
+
+fn some_may_collide(lefts: &[Foot], rights: &[Foot]) -> bool
+    ensures { result ≡ some_may_collide lefts.now rights.now }
+{
+    lefts.iter().any(|left| may_collide_with_any(left, rights))
+}
+
+/// Whether the hops may conflict.
+pub(crate) fn meet(left: &Site, right: &Site) -> bool
+    ensures { result ≡ meet left.now right.now }
+{
+    same_server(left.server, right.server)
+        && some_may_collide(left.feet.as_slice(), right.feet.as_slice())
+}
+
+fn server_at(set: &ChainSet, place: &Place) -> Option<ServerId>
+    ensures { result ≡ server_at set.now place.now.program place.now.hop }
+{
+    let hop = set.hop(place.program, place.hop)?;
+    Some(hop.server)
+}
+
+fn site_of(alloc: Global, set: &ChainSet, place: &Place) -> Result<Site, Memory>
+    ensures { IfOk result (λ site. site ≡ site_of set.now place.now) }
+{
+    Ok(Site {
+        place: *place,
+        server: server_at(set, place),
+        feet: Items::from_vec(footprint(alloc, set, place.program, place.hop)?),
+    })
+}
+
+/// All hops of the set, by program and then by number.
+pub(crate) fn sites_of(alloc: Global, set: &ChainSet) -> Result<Items<Site>, Memory>
+    ensures { IfOk result (λ sites. sites ≡ sites_of set.now) }
+{
+    let all = places_of(alloc, set)?;
+    let places = all.as_slice();
+    let mut sites = Items::new(alloc);
+    for place in places {
+        sites.push(site_of(alloc, set, place)?)?;
+    }
+    Ok(sites)
+}

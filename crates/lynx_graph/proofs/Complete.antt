@@ -12,7 +12,7 @@ use Rattle.lynx_graph.specs.declared.marks.Marks.{Marks}
 use Rattle.lynx_graph.specs.declared.tracing.Arrival.{Arrival}
 use Rattle.lynx_graph.specs.declared.tracing.Step.{Step}
 use Rattle.lynx_graph.specs.declared.visit.Visit.{Visit}
-use Rattle.lynx_graph.specs.Walks.{IsAccepted}
+use Rattle.lynx_graph.specs.Walks.{NoWalkOffends}
 use Rattle.lynx_graph.specs.Tests.{joins}
 use Rattle.lynx_graph.specs.inner.Tests.{crosses, differs, entrance_of, exit_of}
 use Rattle.lynx_graph.specs.Nodes.{places_of}
@@ -154,7 +154,7 @@ all_at : {X : Type 0} (P : X → Type 0) (xs : List X) (k : ℕ) (x : X) → All
 all_at P xs k x all there = subst P (get_or_from_slice_get xs k x x there) (all k x (slice_get_within xs k x there))
 
 -- where no start closes a walk, no walk offends
-pub accepted_from_none : (set : Set) → HasNone (nodes_of set) → IsAccepted set
+pub accepted_from_none : (set : Set) → HasNone (nodes_of set) → NoWalkOffends set
 accepted_from_none set none [] offending = absurd offending.0
 accepted_from_none set none (only ∷ []) offending = absurd offending.0
 accepted_from_none set none (first ∷ second ∷ rest) offending =

@@ -1,5 +1,9 @@
 pub mod Decides
+pub mod DecidesBlocks
 pub mod Lists
+pub mod Divided
+pub mod Rounds
+pub mod Accepting
 pub mod Places
 pub mod Tables
 pub mod Trails

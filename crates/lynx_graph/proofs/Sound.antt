@@ -41,11 +41,11 @@ pub record Leads (set : Set) (start : Place) (visits : List Visit) (arrival : Ar
   pub abroad : arrival.abroad ≡ list_any (differs set (origin_of set start.program)) visits
 
 -- what comes of an option that is mapped
-option_map-Some : {X Y : Type 0} (f : X → Y) (o : Option X) (y : Y) → option_map f o ≡ Some y → (x : X) × (o ≡ Some x) × (f x ≡ y)
+pub option_map-Some : {X Y : Type 0} (f : X → Y) (o : Option X) (y : Y) → option_map f o ≡ Some y → (x : X) × (o ≡ Some x) × (f x ≡ y)
 option_map-Some f None y e = absurd (none-some y e)
 option_map-Some f (Some x) y e = (x, refl, same_Some (f x) y e)
 
-option_and_then-Some : {X Y : Type 0} (f : X → Option Y) (o : Option X) (y : Y) → option_and_then f o ≡ Some y → (x : X) × (o ≡ Some x) × (f x ≡ Some y)
+pub option_and_then-Some : {X Y : Type 0} (f : X → Option Y) (o : Option X) (y : Y) → option_and_then f o ≡ Some y → (x : X) × (o ≡ Some x) × (f x ≡ Some y)
 option_and_then-Some f None y e = absurd (none-some y e)
 option_and_then-Some f (Some x) y e = (x, refl, e)
 

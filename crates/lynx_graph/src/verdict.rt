@@ -1,11 +1,12 @@
 use crate::accepted::AcceptedSet;
+use crate::block::BlockWalk;
 use crate::visit::Walk;
 
 /// What is judged of a set.
 #[derive(Debug, Drop)]
 pub enum Verdict {
-    /// No closed walk of the set offends.
+    /// No closed walk of the set offends, or no walk of blocks does.
     Accepted(AcceptedSet),
-    /// A closed walk that offends.
-    Offending(Walk),
+    /// A closed walk that offends, and a walk of blocks that does.
+    Offending(Walk, BlockWalk),
 }

@@ -1,7 +1,7 @@
 //! Sets of as many programs and hops as there may be.
 use crate::verdicts::gives;
 use lynx_draw::{conflict_edges, draw};
-use lynx_graph::{Verdict, Walk};
+use lynx_graph::{BlockWalk, Verdict, Walk};
 use lynx_names::Memory;
 use lynx_samples::texts::set_of;
 use std::alloc::Global;
@@ -50,7 +50,10 @@ fn counts(alloc: Global) -> Result<(usize, usize), Memory> {
     let text = large_text(alloc, "set t 0 1\n", 1)?;
     let set = set_of(alloc, text.as_str())?;
     let edges = conflict_edges(alloc, &set)?;
-    let verdict = Box::new(alloc, Verdict::Offending(Walk::new(alloc)))?;
+    let verdict = Box::new(
+        alloc,
+        Verdict::Offending(Walk::new(alloc), BlockWalk::new(alloc)),
+    )?;
     let picture = draw(alloc, &set, &verdict)?;
     let lines = picture.iter().filter(|byte| **byte == b'\n').count();
     Ok((edges.len(), lines))

@@ -2,7 +2,7 @@
 use crate::expected::PAY_AND_NOTE_LINES;
 use crate::walks::judged;
 use lynx_draw::draw;
-use lynx_graph::{Verdict, Visit, Walk};
+use lynx_graph::{BlockWalk, Verdict, Visit, Walk};
 use lynx_names::{Memory, ProgramId};
 use lynx_samples::texts::{PAY_AND_NOTE, TRIP, set_of};
 use std::alloc::Global;
@@ -18,7 +18,7 @@ fn text_of(alloc: Global, lines: &[&str]) -> Result<String, Memory> {
     Ok(text)
 }
 
-/// Whether the picture of the offending set has its lines.
+/// Whether the picture of the set that is accepted by blocks has its lines.
 fn is_drawn(alloc: Global) -> Result<bool, Memory> {
     let set = set_of(alloc, PAY_AND_NOTE)?;
     let verdict = judged(alloc, &set)?;
@@ -28,7 +28,7 @@ fn is_drawn(alloc: Global) -> Result<bool, Memory> {
 }
 
 #[test]
-fn picture_of_an_offending_set(rt: HostRuntime) {
+fn picture_of_a_set_accepted_by_blocks(rt: HostRuntime) {
     assert!(rt; is_drawn(rt.alloc()) == Ok(true));
 }
 
@@ -43,7 +43,7 @@ fn three_visits(alloc: Global) -> Result<Box<Verdict>, Memory> {
             left: 0,
         })?;
     }
-    Ok(Box::new(alloc, Verdict::Offending(walk))?)
+    Ok(Box::new(alloc, Verdict::Offending(walk, BlockWalk::new(alloc)))?)
 }
 
 /// Whether the picture of the set ends so, where three visits of its first program are given as the walk.

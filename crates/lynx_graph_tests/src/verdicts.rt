@@ -16,7 +16,12 @@ const TIES: &str =
 const HOP_TIES: &str =
     "lynx 1\nservers 2\ntable t\nshard 0 9 0\nshard 10 18446744073709551615 1\nprogram a\nhop 0\nset t 0 1\nhop 1\nset t 10 1\nend\nprogram c\nhop 1\nset t 10 1\nhop 0\nset t 0 1\nhop 0\nset t 0 1\nend\n";
 
-/// A set and the walk that is given, which is empty where the set is accepted. Ties go by program, and then by hop.
+/// Two programs of different origins, one of which adds where the other begins: a walk through two chains of the first
+/// offends, and each block is forward.
+pub const CHAINED: &str =
+    "lynx 1\nservers 2\ntable t\nshard 0 9 0\nshard 10 18446744073709551615 1\nprogram a\nhop 0\nadd t 0 1\nhop 1\nadd t 10 1\nhop 0\nset t 1 1\nend\nprogram b\nhop 1\nget x t 10\nend\n";
+
+/// A set and the closed walk that is given, which is empty where none offends. Ties go by program, and then by hop.
 const VERDICTS: &[(&str, &[Hops])] = &[
     (EMPTY_SET, &[]),
     (LATE_AND_MARK, &[]),

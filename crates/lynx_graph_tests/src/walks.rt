@@ -30,11 +30,14 @@ pub fn are_visits(walk: &[Visit], want: &[Hops]) -> bool {
     walk.len() == want.len()
 }
 
-/// The walk that is given, empty where the set is accepted.
+/// The closed walk that is given, excused or not; empty where none offends.
 pub fn given(verdict: &Verdict) -> &[Visit] {
     match verdict {
-        Verdict::Offending(walk) => walk.as_slice(),
-        Verdict::Accepted(_) => &[],
+        Verdict::Offending(walk, _) => walk.as_slice(),
+        Verdict::Accepted(accepted) => match accepted.excused() {
+            Some(walk) => walk.as_slice(),
+            None => &[],
+        },
     }
 }
 

@@ -14,7 +14,7 @@ use Rattle.lynx_foot.specs.declared.touch.Touch.{Touch}
 use Rattle.lynx_foot.specs.Conflicts.{Conflicts, KeysLieAtServer, MayConflict}
 use Rattle.lynx_foot.proofs.ConflictLaws.{Any-weaker, Conflicts-swapped, MayConflict-from_Conflicts}
 use Rattle.lynx_graph.specs.declared.visit.Visit.{Visit}
-use Rattle.lynx_graph.specs.Walks.{Crosses, Differ, IsAccepted, JoinsAround}
+use Rattle.lynx_graph.specs.Walks.{Crosses, Differ, NoWalkOffends, JoinsAround}
 use Rattle.lynx_commute.specs.Acts.{touched}
 use Rattle.lynx_entry.specs.declared.entry.Entry.{Entry}
 use Rattle.lynx_entry.specs.declared.entry.Entry.TheVariants.{Begun, Refused, Hop as HopRan}
@@ -70,10 +70,10 @@ hop_of_touch set chain (HopRan ran) others conflict = by (same_chain ran.message
     by true same collide = (ran_as ran, refl, same_name _ _ same)
     by false differ collide = absurd (none_conflict others collide)
 
-hop_at : (set : Set) (list : List Placed) (chain : ChainId) (place : ℕ) (placed : Placed) (others : List Touch) → AreLiteralsHome set → IsLegal set list →
-    slice_get list place ≡ Some placed → Conflicts (touches_in set chain placed.entry) others → HopAt set list chain
-hop_at set list chain place placed others is legal there conflict =
-    let own = hop_of_touch set chain placed.entry others conflict in
+-- an entry that is one of the chain's hops, at its place
+abbrev pub hop_stands : (set : Set) (list : List Placed) (chain : ChainId) (place : ℕ) (placed : Placed) → AreLiteralsHome set → IsLegal set list → slice_get list place ≡ Some placed →
+    (done : Done) × (done_in placed.entry ≡ Some done) × (done.chain ≡ chain) → HopAt set list chain
+hop_stands set list chain place placed is legal there own =
     let stood = stands set list placed legal (in_at list place placed there) in
     let told = is_done set stood.before placed.server placed.entry own.0 is stood.may_follow own.1 in
     record {
@@ -88,6 +88,12 @@ hop_at set list chain place placed others is legal there conflict =
       origin = told.origin ∙ ap (λ (c : ChainId). Some c.origin) own.2;
       hop_is = ap (λ c. hop_in c placed.entry) (sym own.2) ∙ told.hop_is;
     }
+
+-- an entry in which the chain touched something, at its place
+hop_at : (set : Set) (list : List Placed) (chain : ChainId) (place : ℕ) (placed : Placed) (others : List Touch) → AreLiteralsHome set → IsLegal set list →
+    slice_get list place ≡ Some placed → Conflicts (touches_in set chain placed.entry) others → HopAt set list chain
+hop_at set list chain place placed others is legal there conflict =
+    hop_stands set list chain place placed is legal there (hop_of_touch set chain placed.entry others conflict)
 
 -- ---- one precedence
 
@@ -106,7 +112,7 @@ keys_lie set list chain hop =
     All-weaker (LiesAt set hop.placed.server) (λ touch. server_at set hop.done.act.program hop.done.act.hop ≡ Some (server_of set.shards touch.table touch.key))
     (λ touch here. hop.at ∙ ap Some (sym here)) (touched set hop.done.act) hop.lies
 
-one_server : (a b : ℕ) → Some a ≡ Some b → a ≡ b
+pub one_server : (a b : ℕ) → Some a ≡ Some b → a ≡ b
 one_server a b e = cc
 
 touches_at : (set : Set) (list : List Placed) (chain : ChainId) (hop : HopAt set list chain) → touches_in set chain hop.placed.entry ≡ touched set hop.done.act
@@ -136,7 +142,7 @@ link set list one other is legal precedes =
 -- ---- what is told of two hops
 
 -- hops of one chain are of one program
-same_program : (set : Set) (list : List Placed) (chain : ChainId) → IsLegal set list → (a b : HopAt set list chain) → a.done.act.program ≡ b.done.act.program
+pub same_program : (set : Set) (list : List Placed) (chain : ChainId) → IsLegal set list → (a b : HopAt set list chain) → a.done.act.program ≡ b.done.act.program
 same_program set list chain legal a b =
     program_told a ∙ (known set list legal).one_program chain a.placed b.placed a.done.act.hop b.done.act.hop
     (in_at list a.place a.placed a.there) (in_at list b.place b.placed b.there) a.hop_is b.hop_is ∙ sym (program_told b)
@@ -155,15 +161,19 @@ range_rises from zero a b never = absurd never
 range_rises from (suc n) a b (inl here) = let least = above_range (from + 1) n b here.1 in let same = here.0 in omega arith
 range_rises from (suc n) a b (inr later) = range_rises (from + 1) n a b later
 
+-- hops of a chain rise in the order of their places
+pub hops_rise : (set : Set) (list : List Placed) (chain : ChainId) → IsLegal set list → (a b : HopAt set list chain) → a.place < b.place →
+    a.done.act.hop < b.done.act.hop
+hops_rise set list chain legal a b less =
+    let before = before_of_places (λ (p : Placed). hop_in chain p.entry) a.done.act.hop b.done.act.hop list a.place b.place a.placed b.placed
+    a.there b.there less a.hop_is b.hop_is in
+    range_rises 0 (length (done_hops chain list)) a.done.act.hop b.done.act.hop
+    (subst (StandsBefore a.done.act.hop b.done.act.hop) (once_and_in_order set list legal chain) before)
+
 -- a hop of a chain stands at one place
 not_before : (set : Set) (list : List Placed) (chain : ChainId) → IsLegal set list → (a b : HopAt set list chain) → a.done.act.hop ≡ b.done.act.hop →
     a.place < b.place → ⊥
-not_before set list chain legal a b same less =
-    let before = before_of_places (λ (p : Placed). hop_in chain p.entry) a.done.act.hop b.done.act.hop list a.place b.place a.placed b.placed
-    a.there b.there less a.hop_is b.hop_is in
-    let rise = range_rises 0 (length (done_hops chain list)) a.done.act.hop b.done.act.hop
-    (subst (StandsBefore a.done.act.hop b.done.act.hop) (once_and_in_order set list legal chain) before) in
-    omega arith
+not_before set list chain legal a b same less = let rise = hops_rise set list chain legal a b less in omega arith
 
 same_place : (set : Set) (list : List Placed) (chain : ChainId) → IsLegal set list → (a b : HopAt set list chain) → a.done.act.hop ≡ b.done.act.hop →
     a.place ≡ b.place
@@ -176,7 +186,7 @@ same_place set list chain legal a b same = elim (cases_lt a.place b.place) [
 ]
 
 -- of two chains of one origin the one that precedes the other began first
-index_rises : (set : Set) (list : List Placed) (one other : ChainId) → set.servers ≤ MAX_SERVERS → IsLegal set list → Link set list one other → one.origin ≡ other.origin →
+pub index_rises : (set : Set) (list : List Placed) (one other : ChainId) → set.servers ≤ MAX_SERVERS → IsLegal set list → Link set list one other → one.origin ≡ other.origin →
     one.index < other.index
 index_rises set list one other few legal link origin = elim (cases_lt one.index other.index) [
   | inl less ↦ less
@@ -199,7 +209,7 @@ abbrev pub LinksAround : Set → List Placed → ChainId → ChainId → List Ch
 LinksAround set list first chain [] = Link set list chain first
 LinksAround set list first chain (next ∷ rest) = Link set list chain next × LinksAround set list first next rest
 
-links : (set : Set) (list : List Placed) (first chain : ChainId) (rest : List ChainId) → AreLiteralsHome set → IsLegal set list →
+pub links : (set : Set) (list : List Placed) (first chain : ChainId) (rest : List ChainId) → AreLiteralsHome set → IsLegal set list →
     PrecedesAround set list first chain rest → LinksAround set list first chain rest
 links set list first chain [] is legal around = link set list chain first is legal around
 links set list first chain (next ∷ rest) is legal around = (link set list chain next is legal around.0, links set list first next rest is legal around.1)
@@ -243,10 +253,10 @@ joins set list first chain (next ∷ rest) legal around entered visit program ho
   joins set list first next rest legal around.1 around.0.entered visit program hop,
 )
 
-any-here : {X : Type 0} (P : X → Type 0) (x : X) (xs : List X) → P x → Any P (x ∷ xs)
+pub any-here : {X : Type 0} (P : X → Type 0) (x : X) (xs : List X) → P x → Any P (x ∷ xs)
 any-here P x xs holds = (0, x, omega arith, refl, holds)
 
-any-later : {X : Type 0} (P : X → Type 0) (x : X) (xs : List X) → Any P xs → Any P (x ∷ xs)
+pub any-later : {X : Type 0} (P : X → Type 0) (x : X) (xs : List X) → Any P xs → Any P (x ∷ xs)
 any-later P x xs found = (suc found.0, found.1, omega arith, found.3, found.4)
 
 -- some visit crosses, or places rise to the hop that closes the cycle
@@ -294,7 +304,7 @@ differ_or_rise set list first chain (next ∷ rest) origin few legal around home
 ]
 
 -- where no closed walk offends, there is no cycle
-pub no_cycle : (set : Set) (list : List Placed) (chains : List ChainId) → AreLiteralsHome set → set.servers ≤ MAX_SERVERS → IsLegal set list → IsAccepted set → IsCycle set list chains → ⊥
+pub no_cycle : (set : Set) (list : List Placed) (chains : List ChainId) → AreLiteralsHome set → set.servers ≤ MAX_SERVERS → IsLegal set list → NoWalkOffends set → IsCycle set list chains → ⊥
 no_cycle set list [] is few legal accepted cycle = cycle
 no_cycle set list (only ∷ []) is few legal accepted cycle = cycle
 no_cycle set list (first ∷ second ∷ rest) is few legal accepted cycle =

@@ -9,7 +9,7 @@ use Rattle.lynx_set.specs.Set.{Set}
 use Rattle.lynx_foot.specs.declared.touch.Touch.{Touch}
 use Rattle.lynx_foot.specs.Conflicts.{Conflicts}
 use Rattle.lynx_foot.proofs.ConflictLaws.{Conflicts-swapped}
-use Rattle.lynx_graph.specs.Walks.{IsAccepted}
+use Rattle.lynx_graph.specs.Acceptance.{IsAccepted}
 use Rattle.lynx_world.specs.Placed.{Placed}
 use Rattle.lynx_world.specs.Legal.{IsLegal}
 use Rattle.lynx_order.specs.declared.explained.Explained.{Explained}
@@ -22,6 +22,7 @@ use Rattle.lynx_order.specs.Lists.{IsIn, AreDifferent, StandsBefore}
 use Rattle.lynx_order.specs.inner.Picks.{AreLinked, AreTaken, ComesBefore, IsMarked, IsRound, IsSquare}
 use Rattle.lynx_order.specs.Precedence.{IsCycle, KeepsPrecedence, Precedes, PrecedesAround, touches_in}
 use Rattle.lynx_order.proofs.ChainForm.{dones_of, told}
+use Rattle.lynx_order.proofs.BlockCircle.{no_cycle_by_blocks}
 use Rattle.lynx_order.proofs.Circle.{hop_of_touch, no_cycle}
 use Rattle.lynx_order.proofs.Dones.{done_in}
 use Rattle.lynx_order.proofs.Explains.{has_begun, order_explains, own_dones}
@@ -172,10 +173,15 @@ cycle_found set list places legal round =
 
 -- ---- accepted sets
 
+-- by either reason there is no cycle
+pub no_cycle_accepted : (set : Set) (list : List Placed) (chains : List ChainId) → AreLiteralsHome set → set.servers ≤ MAX_SERVERS → IsLegal set list → IsAccepted set → IsCycle set list chains → ⊥
+no_cycle_accepted set list chains is few legal (inl no_walk) = no_cycle set list chains is few legal no_walk
+no_cycle_accepted set list chains is few legal (inr no_blocks) = no_cycle_by_blocks set list chains is few legal no_blocks
+
 pub accepted_order : (set : Set) (list : List Placed) (explained : Explained) → set.servers ≤ MAX_SERVERS → IsLegal set list → CycleIsRight set list explained → AreLiteralsHome set → IsAccepted set →
     GivesOrder explained
 accepted_order set list (Order chains) few legal right is accepted = tt
-accepted_order set list (Cycle chains) few legal right is accepted = no_cycle set list chains is few legal accepted right
+accepted_order set list (Cycle chains) few legal right is accepted = no_cycle_accepted set list chains is few legal accepted right
 
 -- ---- what the search computes
 

@@ -8,6 +8,7 @@ pub mod Serial
 pub mod Places
 pub mod Explains
 pub mod Circle
+pub mod BlockCircle
 pub mod Tables
 pub mod Marks
 pub mod Found

@@ -1,7 +1,7 @@
 //! Finding an order that explains a world, or a cycle.
 ghost use Rattle.std.specs.Prelude.{◌≡◌, ◌<◌, length, map, All, IfOk, IfSome};
 ghost use Rattle.lynx_set.specs.Home.{AreLiteralsHome};
-ghost use Rattle.lynx_graph.specs.Walks.{IsAccepted};
+ghost use Rattle.lynx_graph.specs.Acceptance.{IsAccepted};
 ghost use Rattle.lynx_world.specs.Legal.{IsLegal};
 ghost use Rattle.lynx_order.specs.Lists.{AreDifferent};
 ghost use Rattle.lynx_order.specs.inner.Certificates.{IsOrderHeld};

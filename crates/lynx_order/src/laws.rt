@@ -4,7 +4,7 @@ ghost use Rattle.lynx_names.specs.declared.chain.ChainId.{ChainId};
 ghost use Rattle.lynx_names.specs.declared.limits.TheConstants.{MAX_SERVERS};
 ghost use Rattle.lynx_set.specs.Home.{AreLiteralsHome};
 ghost use Rattle.lynx_set.specs.Set.{Set};
-ghost use Rattle.lynx_graph.specs.Walks.{IsAccepted};
+ghost use Rattle.lynx_graph.specs.Acceptance.{IsAccepted};
 ghost use Rattle.lynx_world.specs.Placed.{Placed};
 ghost use Rattle.lynx_world.specs.Legal.{IsLegal};
 ghost use Rattle.lynx_order.specs.Precedence.{KeepsPrecedence, IsCycle};
@@ -18,8 +18,8 @@ pub fn an_order_that_respects_precedence_explains()
         → IsExplanation set list chains }
 {}
 
-/// Where no closed walk of the set offends, no chains precede one another around a cycle. Each `ChainSet` has at most
-/// 16 servers.
+/// In an accepted set, by either reason, no chains precede one another around a cycle. Each `ChainSet` has at most 16
+/// servers.
 pub fn no_cycle_where_accepted()
     ensures { (set : Set) (list : List Placed) (chains : List ChainId) → AreLiteralsHome set
         → set.servers ≤ MAX_SERVERS → IsLegal set list

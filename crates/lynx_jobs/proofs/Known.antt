@@ -4,10 +4,25 @@ use Rattle.std.specs.Prelude.{Result, Ok, Err, IfOk, IfSome, take}
 use Rattle.lynx_input.specs.declared.source.TheConstants.{MAX_FILE_BYTES}
 use Rattle.std.specs.Io.KnownBytes.{Appends}
 use Rattle.lynx_run.specs.declared.verdict.Finding.{Finding}
+use Rattle.lynx_run.specs.Checks.{Finds}
 use Rattle.lynx_run.specs.Drawings.{Draws}
-use Rattle.lynx_jobs.specs.Done.{HasDrawn, HasRun, HasRunTexts}
+use Rattle.lynx_jobs.specs.Done.{HasChecked, HasDrawn, HasRun, HasRunTexts}
 use Rattle.lynx_jobs.specs.Statuses.{status_of_finding}
 use Rattle.lynx_jobs.specs.Stopped.{IsFront}
+
+-- a verdict on the set of one source
+pub checked_known : (known : Option (List ℕ)) (text slice : List ℕ) (old new : Option (List ℕ)) (finding : Finding) (status : ℕ) →
+    IsFront MAX_FILE_BYTES known text → slice ≡ text → status ≡ status_of_finding finding →
+    (printed : List ℕ) × Finds slice finding printed × Appends old new printed →
+    IfSome known (λ bytes. HasChecked bytes old new status)
+checked_known None text slice old new finding status front same status_is checked = front
+checked_known (Some bytes) text slice old new finding status front same status_is checked = record {
+  finding = finding;
+  printed = checked.0;
+  finds = subst (λ (read : List ℕ). Finds read finding checked.0) (same ∙ front) checked.1;
+  written = checked.2;
+  status_is = status_is;
+}
 
 -- a picture of one source
 pub drawn_known : (known : Option (List ℕ)) (text slice : List ℕ) (old new : Option (List ℕ)) (finding : Finding) (status : ℕ) →

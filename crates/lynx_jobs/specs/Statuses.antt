@@ -20,7 +20,7 @@ status_of (Run Memory) = 3
 
 -- of a check and of a picture: 0 where the set is accepted, 1 where it offends
 abbrev pub status_of_finding : Finding → ℕ
-status_of_finding Accepted = 0
+status_of_finding (Accepted reason) = 0
 status_of_finding Offending = 1
 
 -- of a run: 0 where an order explains it, 1 where it ends with a cycle

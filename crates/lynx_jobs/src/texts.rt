@@ -22,7 +22,7 @@ fn status_of_finding(finding: Finding) -> u8
     ensures { result ≡ status_of_finding finding }
 {
     match finding {
-        Finding::Accepted => DONE,
+        Finding::Accepted(_) => DONE,
         Finding::Offending => OFFENDING,
     }
 }

@@ -3,7 +3,12 @@ use Rattle.std.specs.Prelude.{◌≡◌, ◌≢◌, ◌⊎◌, ℕ, Option, List
 use Rattle.std.specs.List.{flat_map, zip}
 use Rattle.std.specs.Fmt.{decimal}
 use Rattle.lynx_graph.specs.declared.visit.Visit.{Visit}
-use Rattle.lynx_graph.specs.Walks.{IsAccepted, IsOffending}
+use Rattle.lynx_graph.specs.declared.accepted.Reason.{Reason}
+use Rattle.lynx_graph.specs.declared.accepted.Reason.TheVariants.{Walks, Blocks}
+use Rattle.lynx_graph.specs.declared.block.Block.{Block}
+use Rattle.lynx_graph.specs.Acceptance.{IsReason}
+use Rattle.lynx_graph.specs.Blocks.{IsOffendingBlockWalk}
+use Rattle.lynx_graph.specs.Walks.{IsOffending}
 use Rattle.lynx_set.specs.Rules.{IsSet}
 use Rattle.lynx_set.specs.Set.{Set}
 use Rattle.lynx_set.specs.Text.{text_of}
@@ -31,11 +36,17 @@ edges walk = zip walk (drop 1 walk ++ take 1 walk)
 abbrev pub edge_lines : Set → List Visit → List ℕ
 edge_lines chains walk = flat_map (edge_line chains) (edges walk)
 
--- accepted: no closed walk offends, of whatever length. Offending: the lines are those of a walk that offends
+-- what is printed of an accepted set
+abbrev pub accepted_line : Reason → List ℕ
+accepted_line Walks = with_feed (codes "accepted")
+accepted_line Blocks = with_feed (codes "accepted by blocks")
+
+-- accepted: for that reason. Offending: the lines are those of a closed walk that offends, and a walk of blocks does too
 abbrev pub IsVerdict : Set → Finding → List ℕ → Type 0
-IsVerdict chains Accepted printed = IsAccepted chains × (printed ≡ with_feed (codes "accepted"))
+IsVerdict chains (Accepted reason) printed = IsReason chains reason × (printed ≡ accepted_line reason)
 IsVerdict chains Offending printed =
-    (walk : List Visit) × IsOffending chains walk × (printed ≡ with_feed (codes "offending") ++ edge_lines chains walk)
+    ((walk : List Visit) × IsOffending chains walk × (printed ≡ with_feed (codes "offending") ++ edge_lines chains walk))
+    × ((blocks : List Block) × IsOffendingBlockWalk chains blocks)
 
 -- what is found of a set text, and printed
 pub record Finds (text : List ℕ) (finding : Finding) (printed : List ℕ) : Type 0 where

@@ -2,6 +2,7 @@
 use Rattle.std.specs.Prelude.{◌≡◌, ◌≢◌, ◌⊎◌, ℕ, Option, List}
 use Rattle.lynx_graph.specs.declared.verdict.Verdict.{Verdict}
 use Rattle.lynx_graph.specs.declared.verdict.Verdict.TheVariants.{Accepted as AcceptedVerdict, Offending as OffendingVerdict}
+use Rattle.lynx_graph.specs.Acceptance.{reason_of}
 use Rattle.lynx_graph.specs.Verdicts.{Judges}
 use Rattle.lynx_set.specs.Rules.{IsSet}
 use Rattle.lynx_set.specs.Set.{Set}
@@ -18,8 +19,8 @@ use Rattle.lynx_run.specs.Written.{AppendsPart}
 
 -- what a verdict finds
 abbrev pub finding_of : Verdict → Finding
-finding_of (AcceptedVerdict own) = Accepted
-finding_of (OffendingVerdict walk) = Offending
+finding_of (AcceptedVerdict own) = Accepted (reason_of own.excused)
+finding_of (OffendingVerdict walk blocks) = Offending
 
 -- the picture shows the set and a verdict on it, and the finding is the verdict's
 abbrev pub IsDrawing : Set → Finding → List ℕ → Type 0

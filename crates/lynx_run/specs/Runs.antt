@@ -17,7 +17,7 @@ use Rattle.lynx_world.specs.Tables.{cells_of, triple_cmp}
 use Rattle.lynx_run.specs.declared.run.RunFault.{RunFault}
 use Rattle.lynx_run.specs.declared.run.RunFault.TheVariants.{Set as SetFault, Script as ScriptFault, Write, Memory}
 use Rattle.lynx_words.specs.declared.fault.FaultKind.TheVariants.{Memory as NoMemory}
-use Rattle.lynx_graph.specs.Walks.{IsAccepted}
+use Rattle.lynx_graph.specs.Acceptance.{IsAccepted}
 use Rattle.lynx_order.specs.declared.explained.Explained.{Explained}
 use Rattle.lynx_order.specs.declared.explained.Explained.TheVariants.{Order, Cycle}
 use Rattle.lynx_order.specs.Explained.{CycleIsRight, GivesOrder, OrderIsRight}

@@ -42,7 +42,7 @@ fn finding_of(verdict: &Verdict) -> Finding
     ensures { result ≡ finding_of verdict.now }
 {
     match verdict {
-        Verdict::Accepted(_) => Finding::Accepted,
-        Verdict::Offending(_) => Finding::Offending,
+        Verdict::Accepted(accepted) => Finding::Accepted(accepted.reason()),
+        Verdict::Offending(_, _) => Finding::Offending,
     }
 }

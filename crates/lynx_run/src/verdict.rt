@@ -3,16 +3,17 @@ ghost use Rattle.std.specs.Prelude.{◌≡◌, ◌⊎◌, ℕ, List, [], ◌++�
 ghost use Rattle.std.specs.List.{flat_map};
 ghost use Rattle.std.specs.Io.KnownBytes.{Appends, Keeps};
 ghost use Rattle.lynx_graph.specs.Verdicts.{Judges};
-ghost use Rattle.lynx_graph.specs.Walks.{IsAccepted, IsOffending};
+ghost use Rattle.lynx_graph.specs.Acceptance.{reason_of};
+ghost use Rattle.lynx_graph.specs.Walks.{IsOffending};
 ghost use Rattle.lynx_set.specs.Rules.{IsSet};
 ghost use Rattle.lynx_words.specs.Lines.{with_feed};
 ghost use Rattle.lynx_run.specs.Runs.{IsLate};
-ghost use Rattle.lynx_run.specs.Checks.{BeginsFinding, BeginsVerdict, edge_line, edge_lines, edges, IsVerdict, Finds, NoVerdictFor};
+ghost use Rattle.lynx_run.specs.Checks.{accepted_line, BeginsFinding, BeginsVerdict, edge_line, edge_lines, edges, IsVerdict, Finds, NoVerdictFor};
 ghost use Rattle.lynx_run.specs.Written.{AppendsPart};
 
 use crate::run::{RunFault, read_set};
 use crate::writing::write_bytes;
-use lynx_graph::{Verdict, Visit, check};
+use lynx_graph::{AcceptedSet, Reason, Verdict, Visit, check};
 use lynx_print::conflict_line;
 use lynx_set::ChainSet;
 use std::alloc::{AllocError, Global};
@@ -21,12 +22,12 @@ use std::io::Write;
 /// What was found of a set.
 #[derive(Clone, Copy, Debug, PartialEq, Eq)]
 pub enum Finding {
-    Accepted,
+    Accepted(Reason),
     Offending,
 }
 
-/// Judges a set text, and writes `accepted`, or `offending` and a line for each conflict edge of a walk that
-/// offends. `RunFault::Script` is never its fault.
+/// Judges a set text, and writes `accepted` where no closed walk offends, `accepted by blocks` where no walk of blocks
+/// does, else `offending` and a line for each conflict edge of a closed walk that offends. `RunFault::Script` is never its fault.
 pub fn check_text<W: Write>(alloc: Global, set: &[u8], writer: &mut W) -> Result<Finding, RunFault>
     ensures ok { IfOk result (λ finding. (printed : List ℕ) × Finds set.now finding printed
         × Appends (W.contents writer.old) (W.contents writer.new) printed) }
@@ -66,14 +67,28 @@ fn write_verdict<W: Write>(
     ensures late { IfErr result IsLate }
 {
     match verdict {
-        Verdict::Accepted(_) => {
-            write_bytes(writer, b"accepted\n")?;
-            Ok(Finding::Accepted)
+        Verdict::Accepted(accepted) => {
+            write_accepted(accepted, writer)?;
+            Ok(Finding::Accepted(accepted.reason()))
         }
-        Verdict::Offending(walk) => {
+        Verdict::Offending(walk, _) => {
             write_offending(alloc, set, walk.as_slice(), writer)?;
             Ok(Finding::Offending)
         }
+    }
+}
+
+/// Writes that a set is accepted, and by blocks where that is why.
+fn write_accepted<W: Write>(accepted: &AcceptedSet, writer: &mut W) -> Result<(), RunFault>
+    ensures line { OnOk result (Appends (W.contents writer.old) (W.contents writer.new)
+        (accepted_line (reason_of accepted.now.excused))) }
+    ensures part { OnErr result (AppendsPart (W.contents writer.old) (W.contents writer.new)
+        (accepted_line (reason_of accepted.now.excused))) }
+    ensures late { IfErr result IsLate }
+{
+    match accepted.reason() {
+        Reason::Walks => write_bytes(writer, b"accepted\n"),
+        Reason::Blocks => write_bytes(writer, b"accepted by blocks\n"),
     }
 }
 

@@ -2,7 +2,7 @@
 use lynx_command::{Job, command, job_of};
 use lynx_jobs::{check_source, draw_source, run_input, run_sources};
 use lynx_samples::rows::PAYMENT;
-use lynx_samples::texts::PAY_AND_NOTE;
+use lynx_samples::texts::{CROSSING, PAY_AND_NOTE};
 use std::alloc::Global;
 use std::test::Fail;
 
@@ -15,7 +15,8 @@ fn status_of_check(alloc: Global, text: &str) -> Option<u8> {
 #[test]
 fn a_check_has_the_status_of_its_verdict(rt: HostRuntime) {
     assert_eq!(rt; status_of_check(rt.alloc(), PAYMENT.set), Some(0));
-    assert_eq!(rt; status_of_check(rt.alloc(), PAY_AND_NOTE), Some(1));
+    assert_eq!(rt; status_of_check(rt.alloc(), PAY_AND_NOTE), Some(0));
+    assert_eq!(rt; status_of_check(rt.alloc(), CROSSING), Some(1));
 }
 
 /// The status of a picture of the text.
@@ -27,7 +28,8 @@ fn status_of_picture(alloc: Global, text: &str) -> Option<u8> {
 #[test]
 fn a_picture_has_the_status_of_its_verdict(rt: HostRuntime) {
     assert_eq!(rt; status_of_picture(rt.alloc(), PAYMENT.set), Some(0));
-    assert_eq!(rt; status_of_picture(rt.alloc(), PAY_AND_NOTE), Some(1));
+    assert_eq!(rt; status_of_picture(rt.alloc(), PAY_AND_NOTE), Some(0));
+    assert_eq!(rt; status_of_picture(rt.alloc(), CROSSING), Some(1));
 }
 
 /// Whether the payment runs, and prints its lines.

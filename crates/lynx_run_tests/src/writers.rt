@@ -2,7 +2,7 @@
 use lynx_run::{Ending, Finding, RunFault, check_text, draw_text, run_texts};
 use lynx_samples::full::Full;
 use lynx_samples::rows::PAYMENT;
-use lynx_samples::texts::PAY_AND_NOTE;
+use lynx_samples::texts::CROSSING;
 use std::alloc::Global;
 
 /// How a run ends where so many lines can be written, of six.
@@ -27,27 +27,27 @@ fn a_write_that_fails_ends_the_run(rt: HostRuntime) {
     assert!(rt; ended_in(rt.alloc(), 6) == Ok(Ending::Ordered));
 }
 
-/// What is found where so many lines can be written, of four.
+/// What is found where so many lines can be written, of three.
 fn found_in(alloc: Global, left: usize) -> Result<Finding, RunFault> {
     let mut writer = Full { left };
-    check_text(alloc, PAY_AND_NOTE.as_bytes(), &mut writer)
+    check_text(alloc, CROSSING.as_bytes(), &mut writer)
 }
 
 #[test]
 fn a_broken_pipe_ends_the_verdict(rt: HostRuntime) {
-    for left in 0..4 {
+    for left in 0..3 {
         assert!(rt;
             found_in(rt.alloc(), left) == Err(RunFault::Write),
             "after {left} lines"
         );
     }
-    assert!(rt; found_in(rt.alloc(), 4) == Ok(Finding::Offending));
+    assert!(rt; found_in(rt.alloc(), 3) == Ok(Finding::Offending));
 }
 
 /// What is found where so many pictures can be written.
 fn drawn_in(alloc: Global, left: usize) -> Result<Finding, RunFault> {
     let mut writer = Full { left };
-    draw_text(alloc, PAY_AND_NOTE.as_bytes(), &mut writer)
+    draw_text(alloc, CROSSING.as_bytes(), &mut writer)
 }
 
 #[test]

@@ -1,7 +1,12 @@
 use Rattle.std.proofs.Common.{IfErr, rules}
 use Rattle.lynx_jobs.specs.Stopped.{StopsReading}
+use Rattle.lynx_jobs.proofs.Known.{checked_known}
 use Rattle.lynx_jobs.proofs.Stops.{check_stops, check_unread}
 use Rattle.lynx_jobs.proofs.texts.check_source.Goals as goal
+
+pub returns-in-Ok-clause-ok : goal.returns-in-Ok-clause-ok
+returns-in-Ok-clause-ok g c =
+    checked_known _ _ _ _ _ c.in-Ok.finding _ c.in_ok-text.ensures.ok c.as_slice.ensures.value c.status_of_finding.ensures c.in-Ok.ensures.ok
 
 pub returns-in_err-text-clause-err : goal.returns-in_err-text-clause-err
 returns-in_err-text-clause-err g c =

@@ -1,12 +1,38 @@
-use Rattle.std.proofs.Common.{rules, refl, inr}
-use Rattle.lynx_run.specs.declared.verdict.Finding.TheVariants.{Offending}
+use Rattle.std.proofs.Common.{List, inr, sym, subst}
+use Rattle.lynx_graph.specs.declared.verdict.Verdict.TheVariants.{Offending as OffendingVerdict}
+use Rattle.lynx_graph.specs.declared.visit.Visit.{Visit}
+use Rattle.lynx_graph.specs.Acceptance.{reason_of}
+use Rattle.lynx_graph.specs.Verdicts.{Judges}
 use Rattle.lynx_io.proofs.Parts.{on_err}
+use Rattle.lynx_run.specs.declared.verdict.Finding.TheVariants.{Accepted, Offending}
+use Rattle.lynx_run.proofs.Printed.{accepted_printed, offending_printed}
 use Rattle.lynx_run.proofs.verdict.write_verdict.Goals as goal
 
+pub returns-in_err-write_accepted-in-Accepted-clause-part : goal.returns-in_err-write_accepted-in-Accepted-clause-part
+returns-in_err-write_accepted-in-Accepted-clause-part g c =
+    on_err c.from_residual.result
+    (inr (
+      Accepted (reason_of c.in-Accepted.accepted.excused),
+      _,
+      accepted_printed c.args.set.now c.in-Accepted.accepted (subst (Judges c.args.set.now) c.in-Accepted.is c.requires),
+      c.in_err-write_accepted-in-Accepted.ensures.part,
+    ))
+
 pub returns-in_ok-write_offending-in-Offending-clause-ok : goal.returns-in_ok-write_offending-in-Offending-clause-ok
-returns-in_ok-write_offending-in-Offending-clause-ok g c = (_, (c.as_slice.result.now, search rules, refl), c.in_ok-write_offending-in-Offending.ensures.lines)
+returns-in_ok-write_offending-in-Offending-clause-ok g c = (
+  _,
+  offending_printed c.args.set.now c.as_slice.result.now c.in-Offending.field-1
+      (subst (λ (walk : List Visit). Judges c.args.set.now (OffendingVerdict walk c.in-Offending.field-1)) (sym c.as_slice.ensures) (subst (Judges c.args.set.now) c.in-Offending.is c.requires)),
+  c.in_ok-write_offending-in-Offending.ensures.lines,
+)
 
 pub returns-in_err-write_offending-in-Offending-clause-part : goal.returns-in_err-write_offending-in-Offending-clause-part
 returns-in_err-write_offending-in-Offending-clause-part g c =
     on_err c.from_residual-in_err-write_offending-in-Offending.result
-    (inr (Offending, _, (c.as_slice.result.now, search rules, refl), c.in_err-write_offending-in-Offending.ensures.part))
+    (inr (
+      Offending,
+      _,
+      offending_printed c.args.set.now c.as_slice.result.now c.in-Offending.field-1
+          (subst (λ (walk : List Visit). Judges c.args.set.now (OffendingVerdict walk c.in-Offending.field-1)) (sym c.as_slice.ensures) (subst (Judges c.args.set.now) c.in-Offending.is c.requires)),
+      c.in_err-write_offending-in-Offending.ensures.part,
+    ))

@@ -1,9 +1,10 @@
 -- The whole picture of a set.
-use Rattle.std.specs.Prelude.{ℕ, List, [], ◌++◌, codes}
+use Rattle.std.specs.Prelude.{ℕ, List, [], ◌++◌, codes, Option, Some, None}
 use Rattle.lynx_set.specs.Set.{Set}
 use Rattle.lynx_graph.specs.declared.verdict.Verdict.{Verdict}
+use Rattle.lynx_graph.specs.declared.visit.Visit.{Visit}
 use Rattle.lynx_graph.specs.declared.verdict.Verdict.TheVariants.{Accepted, Offending}
-use Rattle.lynx_draw.specs.declared.picture.TheConstants.{HEAD, ACCEPTED, OFFENDING, LEGEND, CONFLICTS, STEPS}
+use Rattle.lynx_draw.specs.declared.picture.TheConstants.{HEAD, ACCEPTED, EXCUSED, OFFENDING, LEGEND, CONFLICTS, EXCUSED_STEPS, STEPS}
 use Rattle.lynx_draw.specs.declared.edges.Edge.{Edge}
 use Rattle.lynx_draw.specs.declared.steps.Step.{Step}
 use Rattle.lynx_draw.specs.Edges.{edges_of}
@@ -11,19 +12,37 @@ use Rattle.lynx_draw.specs.Steps.{steps_of}
 use Rattle.lynx_draw.specs.Clusters.{clusters_text}
 use Rattle.lynx_draw.specs.Lines.{conflict_lines, step_lines}
 
+-- an accepted set has a closed walk that is excused, or none
+abbrev pub accepted_caption : Option (List Visit) → List ℕ
+accepted_caption None = ACCEPTED.now
+accepted_caption (Some walk) = EXCUSED.now
+
 -- the verdict, which stands below it
 abbrev pub caption : Verdict → List ℕ
-caption (Accepted own) = ACCEPTED.now
-caption (Offending walk) = OFFENDING.now
+caption (Accepted own) = accepted_caption own.excused
+caption (Offending walk blocks) = OFFENDING.now
 
--- the steps of the walk that is given, none of an accepted set
+-- the steps of the closed walk that offends, excused or not
+abbrev pub excused_steps : List Edge → Option (List Visit) → List Step
+excused_steps edges None = []
+excused_steps edges (Some walk) = steps_of edges walk
+
 abbrev pub steps_in : List Edge → Verdict → List Step
-steps_in edges (Accepted own) = []
-steps_in edges (Offending walk) = steps_of edges walk
+steps_in edges (Accepted own) = excused_steps edges own.excused
+steps_in edges (Offending walk blocks) = steps_of edges walk
+
+-- how steps are drawn: those of an excused walk in the colour of an excuse
+abbrev pub accepted_style : Option (List Visit) → List ℕ
+accepted_style None = STEPS.now
+accepted_style (Some walk) = EXCUSED_STEPS.now
+
+abbrev pub style_of : Verdict → List ℕ
+style_of (Accepted own) = accepted_style own.excused
+style_of (Offending walk blocks) = STEPS.now
 
 -- the programs, the conflicts by which no step goes, and the steps
 abbrev pub picture_of : Set → Verdict → List ℕ
 picture_of set verdict =
     HEAD.now ++ caption verdict ++ LEGEND.now ++ clusters_text set (edges_of set)
     ++ CONFLICTS.now ++ conflict_lines set (steps_in (edges_of set) verdict) (edges_of set)
-    ++ STEPS.now ++ step_lines set 1 (steps_in (edges_of set) verdict) ++ codes "}\n"
+    ++ style_of verdict ++ step_lines set 1 (steps_in (edges_of set) verdict) ++ codes "}\n"

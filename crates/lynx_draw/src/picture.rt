@@ -1,7 +1,7 @@
 //! The whole picture.
 
 ghost use Rattle.std.specs.Prelude.{◌≡◌, ◌++◌, IfOk, OnOk};
-ghost use Rattle.lynx_draw.specs.Picture.{caption, picture_of, steps_in};
+ghost use Rattle.lynx_draw.specs.Picture.{caption, picture_of, steps_in, style_of};
 
 use crate::clusters::put_clusters;
 use crate::edges::{Edge, conflict_edges};
@@ -19,6 +19,9 @@ const HEAD: &[u8] =
 /// The verdict, at the beginning of what stands below the picture.
 const ACCEPTED: &[u8] = b"  label=\"accepted\\l";
 
+const EXCUSED: &[u8] =
+    b"  label=\"accepted by blocks: the orange steps lead all the way round, but no chains run so: between chains of other origins each block goes forward alone.\\l";
+
 const OFFENDING: &[u8] =
     b"  label=\"offending: by the red steps in their order, each chain may come before the next, all the way round.\\l";
 
@@ -33,22 +36,44 @@ const CONFLICTS: &[u8] = b"  edge [style=dashed, dir=none];\n";
 const STEPS: &[u8] =
     b"  edge [dir=forward, penwidth=2, color=\"#cc0000\", fontcolor=\"#cc0000\", fontsize=12];\n";
 
+/// How the steps of a walk that is excused are drawn.
+const EXCUSED_STEPS: &[u8] =
+    b"  edge [dir=forward, penwidth=2, color=\"#cc7700\", fontcolor=\"#cc7700\", fontsize=12];\n";
+
 fn caption(verdict: &Verdict) -> &'static [u8]
     ensures { result.now ≡ caption verdict.now }
 {
     match verdict {
-        Verdict::Accepted(_) => ACCEPTED,
-        Verdict::Offending(_) => OFFENDING,
+        Verdict::Accepted(accepted) => match accepted.excused() {
+            Some(_) => EXCUSED,
+            None => ACCEPTED,
+        },
+        Verdict::Offending(_, _) => OFFENDING,
     }
 }
 
-/// The steps of the walk that is given, none of an accepted set.
+fn style_of(verdict: &Verdict) -> &'static [u8]
+    ensures { result.now ≡ style_of verdict.now }
+{
+    match verdict {
+        Verdict::Accepted(accepted) => match accepted.excused() {
+            Some(_) => EXCUSED_STEPS,
+            None => STEPS,
+        },
+        Verdict::Offending(_, _) => STEPS,
+    }
+}
+
+/// The steps of the closed walk that offends, excused or not; none where no walk does.
 fn steps_in(alloc: Global, edges: &[Edge], verdict: &Verdict) -> Result<Items<Step>, Memory>
     ensures { IfOk result (λ steps. steps ≡ steps_in edges.now verdict.now) }
 {
     match verdict {
-        Verdict::Accepted(_) => Ok(Items::new(alloc)),
-        Verdict::Offending(walk) => steps_of(alloc, edges, walk.as_slice()),
+        Verdict::Accepted(accepted) => match accepted.excused() {
+            Some(walk) => steps_of(alloc, edges, walk.as_slice()),
+            None => Ok(Items::new(alloc)),
+        },
+        Verdict::Offending(walk, _) => steps_of(alloc, edges, walk.as_slice()),
     }
 }
 
@@ -66,7 +91,7 @@ pub fn draw(alloc: Global, set: &ChainSet, verdict: &Verdict) -> Result<Vec<u8>,
     put_clusters(alloc, &mut out, set, edges.as_slice())?;
     out.extend_from_slice(CONFLICTS)?;
     put_conflicts(alloc, &mut out, set, edges.as_slice(), steps.as_slice())?;
-    out.extend_from_slice(STEPS)?;
+    out.extend_from_slice(style_of(verdict))?;
     put_steps(alloc, &mut out, set, steps.as_slice())?;
     out.extend_from_slice(b"}\n".as_slice())?;
     Ok(out)

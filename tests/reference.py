@@ -1,6 +1,13 @@
+#!/usr/bin/env python3
 """A plain reading of docs/DEFINITIONS.md and docs/FORMATS.md, written apart from the program: what a set text and a
 script print, and the verdict on a set. It walks lists where the program may keep counters, and makes no effort to be
-fast. tests/random compares the program with it."""
+fast. tests/random compares the program with it.
+
+tests/reference.py --self-check N: on N random small sets, the same each time, compares the way in which it looks for a
+walk of blocks that offends with one that tries all short walks. The last line is 'N passed, M failed'.
+"""
+import random
+import sys
 
 MASK = (1 << 64) - 1
 GETTING, SETTING, ADDING = "getting", "setting", "adding"
@@ -301,9 +308,25 @@ def run(set_text, script):
 
 
 def check(set_text):
-    """The verdict's lines, and the status: the least of the shortest walks that offend, by plain search."""
+    """The verdict's lines, and the status: a set is accepted where no closed walk offends, or no walk of blocks does."""
     chains = Set(set_text)
-    nodes = [(p, h) for p in chains.programs for h in range(len(chains.hops(p)))]
+    walk = least_walk(chains)
+    if walk is None:
+        return "accepted\n", 0
+    if not block_walk_offends(chains):
+        return "accepted by blocks\n", 0
+    lines = [f"conflict {a[0]} {a[1]} {b[0]} {b[1]}\n" for a, b in walk]
+    return "offending\n" + "".join(lines), 1
+
+
+def places(chains):
+    """Each hop of the set, as a pair of its program and its number."""
+    return [(program, hop) for program in chains.programs for hop in range(len(chains.hops(program)))]
+
+
+def least_walk(chains):
+    """The conflict edges of the least of the shortest closed walks that offend, by plain search, if there is one."""
+    nodes = places(chains)
     joins = {node: [other for other in nodes if may_conflict(chains, node, other)] for node in nodes}
     number = {program: i for i, program in enumerate(chains.programs)}
     order = lambda node: (number[node[0]], node[1])
@@ -330,12 +353,101 @@ def check(set_text):
                         if state not in after or better(path, after[state], order):
                             after[state] = path
             states = after
-    if best is None:
-        return "accepted\n", 0
-    lines = [f"conflict {a[0]} {a[1]} {b[0]} {b[1]}\n" for a, b in best]
-    return "offending\n" + "".join(lines), 1
+    return best
 
 
 def better(left, right, order):
     key = lambda edges: (len(edges), [order(node) for edge in edges for node in edge])
     return key(left) < key(right)
+
+
+def blocks(chains):
+    """All blocks: the hop entered, the hop left, and whether they are of one chain; else they are of two chains of one
+    origin, the one that is entered begun first."""
+    pairs = [(entered, left) for entered in places(chains) for left in places(chains)
+             if chains.origin(entered[0]) == chains.origin(left[0])]
+    return [(*pair, True) for pair in pairs if pair[0][0] == pair[1][0]] + [(*pair, False) for pair in pairs]
+
+
+def is_forward(chains, block):
+    """Of one chain: it isn't left by an earlier hop than it was entered at. Of two: the second was at the server of the
+    hop entered when it is left."""
+    entered, left, is_one = block
+    if is_one:
+        return entered[1] <= left[1]
+    server = chains.hops(entered[0])[entered[1]][0]
+    return any(other == server for other, _ in chains.hops(left[0])[:left[1] + 1])
+
+
+def meet(chains, left, right):
+    """Whether two hops are of programs of different origins and may conflict, as between neighbours in a walk of blocks."""
+    return chains.origin(left[0]) != chains.origin(right[0]) and may_conflict(chains, left, right)
+
+
+def block_walk_offends(chains):
+    """Whether some walk of blocks offends. It is enough to look at one block at a time: a walk of blocks offends exactly where
+    some block isn't forward and both its hop entered and its hop left meet some hop of a program of another origin.
+
+    Where a walk offends, it has a block that isn't forward, and its neighbours in the walk are of other origins: the
+    hop left of the one before it meets its hop entered, and the hop entered of the one after it meets its hop left.
+    Where there is such a block, these four are a walk, and it offends: the block; a chain of the hop that its hop left
+    meets, entered and left by that hop; the block back, entered at the hop left and left by the hop entered, which is a
+    block, as both are of one program or of one origin; and a chain of the hop that its hop entered meets, entered and
+    left by that hop, from which the block is entered again."""
+    met = {place for place in places(chains) if any(meet(chains, place, other) for other in places(chains))}
+    return any(entered in met and left in met and not is_forward(chains, (entered, left, is_one))
+               for entered, left, is_one in blocks(chains))
+
+
+def short_block_walk_offends(chains, most=6):
+    """Whether some walk of blocks of at most so many blocks offends, by trying all. For small sets."""
+    every = blocks(chains)
+    after = {block: [other for other in every if meet(chains, block[1], other[0])] for block in every}
+    backward = {block for block in every if not is_forward(chains, block)}
+
+    def tried(walk):
+        if len(walk) >= 2 and walk[0] in after[walk[-1]] and not backward.isdisjoint(walk):
+            return True
+        return len(walk) < most and any(tried(walk + [other]) for other in after[walk[-1]])
+
+    return any(tried([block]) for block in every)
+
+
+def small_set(rng):
+    """A set text of a few hops. Each touches one of two cells of its server, or the one that a parameter names. In half
+    of the sets programs of more hops begin at server 0 and others elsewhere, so that two of one origin are common."""
+    servers, left, number, low = rng.randint(2, 4), rng.randint(4, 8), 0, rng.choice([0, 1])
+    lines = ["lynx 1", f"servers {servers}", "table t"]
+    for server in range(servers):
+        lines.append(f"shard {10 * server} {10 * server + 9 if server + 1 < servers else MASK} {server}")
+    while left:
+        lines.append(f"program p{number} k")
+        count = min(left, rng.randint(1, 3))
+        for hop in range(count):
+            server = 0 if low and count > 1 and not hop else rng.randrange(low, servers)
+            key = "k" if rng.random() < 0.1 else str(10 * server + rng.choice([0, 0, 0, 0, 1]))
+            lines += [f"hop {server}", rng.choice([f"get y{hop} t {key}", f"set t {key} 1", f"add t {key} 1"])]
+        lines.append("end")
+        left, number = left - count, number + 1
+    return "".join(line + "\n" for line in lines)
+
+
+def self_check(count):
+    """Compares the two ways to look for a walk of blocks that offends, and prints the sets on which they differ."""
+    failed, offending = 0, 0
+    for seed in range(count):
+        text = small_set(random.Random(seed))
+        found = block_walk_offends(Set(text))
+        offending += found
+        if found != short_block_walk_offends(Set(text)):
+            failed += 1
+            print(f"== seed {seed}: by one block {found}\n{text}")
+    print(f"a walk of blocks offends in {offending} sets of {count}")
+    print(f"{count - failed} passed, {failed} failed")
+    return 1 if failed or not count else 0
+
+
+if __name__ == "__main__":
+    if len(sys.argv) != 3 or sys.argv[1] != "--self-check":
+        sys.exit(__doc__)
+    sys.exit(self_check(int(sys.argv[2])))

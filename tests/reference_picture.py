@@ -17,11 +17,20 @@ HEAD = """digraph lynx {
   edge [fontname="Helvetica", fontsize=10];
 """
 ACCEPTED = "accepted\\l"
+EXCUSED = "accepted by blocks: the orange steps lead all the way round, but no chains run so: between chains of other " \
+    "origins each block goes forward alone.\\l"
 OFFENDING = "offending: by the red steps in their order, each chain may come before the next, all the way round.\\l"
 LEGEND = ("Solid arrows lead to the next hop. Dashed lines join hops that may conflict, in the tables named.\\l"
           "Where two chains of one program may conflict, it is drawn again. Each server has its colour.\\l")
 CONFLICTS = "  edge [style=dashed, dir=none];\n"
 STEPS = '  edge [dir=forward, penwidth=2, color="#cc0000", fontcolor="#cc0000", fontsize=12];\n'
+EXCUSED_STEPS = STEPS.replace("#cc0000", "#cc7700")
+# by the first line of the verdict: the caption, and how the steps of the closed walk that offends are drawn
+LOOKS = {
+    "accepted": (ACCEPTED, STEPS),
+    "accepted by blocks": (EXCUSED, EXCUSED_STEPS),
+    "offending": (OFFENDING, STEPS),
+}
 
 
 def places(chains):
@@ -101,9 +110,7 @@ def picture(text):
     chains, (verdict, status) = reference.Set(text), reference.check(text)
     edges = conflicts(chains)
     drawn_twice = {left[0] for left, right in edges if left[0] == right[0]}
-    words = [line.split() for line in verdict.splitlines() if line.startswith("conflict ")]
-    walk = [((line[1], int(line[2])), (line[3], int(line[4]))) for line in words]
-    walked = steps(walk, drawn_twice)
+    walked = steps(reference.least_walk(chains) or [], drawn_twice)
     lines = []
     for program in chains.programs:
         lines += cluster(chains, program, False) + (cluster(chains, program, True) if program in drawn_twice else [])
@@ -113,10 +120,11 @@ def picture(text):
         if not any(is_conflict and {source, target} == ends for source, target, is_conflict in walked):
             dashed.append(f'  {node(left, False)} -> {node(right, left[0] == right[0])} '
                           f'[label=" {", ".join(tables_met(chains, left, right))}"];')
-    red = [step_line(chains, number, step) for number, step in enumerate(walked, 1)]
+    coloured = [step_line(chains, number, step) for number, step in enumerate(walked, 1)]
     put = lambda some: "".join(line + "\n" for line in some)
-    label = f'  label="{OFFENDING if status else ACCEPTED}{LEGEND}";\n'
-    return HEAD + label + put(lines) + CONFLICTS + put(dashed) + STEPS + put(red) + "}\n", status
+    caption, style = LOOKS[verdict.splitlines()[0]]
+    label = f'  label="{caption}{LEGEND}";\n'
+    return HEAD + label + put(lines) + CONFLICTS + put(dashed) + style + put(coloured) + "}\n", status
 
 
 if __name__ == "__main__":

@@ -1,5 +1,5 @@
 -- Counters, and the numbers that are drawn from them.
-use Rattle.std.specs.Prelude.{ℕ, ◌≡◌, ◌+◌, ◌<◌, ◌==◌, Bool, List, [], ◌∷◌, map, fold, length, slice_index, slice_set, Option, IfSome, All}
+use Rattle.std.specs.Prelude.{ℕ, ◌≡◌, ◌+◌, ◌<◌, ◌==◌, Bool, List, [], ◌∷◌, map, fold, length, slice_index, slice_set, Option, IfSome, All, option_map}
 use Rattle.std.specs.List.{list_any}
 use Rattle.lynx_names.specs.declared.limits.TheConstants.{MAX_ENTRIES, MAX_SERVERS}
 use Rattle.lynx_names.specs.declared.numbers.NumberAt.{NumberAt}
@@ -36,10 +36,14 @@ pub record IsNumber (counters : List ℕ) (drawn : NumberAt) : Type 0 where
   pub small : drawn.number < MAX_ENTRIES
   pub inside : drawn.server < MAX_SERVERS
 
+-- the numbers of the servers whose numbers are out
+abbrev pub drawn_of : List ℕ → Option (List ℕ) → Option (List NumberAt)
+drawn_of counters out = option_map (numbers_from counters) out
+
 -- a counter for each server, and a draw of them
-pub record IsSequencer (counters : List ℕ) (out : Option (List NumberAt)) : Type 0 where
+pub record IsSequencer (counters : List ℕ) (out : Option (List ℕ)) : Type 0 where
   pub room : length counters ≡ MAX_SERVERS
-  pub drawn : IfSome out (All (IsNumber counters))
+  pub drawn : IfSome (drawn_of counters out) (All (IsNumber counters))
 
 -- the numbers of these servers
 pub record AreSoFar (counters visits : List ℕ) (numbers : List NumberAt) : Type 0 where

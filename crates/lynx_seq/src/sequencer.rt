@@ -4,7 +4,7 @@ ghost use Rattle.lynx_seq.specs.Counters.{no_counts, numbers_from, raised};
 
 use crate::draw::Draw;
 use lynx_names::limits::MAX_SERVERS;
-use lynx_names::{Memory, NumberAt, Numbers, ServerId, TryCopy};
+use lynx_names::{Memory, NumberAt, Numbers, ServerId, ServerList};
 use std::alloc::Global;
 use std::marker::Model;
 
@@ -15,15 +15,19 @@ const SERVERS: usize = MAX_SERVERS as usize;
 #[derive(Debug, Drop)]
 pub struct Sequencer {
     pub(crate) counters: [u64; SERVERS],
-    pub(crate) out: Option<Numbers>,
+    /// The servers whose numbers are out.
+    pub(crate) out: Option<ServerList>,
 }
 
 impl Model for Sequencer {
-    ghost use Rattle.lynx_seq.specs.Counters.{IsSequencer, Sequence};
+    ghost use Rattle.lynx_seq.specs.Counters.{IsSequencer, Sequence, drawn_of};
 
     ghost Value = { Sequence };
 
-    ghost view = { λ sequencer. record { counters = sequencer.counters; out = sequencer.out } };
+    ghost view = { λ sequencer. record {
+      counters = sequencer.counters;
+      out = drawn_of sequencer.counters sequencer.out;
+    } };
 
     ghost invariant = { λ sequencer. IsSequencer sequencer.counters sequencer.out };
 }
@@ -55,17 +59,16 @@ impl Sequencer {
     }
 
     /// The numbers of a chain that visits these servers. No counter rises before they are bound.
-    pub fn draw(&mut self, alloc: Global, visits: &[ServerId]) -> Result<Draw, Memory>
+    pub fn draw(&mut self, alloc: Global, visits: ServerList) -> Result<Draw, Memory>
         requires free { self.old.out ≡ None }
         requires small { All (λ server.
-            slice_index self.old.counters server < MAX_ENTRIES) visits.now }
-        ensures numbers { IfOk result (λ draw. draw ≡ numbers_from self.old.counters visits.now) }
+            slice_index self.old.counters server < MAX_ENTRIES) visits }
+        ensures numbers { IfOk result (λ draw. draw ≡ numbers_from self.old.counters visits) }
         ensures out { IfOk result (λ draw. self.new ≡ record self.old { out = Some draw }) }
         ensures err { OnErr result (self.new ≡ self.old) }
     {
-        let numbers = numbers_from(alloc, &self.counters, visits)?;
-        let copied = numbers.copy(alloc)?;
-        self.out = Some(copied);
+        let numbers = numbers_from(alloc, &self.counters, visits.as_slice())?;
+        self.out = Some(visits);
         Ok(Draw { numbers })
     }
 }

@@ -1,14 +1,17 @@
 -- Finding the message of a hop by the entry of the hop before.
-use Rattle.std.proofs.Common.{◌≡◌, ◌<◌, ◌+◌, ◌&&◌, ℕ, zero, suc, Bool, true, false, cond, nat_eq, map, List, [], ◌∷◌, slice_get, find, Option, Some, None, refl, sym, ap, ◌∙◌, subst, inl, inr, ◌⊎◌, eq-eqb, arith}
+use Rattle.std.proofs.Common.{◌≡◌, ◌<◌, ◌+◌, ◌&&◌, ℕ, Bool, true, false, cond, nat_eq, map, List, [], ◌∷◌, slice_get, find, Option, Some, None, refl, sym, ap, ◌∙◌, subst, inl, inr, ◌⊎◌, eq-eqb, arith}
 use Rattle.std.specs.List.{cons_option}
-use Rattle.std.specs.Option.{option_and_then, option_or}
+use Rattle.std.specs.Option.{option_and_then}
 use Rattle.std.proofs.lemmas.Bool.{eqb-true}
+use Rattle.std.proofs.lemmas.Bool.Decides.{eqb_tells}
 use Rattle.std.proofs.lemmas.Option.{slice_get_cases}
 use Rattle.lynx_names.specs.declared.chain.ChainId.{ChainId}
 use Rattle.lynx_set.specs.Set.{Set}
+use Rattle.lynx_entry.specs.declared.entry.BegunEntry.{BegunEntry}
 use Rattle.lynx_entry.specs.declared.entry.Entry.{Entry}
 use Rattle.lynx_entry.specs.declared.entry.Entry.TheVariants.{Begun, Refused, Hop}
 use Rattle.lynx_entry.specs.declared.message.Message.{Message}
+use Rattle.lynx_entry.specs.Entry.{History}
 use Rattle.lynx_keep.specs.Kept.{KeptState}
 use Rattle.lynx_turn.specs.Held.{same_chain}
 use Rattle.lynx_rules.specs.Messages.{next_message}
@@ -19,11 +22,12 @@ use Rattle.lynx_world.specs.Placed.{Placed}
 use Rattle.lynx_world.specs.Legal.{IsLegal, IsSent}
 use Rattle.lynx_world.specs.Order.{hop_in}
 use Rattle.lynx_world.specs.Servers.{AreServers, Servers, list_of}
-use Rattle.lynx_world.specs.inner.Servers.{act_among, act_in}
+use Rattle.lynx_world.specs.inner.Senders.{act_at, act_found, act_in, act_of_begun, home_of}
 use Rattle.lynx_world.specs.Steps.{is_message_of, sent_message}
 use Rattle.lynx_world.specs.Worlds.{messages_of}
 use Rattle.lynx_world.proofs.Members.{IsIn, found_in, in_history, in_list, sender_of}
-use Rattle.lynx_world.proofs.Once.{both, sends_after, same_chain-self, same_name}
+use Rattle.lynx_world.proofs.Acts.{acts}
+use Rattle.lynx_world.proofs.Once.{both, hop_server, known, program_of, sends_after, same_chain-self, same_name}
 use Rattle.lynx_world.proofs.Unique.{one_entry}
 use Rattle.lynx_world.proofs.LegalSteps.{sent_found}
 use Rattle.lynx_world.proofs.Standing.{stands}
@@ -91,9 +95,9 @@ of_entries (first ∷ list) entry (inl same) = (first, inl refl, same)
 of_entries (first ∷ list) entry (inr later) = let r = of_entries list entry later in (r.0, inr r.1, r.2)
 
 -- what is found in a list, told by the one entry of that hop
-act_found : (set : Set) (chain : ChainId) (hop : ℕ) (list : List Placed) (q : Placed) → IsLegal set list → IsIn q list →
+act_listed : (set : Set) (chain : ChainId) (hop : ℕ) (list : List Placed) (q : Placed) → IsLegal set list → IsIn q list →
     hop_in chain q.entry ≡ Some hop → act_in chain hop list ≡ Some q.entry
-act_found set chain hop list q legal there is = by (act_in chain hop list) refl
+act_listed set chain hop list q legal there is = by (act_in chain hop list) refl
   where
     by : (o : Option Entry) → act_in chain hop list ≡ o → act_in chain hop list ≡ Some q.entry
     by None none = absurd (not_found (is_act chain hop) _ q.entry none (in_entries list q there) (hop_act chain hop q.entry is))
@@ -102,33 +106,6 @@ act_found set chain hop list q legal there is = by (act_in chain hop list) refl
         let p = of_entries list entry stands.0 in
         let one : p.0 ≡ q = one_entry set chain hop list p.0 q legal p.1 there (ap (hop_in chain) p.2 ∙ act_hop chain hop entry stands.1) is in
         found ∙ ap Some (sym p.2 ∙ ap (λ (r : Placed). r.entry) one)
-
--- what the first servers that have it give stands at one of them
-act_given : (chain : ChainId) (hop : ℕ) (servers : Servers) (entry : Entry) → act_among chain hop servers ≡ Some entry →
-    (server : ℕ) × (here : Serving KeptState) × (slice_get servers server ≡ Some here) × (act_of chain hop here.history ≡ Some entry)
-act_given chain hop [] entry is = cc
-act_given chain hop (first ∷ servers) entry is = by (act_of chain hop first.history) refl is (act_given chain hop servers entry)
-  where
-    by : (o : Option Entry) → act_of chain hop first.history ≡ o → option_or o (act_among chain hop servers) ≡ Some entry →
-        (act_among chain hop servers ≡ Some entry → (server : ℕ) × (here : Serving KeptState) × (slice_get servers server ≡ Some here) × (act_of chain hop here.history ≡ Some entry)) →
-        (server : ℕ) × (here : Serving KeptState) × (slice_get (first ∷ servers) server ≡ Some here) × (act_of chain hop here.history ≡ Some entry)
-    by None none found later = let r = later found in (suc r.0, r.1, r.2, r.3)
-    by (Some other) one found later = let same : other ≡ entry = cc in (zero, first, refl, one ∙ ap Some same)
-
--- where none of them gives it, none has it
-act_nowhere : (chain : ChainId) (hop : ℕ) (servers : Servers) (server : ℕ) (here : Serving KeptState) → act_among chain hop servers ≡ None →
-    slice_get servers server ≡ Some here → act_of chain hop here.history ≡ None
-act_nowhere chain hop [] server here none there = cc
-act_nowhere chain hop (first ∷ servers) server here none there =
-    by (act_of chain hop first.history) refl server none there (λ n rest found. act_nowhere chain hop servers n here rest found)
-  where
-    by : (o : Option Entry) → act_of chain hop first.history ≡ o → (n : ℕ) → option_or o (act_among chain hop servers) ≡ None →
-        slice_get (first ∷ servers) n ≡ Some here →
-        ((n : ℕ) → act_among chain hop servers ≡ None → slice_get servers n ≡ Some here → act_of chain hop here.history ≡ None) →
-        act_of chain hop here.history ≡ None
-    by None is zero rest found later = let same : first ≡ here = cc in ap (λ (h : Serving KeptState). act_of chain hop h.history) (sym same) ∙ is
-    by None is (suc n) rest found later = later n rest found
-    by (Some entry) is n rest found later = cc
 
 -- each server of the set is there
 server_there : (set : Set) (servers : Servers) (order : List Added) (server : ℕ) → AreServers set servers order → server < set.servers →
@@ -139,33 +116,130 @@ server_there set servers order server are within =
       | inr past ↦ let beyond = past.0 in let many = are.many in absurd (omega arith)
     ]
 
--- The entry that servers of a world have of a hop is the one of the list.
-pub act_is : (set : Set) (servers : Servers) (order : List Added) (chain : ChainId) (hop : ℕ) → AreServers set servers order →
-    act_among chain hop servers ≡ act_in chain hop (list_of servers order)
-act_is set servers order chain hop are = by (act_among chain hop servers) refl
+-- the entry of a hop, where a history has no other
+act_kept : (chain : ChainId) (hop : ℕ) (history : History) (entry : Entry) → IsIn entry history → hop_in chain entry ≡ Some hop →
+    ((other : Entry) → IsIn other history → hop_in chain other ≡ Some hop → other ≡ entry) → act_of chain hop history ≡ Some entry
+act_kept chain hop history entry there is one = by (act_of chain hop history) refl
   where
-    by : (o : Option Entry) → act_among chain hop servers ≡ o → act_among chain hop servers ≡ act_in chain hop (list_of servers order)
-    by (Some entry) given =
+    by : (o : Option Entry) → act_of chain hop history ≡ o → act_of chain hop history ≡ Some entry
+    by None none = absurd (not_found (is_act chain hop) history entry none there (hop_act chain hop entry is))
+    by (Some other) found =
+        let stands_there = found_in (is_act chain hop) history other found in
+        found ∙ ap Some (one other stands_there.0 (act_hop chain hop other stands_there.1))
+
+-- what stands in the list at a server is what that server has of its hop
+there_at : (set : Set) (servers : Servers) (order : List Added) (chain : ChainId) (hop server : ℕ) (entry : Entry) → AreServers set servers order →
+    IsIn (record { server = server; entry = entry }) (list_of servers order) → hop_in chain entry ≡ Some hop →
+    act_at chain hop servers server ≡ Some entry
+there_at set servers order chain hop server entry are there is =
+    let list = list_of servers order in
+    let placed : Placed = record { server = server; entry = entry } in
+    let stood = stands set list placed are.is_legal there in
+    let here = server_there set servers order server are stood.may_follow.at_server in
+    let its = are.each server here.0 here.1 in
+    let kept : IsIn entry here.0.history = subst (IsIn entry) (sym its.history_is) (in_history server list placed there refl) in
+    ap (option_and_then (λ (h : Serving KeptState). act_of chain hop h.history)) here.1
+    ∙ act_kept chain hop here.0.history entry kept is
+    (λ other in_it other_is.
+    ap (λ (p : Placed). p.entry)
+    (one_entry set chain hop list (record { server = server; entry = other }) placed are.is_legal
+    (in_list server list other (subst (IsIn other) its.history_is in_it)) there other_is is))
+
+-- what a server has of a hop stands in the list there
+given_at : (set : Set) (servers : Servers) (order : List Added) (chain : ChainId) (hop server : ℕ) (entry : Entry) → AreServers set servers order →
+    act_at chain hop servers server ≡ Some entry →
+    IsIn (record { server = server; entry = entry }) (list_of servers order) × (hop_in chain entry ≡ Some hop)
+given_at set servers order chain hop server entry are given = by (slice_get servers server) refl given
+  where
+    by : (o : Option (Serving KeptState)) → slice_get servers server ≡ o →
+        option_and_then (λ (here : Serving KeptState). act_of chain hop here.history) o ≡ Some entry →
+        IsIn (record { server = server; entry = entry }) (list_of servers order) × (hop_in chain entry ≡ Some hop)
+    by None none given = cc
+    by (Some here) there given =
+        let stands_there = found_in (is_act chain hop) here.history entry given in (
+          in_list server (list_of servers order) entry (subst (IsIn entry) (are.each server here there).history_is stands_there.0),
+          act_hop chain hop entry stands_there.1,
+        )
+
+-- a later hop ran at the server that the chain's program tells
+home_is : (set : Set) (list : List Placed) (server : ℕ) (entry : Entry) (chain : ChainId) (hop : ℕ) (begun : BegunEntry) → IsLegal set list →
+    IsIn (record { server = server; entry = entry }) list → hop_in chain entry ≡ Some hop → (hop ≡ 0 → ⊥) →
+    begun.request.program ≡ program_of entry → home_of set hop (Begun begun) ≡ Some server
+home_is set list server (Begun other) chain hop begun legal there is later program =
+    let test = chosen (same_chain other.chain chain) 0 hop is in absurd (later (sym test.1))
+home_is set list server (Refused refused) chain hop begun legal there is later program = cc
+home_is set list server (Hop ran) chain hop begun legal there is later program =
+    let test = chosen (same_chain ran.message.chain chain) ran.message.hop hop is in
+    ap (λ p. hop_server set p hop) program
+    ∙ ap (hop_server set ran.message.program) (sym test.1)
+    ∙ (known set list legal).at_home (record { server = server; entry = Hop ran }) ran.message there refl
+
+-- an entry of the list is found by the begin of its chain
+found_by_begin : (set : Set) (servers : Servers) (order : List Added) (chain : ChainId) (hop server : ℕ) (entry : Entry) → AreServers set servers order →
+    IsIn (record { server = server; entry = entry }) (list_of servers order) → hop_in chain entry ≡ Some hop →
+    act_found set chain hop servers ≡ Some entry
+found_by_begin set servers order chain hop server entry are there is =
+    let list = list_of servers order in
+    let act = acts set list server entry chain hop are.is_legal there is in
+    let begins : hop_in chain (Begun act.begun) ≡ Some 0 =
+    ap (λ b. cond b (Some 0) None) (ap (λ c. same_chain c chain) act.chain_is ∙ same_chain-self chain) in
+    ap (option_and_then (act_of_begun set chain hop servers)) (there_at set servers order chain 0 chain.origin (Begun act.begun) are act.there begins)
+    ∙ elim (eqb_tells hop 0) [
+      | inl (e, same) ↦
+          let one = one_entry set chain 0 list (record { server = chain.origin; entry = Begun act.begun }) (record { server = server; entry = entry })
+          are.is_legal act.there there begins (is ∙ ap Some same) in
+          ap (λ b. cond b (Some (Begun act.begun)) (option_and_then (act_at chain hop servers) (home_of set hop (Begun act.begun)))) e
+          ∙ ap (λ (p : Placed). Some p.entry) one
+      | inr (e, later) ↦
+          ap (λ b. cond b (Some (Begun act.begun)) (option_and_then (act_at chain hop servers) (home_of set hop (Begun act.begun)))) e
+          ∙ ap (option_and_then (act_at chain hop servers)) (home_is set list server entry chain hop act.begun are.is_legal there is later act.program)
+          ∙ there_at set servers order chain hop server entry are there is
+    ]
+
+-- what is found is what some server has of the hop
+found_somewhere : (set : Set) (servers : Servers) (chain : ChainId) (hop : ℕ) (entry : Entry) → act_found set chain hop servers ≡ Some entry →
+    (server : ℕ) × (act_at chain hop servers server ≡ Some entry)
+found_somewhere set servers chain hop entry found = by (act_at chain 0 servers chain.origin) refl found
+  where
+    home : (begun : Entry) (o : Option ℕ) → option_and_then (act_at chain hop servers) o ≡ Some entry →
+        (server : ℕ) × (act_at chain hop servers server ≡ Some entry)
+    home begun None found = cc
+    home begun (Some server) found = (server, found)
+
+    by : (o : Option Entry) → act_at chain 0 servers chain.origin ≡ o → option_and_then (act_of_begun set chain hop servers) o ≡ Some entry →
+        (server : ℕ) × (act_at chain hop servers server ≡ Some entry)
+    by None none found = cc
+    by (Some begun) begins found = elim (eqb_tells hop 0) [
+      | inl (e, same) ↦
+          let is = ap (λ b. cond b (Some begun) (option_and_then (act_at chain hop servers) (home_of set hop begun))) e in
+          (chain.origin, ap (λ n. act_at chain n servers chain.origin) same ∙ begins ∙ sym is ∙ found)
+      | inr (e, later) ↦
+          let is = ap (λ b. cond b (Some begun) (option_and_then (act_at chain hop servers) (home_of set hop begun))) e in
+          home begun (home_of set hop begun) (sym is ∙ found)
+    ]
+
+-- The entry of a hop that is found at the servers of a world is the one of the list.
+pub act_is : (set : Set) (servers : Servers) (order : List Added) (chain : ChainId) (hop : ℕ) → AreServers set servers order →
+    act_found set chain hop servers ≡ act_in chain hop (list_of servers order)
+act_is set servers order chain hop are = by (act_in chain hop (list_of servers order)) refl
+  where
+    nothing : (o : Option Entry) → act_found set chain hop servers ≡ o → act_in chain hop (list_of servers order) ≡ None →
+        act_found set chain hop servers ≡ None
+    nothing None is none = is
+    nothing (Some entry) is none =
+        let there = found_somewhere set servers chain hop entry is in
+        let stood = given_at set servers order chain hop there.0 entry are there.1 in
+        absurd (not_found (is_act chain hop) _ entry none (in_entries (list_of servers order) (record { server = there.0; entry = entry }) stood.0)
+        (hop_act chain hop entry stood.1))
+
+    by : (o : Option Entry) → act_in chain hop (list_of servers order) ≡ o → act_found set chain hop servers ≡ act_in chain hop (list_of servers order)
+    by None none = nothing (act_found set chain hop servers) refl none ∙ sym none
+    by (Some entry) is =
         let list = list_of servers order in
-        let r = act_given chain hop servers entry given in
-        let stood = are.each r.0 r.1 r.2 in
-        let stands_there = found_in (is_act chain hop) r.1.history entry r.3 in
-        let there = in_list r.0 list entry (subst (IsIn entry) stood.history_is stands_there.0) in
-        given ∙ sym (act_found set chain hop list (record { server = r.0; entry = entry }) are.is_legal there (act_hop chain hop entry stands_there.1))
-    by None none = none ∙ sym (nothing (act_in chain hop (list_of servers order)) refl)
-      where
-        nothing : (o : Option Entry) → act_in chain hop (list_of servers order) ≡ o → act_in chain hop (list_of servers order) ≡ None
-        nothing None is = is
-        nothing (Some entry) is =
-            let list = list_of servers order in
-            let found = found_in (is_act chain hop) _ entry is in
-            let q = of_entries list entry found.0 in
-            let stood = stands set list q.0 are.is_legal q.1 in
-            let here = server_there set servers order q.0.server are stood.may_follow.at_server in
-            let away = act_nowhere chain hop servers q.0.server here.0 none here.1 in
-            let its = are.each q.0.server here.0 here.1 in
-            let kept : IsIn q.0.entry here.0.history = subst (IsIn q.0.entry) (sym its.history_is) (in_history q.0.server list q.0 q.1 refl) in
-            absurd (not_found (is_act chain hop) here.0.history q.0.entry away kept (ap (is_act chain hop) q.2 ∙ found.1))
+        let found = found_in (is_act chain hop) _ entry is in
+        let q = of_entries list entry found.0 in
+        found_by_begin set servers order chain hop q.0.server q.0.entry are q.1 (ap (hop_in chain) q.2 ∙ act_hop chain hop entry found.1)
+        ∙ ap Some q.2 ∙ sym is
 
 -- a message that was sent is one of the messages of the list
 in_messages : (set : Set) (list : List Placed) (message : Message) → IsSent set list message → IsIn message (messages_of set list)
@@ -221,7 +295,7 @@ sent_by_act set list chain hop legal = by (sent_message set chain (hop + 1) list
         let hop_is = for.1 in
         let same_hop : sends.0 ≡ hop = omega arith in
         let in_chain : hop_in chain q.0.entry ≡ Some hop = ap (λ c. hop_in c q.0.entry) (sym for.0) ∙ sends.1.in_chain ∙ ap Some same_hop in
-        ap (option_and_then (next_message set)) (act_found set chain hop list q.0 legal q.1 in_chain) ∙ q.2
+        ap (option_and_then (next_message set)) (act_listed set chain hop list q.0 legal q.1 in_chain) ∙ q.2
 
     -- an entry of the hop that sends a message
     sends_none : (o : Option Entry) → act_in chain hop list ≡ o → sent_message set chain (hop + 1) list ≡ None → option_and_then (next_message set) o ≡ None

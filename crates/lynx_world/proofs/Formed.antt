@@ -6,7 +6,7 @@ use Rattle.std.proofs.lemmas.Bool.{eqb-true, lt-ltb}
 use Rattle.lynx_set.specs.declared.program.Program.{Program}
 use Rattle.lynx_set.specs.Set.{Set}
 use Rattle.lynx_entry.specs.declared.answer.Answer.{Answer}
-use Rattle.lynx_entry.specs.declared.answer.Answer.TheVariants.{WrongOrigin, ArgCount, WrongShard}
+use Rattle.lynx_entry.specs.declared.answer.Answer.TheVariants.{WrongOrigin, ArgCount, OutsideRange, WrongShard}
 use Rattle.lynx_entry.specs.declared.entry.Entry.TheVariants.{Begun}
 use Rattle.lynx_entry.specs.declared.message.Message.{Message}
 use Rattle.lynx_names.specs.declared.numbers.NumberAt.{NumberAt}
@@ -24,12 +24,14 @@ use Rattle.lynx_world.proofs.Standing.{stands}
 use Rattle.lynx_world.proofs.Tests.{and-true}
 use Rattle.lynx_world.proofs.Alike.{pointwise-self, nat-self, numbers-self}
 use Rattle.lynx_world.proofs.Chains.{Descends, HasChain}
+use Rattle.lynx_set.specs.Intervals.{are_in_range}
 use Rattle.lynx_set.specs.Lookups.{program_at}
 
 -- what a request that is in order has
 record IsInOrder (set : Set) (server : ℕ) (request : Request) (program : Program) : Type 0 where
   origin : is_origin set request.program server ≡ true
   args : length request.args ≡ program.parameters
+  in_range : are_in_range program.ranges request.args ≡ true
   keys : are_keys_placed set request.args program.hops ≡ true
 
 -- a test of a request that found no fault
@@ -43,8 +45,9 @@ in_order : (set : Set) (server : ℕ) (request : Request) (program : Program) �
 in_order set server request program none =
     let origin = passed (is_origin set request.program server) WrongOrigin _ none in
     let args = passed (nat_eq (length request.args) program.parameters) ArgCount _ origin.1 in
-    let keys = passed (are_keys_placed set request.args program.hops) WrongShard _ args.1 in
-    record { origin = origin.0; args = eqb-true _ _ args.0; keys = keys.0 }
+    let ranges = passed (are_in_range program.ranges request.args) OutsideRange _ args.1 in
+    let keys = passed (are_keys_placed set request.args program.hops) WrongShard _ ranges.1 in
+    record { origin = origin.0; args = eqb-true _ _ args.0; in_range = ranges.0; keys = keys.0 }
 
 -- what the begin of the message's chain tells of it
 record IsAsBegun (set : Set) (message : Message) (program : Program) : Type 0 where
@@ -70,6 +73,7 @@ as_begun set list message from program legal is =
       order = record {
         origin = ap (λ p. is_origin set p message.chain.origin) (sym from.program) ∙ order.origin;
         args = ap length (sym from.args) ∙ order.args;
+        in_range = ap (are_in_range program.ranges) (sym from.args) ∙ order.in_range;
         keys = ap (λ args. are_keys_placed set args program.hops) (sym from.args) ∙ order.keys;
       };
       servers = ap (map (λ (n : NumberAt). n.server)) (sym from.numbers ∙ lawful.numbers)
@@ -87,7 +91,7 @@ sent_fits set list server message from has here legal =
     let hop = and-true _ _ (lt-ltb 0 message.hop from.for_hop.later) (eq-eqb has.hop.server server here) in
     let origin = and-true _ _ hop begins_so.order.origin in
     let args = and-true _ _ origin (eq-eqb has.found.parameters (length message.args) (sym begins_so.order.args)) in
-    let keys = and-true _ _ args begins_so.order.keys in
+    let keys = and-true _ _ args (and-true _ _ begins_so.order.in_range begins_so.order.keys) in
     let numbers = and-true _ _ keys
     (ap (λ servers. pointwise nat_eq servers (visited set message.program)) begins_so.servers ∙ pointwise-self nat_eq nat-self (visited set message.program)) in
     and-true _ _ numbers

@@ -6,13 +6,13 @@ use Rattle.std.proofs.lemmas.Option.{slice_get-map}
 use Rattle.std.specs.List.{flat_map}
 use Rattle.lynx_cells.specs.Database.{Database, value_at, with_value}
 use Rattle.lynx_set.specs.declared.action.Action.{Action}
-use Rattle.lynx_set.specs.declared.action.Action.TheVariants.{Get, Set as SetCell, Add, Sub, Let, Need}
+use Rattle.lynx_set.specs.declared.action.Action.TheVariants.{Get, Update, Let, Need}
 use Rattle.lynx_set.specs.declared.program.Program.{Program}
 use Rattle.lynx_set.specs.Scopes.{PlainScope, scope_in}
 use Rattle.lynx_set.specs.Plain.{PlainHop, PlainProgram, PlainSet, plain_hop, plain_program, plain_named, plain_set}
 use Rattle.lynx_set.specs.Rules.{FitActions, FitHops, FitsProgram, FitPrograms, next_scope, with_hop, with_program, no_programs, IsSet}
 use Rattle.lynx_set.specs.Set.{Set}
-use Rattle.lynx_hops.specs.Meaning.{HopOutcome, after_results, run, meaning, key_of, value_of, sum_of, difference_of, result_of}
+use Rattle.lynx_hops.specs.Meaning.{HopOutcome, after_results, run, meaning, key_of, value_of, updated, result_of}
 use Rattle.lynx_world.proofs.HopsOf.{HasHop, actions_are}
 
 -- actions that never refuse
@@ -30,14 +30,9 @@ never_refuse scope [] known later fit args needs names db need e = cc
 never_refuse scope (Get table key ∷ actions) known later fit args needs names db need e =
     let value = value_at db table (key_of args key) in
     never_refuse (next_scope scope fit.2) actions known later fit.4 args needs (names ++ value ∷ []) db need (refused_behind value _ need e)
-never_refuse scope (SetCell table key value ∷ actions) known later fit args needs names db need e =
-    never_refuse (next_scope scope fit.2) actions known later fit.4 args needs names (with_value db table (key_of args key) (value_of names value)) need e
-never_refuse scope (Add table key value ∷ actions) known later fit args needs names db need e =
+never_refuse scope (Update update table key value ∷ actions) known later fit args needs names db need e =
     never_refuse (next_scope scope fit.2) actions known later fit.4 args needs names
-    (with_value db table (key_of args key) (sum_of (value_at db table (key_of args key)) (value_of names value))) need e
-never_refuse scope (Sub table key value ∷ actions) known later fit args needs names db need e =
-    never_refuse (next_scope scope fit.2) actions known later fit.4 args needs names
-    (with_value db table (key_of args key) (difference_of (value_at db table (key_of args key)) (value_of names value))) need e
+    (with_value db table (key_of args key) (updated update (value_at db table (key_of args key)) (value_of names value))) need e
 never_refuse scope (Let left operator right ∷ actions) known later fit args needs names db need e =
     let value = result_of operator (value_of names left) (value_of names right) in
     never_refuse (next_scope scope fit.2) actions known later fit.4 args needs (names ++ value ∷ []) db need (refused_behind value _ need e)
@@ -91,7 +86,7 @@ set_fits set program number has is = by (slice_get set.programs program) refl ha
         let found : named.1 ≡ has.found = cc in
         let plain = slice_get-map plain_named set.programs program ∙ ap (option_map plain_named) at in
         let fits = program_fits (no_programs (plain_set set)) (map plain_named set.programs) program (plain_named named) is.0.3 plain in
-        let start : PlainProgram = record { parameters = length fits.2.parameters; names = fits.2.parameters; hops = [] } in
+        let start : PlainProgram = record { parameters = length fits.2.parameters; names = fits.2.parameters; ranges = named.1.ranges; hops = [] } in
         let hop_is : slice_get (map plain_hop named.1.hops) number ≡ Some (plain_hop has.hop) =
         slice_get-map plain_hop named.1.hops number
         ∙ ap (option_map plain_hop) (ap (λ (p : Program). slice_get p.hops number) found ∙ has.hop_is) in

@@ -27,7 +27,7 @@ use Rattle.lynx_world.specs.Worlds.{history_of}
 use Rattle.lynx_world.specs.Legal.{MayFollow, IsLegalAfter, IsLegal}
 use Rattle.lynx_world.specs.Order.{hop_in, done_hops, IsOnceAndInOrder}
 use Rattle.lynx_world.proofs.Histories.{history_of-push}
-use Rattle.lynx_rules.proofs.Ranges.{range_more}
+use Rattle.lynx_names.proofs.Ranges.{range_more}
 use Rattle.lynx_world.proofs.Members.{IsIn, in-push, in_range, below_range, entry_of_done, done_of_entry, sender_of, none_of}
 use Rattle.lynx_set.specs.Lookups.{hop_at, hops_of, program_at}
 

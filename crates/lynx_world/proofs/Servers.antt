@@ -2,19 +2,17 @@
 use Rattle.std.proofs.Common.{◌≡◌, ◌≢◌, ◌<◌, ℕ, zero, suc, false, cond, nat_eq, length, List, [], ◌∷◌, ◌++◌, slice_get, slice_set, Option, Some, None, IsSome, IfSome, All, refl, sym, ap, ◌∙◌, subst, inl, inr, eq-eqb, arith}
 use Rattle.std.specs.Prelude.{option_map}
 use Rattle.std.specs.List.{cons_option}
-use Rattle.std.specs.Option.{option_and_then, option_or}
+use Rattle.std.specs.Option.{option_and_then}
 use Rattle.std.proofs.lemmas.Bool.{lt-ltb, le-ltb}
 use Rattle.std.proofs.lemmas.Bool.Decides.{eqb_tells}
 use Rattle.std.proofs.lemmas.List.{append-nil, length-set, map-set}
 use Rattle.std.proofs.lemmas.List.Elements.{All-append, All-cons, All-head, All-nil, All-tail, filter_map-append}
 use Rattle.std.proofs.lemmas.Option.{slice_get_within}
-use Rattle.lynx_names.specs.declared.chain.ChainId.{ChainId}
 use Rattle.lynx_set.specs.Set.{Set}
 use Rattle.lynx_entry.specs.declared.entry.Entry.{Entry}
 use Rattle.lynx_entry.specs.declared.message.Message.{Message}
 use Rattle.lynx_entry.specs.Entry.{History}
 use Rattle.lynx_keep.specs.Kept.{KeptState}
-use Rattle.lynx_server.specs.Acts.{act_of}
 use Rattle.lynx_server.specs.History.{grown}
 use Rattle.lynx_server.specs.inner.Repeating.{HasAdded}
 use Rattle.lynx_server.specs.Serving.{Serving}
@@ -23,18 +21,12 @@ use Rattle.lynx_world.specs.declared.added.Added.{Added}
 use Rattle.lynx_world.specs.Placed.{Placed}
 use Rattle.lynx_world.specs.Legal.{IsLegal, IsSent, MayFollow}
 use Rattle.lynx_world.specs.Servers.{AreServers, IsServerOf, Servers, held_of, list_of, placed_of}
-use Rattle.lynx_world.specs.inner.Servers.{act_among}
 use Rattle.lynx_world.specs.inner.Calls.{noted}
 use Rattle.lynx_world.specs.Steps.{list_with}
 use Rattle.lynx_world.specs.Worlds.{history_of}
 use Rattle.lynx_world.proofs.Histories.{history_of-push}
 use Rattle.lynx_world.proofs.LegalSteps.{legal-push}
 use Rattle.lynx_world.proofs.Sent.{sent-append}
-
--- the first server has the entry, or those behind it
-pub act_first : (chain : ChainId) (hop : ℕ) (here : Serving KeptState) (servers : Servers) →
-    act_among chain hop (here ∷ servers) ≡ option_or (act_of chain hop here.history) (act_among chain hop servers)
-act_first chain hop here servers = refl
 
 -- what is put at a place is there
 get_set_same : {X : Type 0} (xs : List X) (i : ℕ) (x y : X) → slice_get xs i ≡ Some x → slice_get (slice_set xs i y) i ≡ Some y

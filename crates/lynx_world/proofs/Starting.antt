@@ -5,7 +5,7 @@ use Rattle.std.proofs.lemmas.List.{map-append}
 use Rattle.std.proofs.lemmas.List.Elements.{All-nil}
 use Rattle.lynx_set.specs.Set.{Set}
 use Rattle.lynx_keep.specs.Kept.{KeptState}
-use Rattle.lynx_rules.proofs.Ranges.{range_more}
+use Rattle.lynx_names.proofs.Ranges.{range_more}
 use Rattle.lynx_server.specs.Serving.{Serving}
 use Rattle.lynx_world.specs.declared.added.Added.{Added}
 use Rattle.lynx_world.specs.Legal.{IsSent}

@@ -1,3 +1,4 @@
 -- Definitions that no public clause cites: they serve the functions within.
 pub mod Calls
+pub mod Senders
 pub mod Servers

@@ -8,11 +8,11 @@ pub use opening::empty_keepers;
 pub use world::World;
 
 pub mod added;
-mod among;
 mod carrying;
 mod cells;
 pub mod laws;
 pub mod listed;
 pub mod opening;
+mod senders;
 mod serving;
 pub mod world;

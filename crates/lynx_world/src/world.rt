@@ -2,11 +2,11 @@ ghost use Rattle.std.specs.Prelude.{◌≡◌, ◌⊎◌, All, IfOk, IfSome, OnO
 ghost use Rattle.lynx_names.specs.declared.limits.TheConstants.{MAX_HELD};
 
 use crate::added::Added;
-use crate::among::act_among;
 use crate::carrying::carried;
 use crate::cells::all_cells;
 use crate::listed::{Listed, added_at, lend, server_at};
 use crate::opening::open_all;
+use crate::senders::find_act;
 use crate::serving::{begin_at, deliver_at, restart_at, wake_at, waking};
 use lynx_entry::{Entry, Event, Message, Outcome, Request};
 use lynx_keep::MemoryKeeper;
@@ -48,7 +48,7 @@ impl World {
     ghost use Rattle.lynx_world.specs.Worlds.{new_world};
     ghost use Rattle.lynx_world.specs.Legal.{IsLegal, IsSent};
     ghost use Rattle.lynx_world.specs.Servers.{AreServers, held_of, list_of, placed_as};
-    ghost use Rattle.lynx_world.specs.inner.Servers.{act_in};
+    ghost use Rattle.lynx_world.specs.inner.Senders.{act_in};
     ghost use Rattle.lynx_world.specs.Tables.{cells_of, triple_cmp};
     ghost use Rattle.lynx_world.specs.Steps.{HasGrown, step, is_server, sent_message, destination_of, held_at};
 
@@ -136,11 +136,11 @@ impl World {
         }
     }
 
-    /// The entry of that hop of the chain, at whichever server it ran.
+    /// The entry of that hop of the chain.
     fn act_of(&self, chain: &ChainId, hop: u8) -> Option<&Entry>
         ensures { option_copied result ≡ act_in chain.now hop self.now.list }
     {
-        act_among(self.servers.as_slice(), chain, hop)
+        find_act(&self.set, self.servers.as_slice(), chain, hop)
     }
 
     /// The message of that hop of the chain, if an entry of the list sends it.
@@ -291,7 +291,7 @@ impl World {
         }
     }
 
-    /// One event. A begin, a delivery and a waking take the work of their hop and a few look-ups at each server; a
+    /// One event. A begin, a delivery and a waking take the work of their hop and a few look-ups, whatever the number of servers; a
     /// restart goes over all that its server keeps. Want of memory is an outcome of its own, and changes nothing.
     pub fn apply(&mut self, alloc: Global, event: Event) -> Outcome
         ensures step { ((result ≡ Outcome.Memory) × (self.new ≡ self.old))

@@ -1,5 +1,5 @@
 -- What a call of one server of a world comes to.
-use Rattle.std.specs.Prelude.{◌≡◌, ℕ, not, if◌then◌else◌, nat_lt, filter, length, List, [], ◌∷◌, Option, Some, None}
+use Rattle.std.specs.Prelude.{◌≡◌, ℕ, not, if◌then◌else◌, nat_lt, filter, List, [], ◌∷◌, Option, Some, None}
 use Rattle.lynx_keep.specs.Kept.{KeptState}
 use Rattle.lynx_entry.specs.declared.answer.Answer.{Answer}
 use Rattle.lynx_entry.specs.declared.answer.Delivered.{Delivered}

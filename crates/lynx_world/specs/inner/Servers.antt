@@ -1,28 +1,14 @@
--- What is found at the servers of a world, and servers in which nothing happened yet.
-use Rattle.std.specs.Prelude.{ℕ, false, map, List, [], ◌∷◌, Option, Some, None, find}
+-- What the servers of a world come to, and servers in which nothing happened yet.
+use Rattle.std.specs.Prelude.{ℕ, false, map, List, [], Option, Some, None}
 use Rattle.std.specs.List.{range_with_len}
-use Rattle.std.specs.Option.{option_or}
 use Rattle.lynx_keep.specs.Kept.{KeptState, nothing_kept}
-use Rattle.lynx_names.specs.declared.chain.ChainId.{ChainId}
 use Rattle.lynx_set.specs.Set.{Set}
 use Rattle.lynx_entry.specs.declared.event.Outcome.{Outcome}
 use Rattle.lynx_entry.specs.declared.event.Outcome.TheVariants.{Idle, Woken as WokenNow}
-use Rattle.lynx_entry.specs.declared.entry.Entry.{Entry}
-use Rattle.lynx_server.specs.Acts.{act_of, is_act}
 use Rattle.lynx_server.specs.Serving.{Serving}
 use Rattle.lynx_server.specs.declared.server.Woken.{Woken}
-use Rattle.lynx_world.specs.Placed.{Placed}
 use Rattle.lynx_world.specs.Tables.{cells_after}
 use Rattle.lynx_world.specs.Servers.{Servers}
-
--- the entry of that hop of the chain at the first of these servers that has it
-abbrev pub act_among : ChainId → ℕ → Servers → Option Entry
-act_among chain hop [] = None
-act_among chain hop (here ∷ servers) = option_or (act_of chain hop here.history) (act_among chain hop servers)
-
--- the entry of that hop of the chain in a list
-abbrev pub act_in : ChainId → ℕ → List Placed → Option Entry
-act_in chain hop list = find (is_act chain hop) (map (λ (placed : Placed). placed.entry) list)
 
 -- the nonzero cells of a server, each a table, a key and a value
 abbrev pub cells_left : Serving KeptState → List (ℕ × ℕ × ℕ)

@@ -4,7 +4,7 @@ use Rattle.lynx_entry.specs.declared.entry.Entry.{Entry}
 use Rattle.lynx_entry.specs.declared.message.Message.{Message}
 use Rattle.lynx_rules.specs.Messages.{next_message}
 use Rattle.lynx_world.specs.Servers.{list_of}
-use Rattle.lynx_world.specs.inner.Servers.{act_in}
+use Rattle.lynx_world.specs.inner.Senders.{act_in}
 use Rattle.lynx_world.specs.Steps.{sent_message}
 use Rattle.lynx_world.specs.Worlds.{WorldState}
 use Rattle.lynx_world.proofs.Finding.{none_for_first, sent_by_act}

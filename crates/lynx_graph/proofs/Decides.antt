@@ -6,7 +6,7 @@ use Rattle.std.proofs.lemmas.Bool.{false≢true}
 use Rattle.std.proofs.lemmas.Bool.Decides.{Decides-eqb, Decides-and, Decides-not, Decides-like}
 use Rattle.std.proofs.lemmas.Option.{same_Some}
 use Rattle.lynx_set.specs.Set.{Set}
-use Rattle.lynx_foot.specs.Feet.{footprint_of}
+use Rattle.lynx_foot.specs.Reaches.{reaches_of}
 use Rattle.lynx_foot.specs.Conflicts.{MayCollide, MayConflict}
 use Rattle.lynx_foot.proofs.Decides.{Decides-some_may_collide}
 use Rattle.lynx_graph.specs.declared.meeting.Place.{Place}
@@ -26,11 +26,11 @@ Decides-same_server None None = (λ _. refl, λ _. refl)
 pub Decides-joins : (set : Set) (left right : Place) → Decides (joins set left right) (MayConflict set left.program left.hop right.program right.hop)
 Decides-joins set left right = Decides-like
     {P = (server_at set left.program left.hop ≡ server_at set right.program right.hop)
-    × Any (λ left. Any (λ right. MayCollide left right) (footprint_of set right.program right.hop)) (footprint_of set left.program left.hop)}
+    × Any (λ left. Any (λ right. MayCollide left right) (reaches_of set right.program right.hop)) (reaches_of set left.program left.hop)}
     (joins set left right)
-    (λ parts. record { same_server = parts.0; feet_may_collide = parts.1 })
-    (λ whole. (whole.same_server, whole.feet_may_collide))
-    (Decides-and _ _ (Decides-same_server _ _) (Decides-some_may_collide (footprint_of set left.program left.hop) (footprint_of set right.program right.hop)))
+    (λ parts. record { same_server = parts.0; reaches_may_collide = parts.1 })
+    (λ whole. (whole.same_server, whole.reaches_may_collide))
+    (Decides-and _ _ (Decides-same_server _ _) (Decides-some_may_collide (reaches_of set left.program left.hop) (reaches_of set right.program right.hop)))
 
 pub Decides-joins_next : (set : Set) (visit next : Visit) → Decides (joins_next set visit next) (Joins set visit next)
 Decides-joins_next set visit next = Decides-joins set (record { program = visit.program; hop = visit.left }) (record { program = next.program; hop = next.entered })

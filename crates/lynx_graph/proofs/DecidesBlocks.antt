@@ -1,8 +1,8 @@
 -- The tests of walks of blocks decide what they are named for.
-use Rattle.std.proofs.Common.{◌≡◌, ◌≢◌, ℕ, ◌<◌, ◌≤◌, inl, inr, ◌+◌, Bool, true, false, not, List, [], ◌∷◌, length, Option, Some, None, ap, sym, ◌∙◌, refl, arith, zero, suc}
+use Rattle.std.proofs.Common.{◌≡◌, ℕ, ◌<◌, ◌≤◌, inl, inr, ◌+◌, Bool, true, false, not, List, [], ◌∷◌, Option, Some, None, ap, sym, ◌∙◌, refl, arith}
 use Rattle.std.specs.Prelude.{◌==◌, ◌&&◌, ◌||◌, All, Any, nat_le, nat_lt, slice_get, option_and_then, option_map, unwrap_or}
 use Rattle.std.specs.Bool.{Decides}
-use Rattle.std.specs.List.{enumerate_from, list_any}
+use Rattle.std.specs.List.{list_any}
 use Rattle.std.specs.Option.{option_map_or}
 use Rattle.std.proofs.lemmas.Bool.{and_from, and_parts, cases_lt, eq-eqb, eqb-true, false≢true}
 use Rattle.std.proofs.lemmas.Option.{none-some, same_Some}
@@ -11,12 +11,13 @@ use Rattle.std.proofs.lemmas.Bool.Decides.{Decides-and, Decides-by_and, Decides-
 use Rattle.lynx_set.specs.Set.{Set}
 use Rattle.lynx_set.specs.declared.program.Hop.{Hop}
 use Rattle.lynx_set.specs.declared.program.Program.{Program}
-use Rattle.lynx_set.specs.Lookups.{hop_at, hops_of, origin_of, program_at, server_at}
+use Rattle.lynx_set.specs.Lookups.{hop_at, hops_of, origin_of, program_at}
 use Rattle.lynx_graph.specs.declared.block.Block.{Block}
 use Rattle.lynx_graph.specs.declared.block.Block.TheVariants.{One, Two}
 use Rattle.lynx_graph.specs.declared.meeting.Place.{Place}
-use Rattle.lynx_graph.specs.Blocks.{HasCome, IsBlock, IsBlockWalk, IsForward, IsOffendingBlockWalk, Meets, MeetsAround, entrance_of, exit_of}
-use Rattle.lynx_graph.specs.inner.BlockTests.{block_offends, has_come, is_backward, is_block, is_block_walk, meets, meets_around, serves_upto, server_of, some_is_no_block}
+use Rattle.lynx_graph.specs.Blocks.{HasCome, IsBlock, IsForward, IsOffendingBlockWalk, Meets, MeetsAround, entrance_of, exit_of}
+use Rattle.lynx_graph.specs.inner.BlockTests.{block_offends, is_backward, is_block, meets, meets_around, some_is_no_block}
+use Rattle.lynx_graph.specs.Tests.{has_come, serves_upto, server_of}
 use Rattle.lynx_graph.proofs.Decides.{Decides-joins, Decides-same_server}
 use Rattle.lynx_graph.proofs.Lists.{enumerated-any, enumerated-found}
 

@@ -1,14 +1,4 @@
 pub mod Decides
 pub mod DecidesBlocks
 pub mod Lists
-pub mod Divided
-pub mod Rounds
-pub mod Accepting
 pub mod Places
-pub mod Tables
-pub mod Trails
-pub mod Sound
-pub mod Complete
-pub mod Levels
-pub mod Deeper
-pub mod Bests

@@ -7,7 +7,7 @@ use Rattle.std.proofs.lemmas.Option.{none-some, same_Some, slice_get-get_or}
 use Rattle.std.proofs.lemmas.List.{append-nil}
 use Rattle.std.proofs.lemmas.List.FromFn.{get_or-range_with_len, length-range_with_len, map-range_with_len_more}
 use Rattle.lynx_graph.specs.declared.meeting.Place.{Place}
-use Rattle.lynx_graph.specs.inner.Nodes.{found}
+use Rattle.lynx_graph.specs.Nodes.{found}
 
 -- ---- the first that passes
 

@@ -3,31 +3,33 @@ use Rattle.std.proofs.Common.{◌≡◌, ℕ, ◌+◌, ◌<◌, Bool, true, fals
 use Rattle.std.specs.Prelude.{◌==◌, Any, filter, filter_map, option_map, option_and_then, slice_get, unwrap_or}
 use Rattle.std.specs.List.{enumerate_from, range_with_len}
 use Rattle.std.specs.Option.{option_map_or}
+use Rattle.std.proofs.lemmas.List.{length-map}
 use Rattle.std.proofs.lemmas.Option.{none-some, slice_get-map, slice_get_within}
 use Rattle.lynx_set.specs.declared.program.Hop.{Hop}
 use Rattle.lynx_set.specs.declared.program.Program.{Program}
 use Rattle.lynx_set.specs.Set.{Set}
-use Rattle.lynx_foot.specs.declared.foot.Foot.{Foot}
+use Rattle.lynx_foot.specs.declared.reach.Reach.{Reach}
 use Rattle.lynx_foot.specs.Feet.{foot_of, footprint_of}
+use Rattle.lynx_foot.specs.Reaches.{reach_of, reaches_of}
 use Rattle.lynx_foot.specs.Conflicts.{MayConflict}
 use Rattle.lynx_graph.specs.declared.meeting.Place.{Place}
 use Rattle.lynx_graph.specs.declared.nodes.Node.{Node}
-use Rattle.lynx_graph.specs.Nodes.{places_in, places_of}
+use Rattle.lynx_graph.specs.Nodes.{places_in, places_of, found, meet, node_among, node_of, nodes_of, site_of, sites_of}
 use Rattle.lynx_graph.specs.declared.nodes.Exit.{Exit}
 use Rattle.lynx_graph.specs.declared.site.Site.{Site}
 use Rattle.lynx_graph.specs.Tests.{joins}
-use Rattle.lynx_graph.specs.inner.Nodes.{found, meet, node_among, node_of, nodes_of, site_of, sites_of}
 use Rattle.lynx_graph.proofs.Lists.{slice_get-flat_map, slice_get-mapped, slice_get-range}
-use Rattle.lynx_set.specs.Lookups.{hop_at, program_at}
+use Rattle.lynx_set.specs.Lookups.{hop_at, program_at, ranges_of}
 
 -- the conflict of a place with another
 abbrev pub Conflict : Set → Place → Place → Type 0
 Conflict set left right = MayConflict set left.program left.hop right.program right.hop
 
--- ---- a hop with feet is a hop
+-- ---- a hop with reaches is a hop
 
-hop_from_foot : {P : Foot → Type 0} (set : Set) (program hop : ℕ) → Any P (footprint_of set program hop) → (found : Hop) × (hop_at set program hop ≡ Some found)
-hop_from_foot {P} set program hop foot = by_hop (hop_at set program hop) refl foot.0 foot.2
+hop_from_reach : {P : Reach → Type 0} (set : Set) (program hop : ℕ) → Any P (reaches_of set program hop) → (found : Hop) × (hop_at set program hop ≡ Some found)
+hop_from_reach {P} set program hop reach =
+    by_hop (hop_at set program hop) refl reach.0 (omega (arith, reach.2, length-map (footprint_of set program hop) (reach_of (ranges_of set program))))
   where
     by_hop : (known : Option Hop) → hop_at set program hop ≡ known → (k : ℕ) → k < length (filter_map foot_of (unwrap_or (option_map (λ found. found.actions) known) [])) →
         (found : Hop) × (hop_at set program hop ≡ Some found)
@@ -35,10 +37,10 @@ hop_from_foot {P} set program hop foot = by_hop (hop_at set program hop) refl fo
     by_hop (Some found) is k within = (found, is)
 
 pub hop_left : (set : Set) (left right : Place) → Conflict set left right → (found : Hop) × (hop_at set left.program left.hop ≡ Some found)
-hop_left set left right conflict = hop_from_foot set left.program left.hop conflict.feet_may_collide
+hop_left set left right conflict = hop_from_reach set left.program left.hop conflict.reaches_may_collide
 
 pub hop_right : (set : Set) (left right : Place) → Conflict set left right → (found : Hop) × (hop_at set right.program right.hop ≡ Some found)
-hop_right set left right conflict = hop_from_foot set right.program right.hop conflict.feet_may_collide.4
+hop_right set left right conflict = hop_from_reach set right.program right.hop conflict.reaches_may_collide.4
 
 -- ---- each hop has a place
 

@@ -1,5 +1,5 @@
 -- Blocks of a set's chains, walks of blocks, and which of them offend.
-use Rattle.std.specs.Prelude.{◌≡◌, ◌≢◌, ◌≤◌, ℕ, List, [], ◌∷◌, All, Any, Option, Some}
+use Rattle.std.specs.Prelude.{◌≡◌, ◌≢◌, ◌≤◌, ℕ, List, [], ◌∷◌, All, Any, Some}
 use Rattle.lynx_set.specs.Set.{Set}
 use Rattle.lynx_set.specs.Lookups.{origin_of, server_at}
 use Rattle.lynx_foot.specs.Conflicts.{MayConflict}

@@ -3,5 +3,4 @@ pub mod Tests
 pub mod Nodes
 pub mod Blocks
 pub mod Acceptance
-pub mod Verdicts
 pub mod inner

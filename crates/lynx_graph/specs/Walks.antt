@@ -1,5 +1,5 @@
 -- Closed walks of a set, and which of them offend.
-use Rattle.std.specs.Prelude.{◌≢◌, ℕ, List, [], ◌∷◌, Any, Option}
+use Rattle.std.specs.Prelude.{◌≢◌, List, [], ◌∷◌, Any}
 use Rattle.lynx_set.specs.Set.{Set}
 use Rattle.lynx_foot.specs.Conflicts.{MayConflict}
 use Rattle.lynx_graph.specs.declared.visit.Visit.{Visit}

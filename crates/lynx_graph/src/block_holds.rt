@@ -1,7 +1,8 @@
 ghost use Rattle.std.specs.Prelude.{◌≡◌, ◌↔◌, IsTrue};
 ghost use Rattle.std.specs.List.{list_any};
 ghost use Rattle.lynx_graph.specs.Blocks.{IsOffendingBlockWalk, entrance_of, exit_of};
-ghost use Rattle.lynx_graph.specs.inner.BlockTests.{block_offends, has_come, is_backward, is_block, is_block_walk, meets, meets_around, server_of, serves_upto, some_is_no_block};
+ghost use Rattle.lynx_graph.specs.inner.BlockTests.{block_offends, is_backward, is_block, is_block_walk, meets, meets_around, some_is_no_block};
+ghost use Rattle.lynx_graph.specs.Tests.{has_come, server_of, serves_upto};
 
 use crate::block::{Block, BlockWalk};
 use crate::meeting::{Place, joins, same_server};
@@ -67,7 +68,7 @@ fn serves_upto(hops: &[Hop], server: ServerId, last: usize) -> bool
 }
 
 /// Whether a hop of the program, of that number or a lower one, is at the server of the place.
-pub(crate) fn has_come(set: &ChainSet, place: &Place, program: ProgramId, last: usize) -> bool
+pub fn has_come(set: &ChainSet, place: &Place, program: ProgramId, last: usize) -> bool
     ensures { result ≡ has_come set.now place.now program last }
 {
     match server_of(set, place) {

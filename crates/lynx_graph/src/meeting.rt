@@ -20,7 +20,8 @@ pub fn joins(set: &ChainSet, left: &Place, right: &Place) -> bool
     may_conflict(set, left.program, left.hop, right.program, right.hop)
 }
 
-pub(crate) fn same_server(left: Option<ServerId>, right: Option<ServerId>) -> bool
+/// Whether the servers are one, or both are wanting.
+pub fn same_server(left: Option<ServerId>, right: Option<ServerId>) -> bool
     ensures { result ≡ same_server left right }
 {
     match (left, right) {

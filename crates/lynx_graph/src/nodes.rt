@@ -2,8 +2,7 @@
 //! may conflict.
 ghost use Rattle.std.specs.Prelude.{◌≡◌, ◌<◌, ◌++◌, IfOk, OnOk, map};
 ghost use Rattle.lynx_names.specs.declared.limits.TheConstants.{MAX_PROGRAMS};
-ghost use Rattle.lynx_graph.specs.Nodes.{places_in, places_of};
-ghost use Rattle.lynx_graph.specs.inner.Nodes.{exits_among, neighbours_among, node_among, nodes_of};
+ghost use Rattle.lynx_graph.specs.Nodes.{places_in, places_of, exits_among, neighbours_among, node_among, nodes_of};
 
 use crate::meeting::Place;
 use crate::site::{Site, meet, sites_of};
@@ -13,14 +12,14 @@ use std::alloc::Global;
 
 /// A hop by which a program may be left, and its place in the list of nodes.
 #[derive(Clone, Copy, Debug, PartialEq, Eq)]
-pub(crate) struct Exit {
+pub struct Exit {
     pub hop: usize,
     pub node: usize,
 }
 
 /// A hop with its surroundings. Nodes are named by their places in the list of nodes, in rising order.
 #[derive(Debug, Drop)]
-pub(crate) struct Node {
+pub struct Node {
     pub place: Place,
     pub origin: Option<ServerId>,
     pub exits: Items<Exit>,
@@ -98,7 +97,7 @@ pub fn places_of(alloc: Global, set: &ChainSet) -> Result<Items<Place>, Memory>
 }
 
 /// All hops of the set with their surroundings, by program and then by number.
-pub(crate) fn nodes_of(alloc: Global, set: &ChainSet) -> Result<Items<Node>, Memory>
+pub fn nodes_of(alloc: Global, set: &ChainSet) -> Result<Items<Node>, Memory>
     ensures { IfOk result (λ nodes. nodes ≡ nodes_of set.now) }
 {
     let all = sites_of(alloc, set)?;

@@ -1,33 +1,35 @@
-//! The hops of a set with their footprints, each made once, so that each two can be asked whether they may conflict.
+//! The hops of a set with their reaches, each made once, so that each two can be asked whether they may conflict.
 ghost use Rattle.std.specs.Prelude.{◌≡◌, IfOk};
 ghost use Rattle.std.specs.List.{list_any};
 ghost use Rattle.lynx_foot.specs.Tests.{may_collide, some_may_collide};
 ghost use Rattle.lynx_set.specs.Lookups.{server_at};
-ghost use Rattle.lynx_graph.specs.inner.Nodes.{meet, site_of, sites_of};
+ghost use Rattle.lynx_graph.specs.Nodes.{meet, site_of, sites_of};
 
 use crate::meeting::{Place, same_server};
 use crate::nodes::places_of;
-use lynx_foot::{Foot, feet_may_collide, footprint};
+use lynx_foot::{Reach, reaches, reaches_may_collide};
 use lynx_names::{Items, Memory, ServerId};
 use lynx_set::ChainSet;
 use std::alloc::Global;
 
-/// A hop, its server and its feet.
+/// A hop, its server and its reaches.
 #[derive(Debug, Drop)]
 pub(crate) struct Site {
     pub place: Place,
     pub server: Option<ServerId>,
-    pub feet: Items<Foot>,
+    pub reaches: Items<Reach>,
 }
 
-/// Whether the foot may collide with one of these.
-fn may_collide_with_any(left: &Foot, rights: &[Foot]) -> bool
+/// Whether the reach may collide with one of these.
+fn may_collide_with_any(left: &Reach, rights: &[Reach]) -> bool
     ensures { result ≡ list_any (λ right. may_collide left.now right) rights.now }
 {
-    rights.iter().any(|right| feet_may_collide(*left, *right))
+    rights
+        .iter()
+        .any(|right| reaches_may_collide(*left, *right))
 }
 
-fn some_may_collide(lefts: &[Foot], rights: &[Foot]) -> bool
+fn some_may_collide(lefts: &[Reach], rights: &[Reach]) -> bool
     ensures { result ≡ some_may_collide lefts.now rights.now }
 {
     lefts.iter().any(|left| may_collide_with_any(left, rights))
@@ -38,7 +40,7 @@ pub(crate) fn meet(left: &Site, right: &Site) -> bool
     ensures { result ≡ meet left.now right.now }
 {
     same_server(left.server, right.server)
-        && some_may_collide(left.feet.as_slice(), right.feet.as_slice())
+        && some_may_collide(left.reaches.as_slice(), right.reaches.as_slice())
 }
 
 fn server_at(set: &ChainSet, place: &Place) -> Option<ServerId>
@@ -54,7 +56,7 @@ fn site_of(alloc: Global, set: &ChainSet, place: &Place) -> Result<Site, Memory>
     Ok(Site {
         place: *place,
         server: server_at(set, place),
-        feet: Items::from_vec(footprint(alloc, set, place.program, place.hop)?),
+        reaches: Items::from_vec(reaches(alloc, set, place.program, place.hop)?),
     })
 }
 

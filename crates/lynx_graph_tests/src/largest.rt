@@ -1,9 +1,10 @@
 //! Sets of as many programs and hops as there may be.
 use crate::verdicts::gives;
 use lynx_draw::{conflict_edges, draw};
-use lynx_graph::{BlockWalk, Verdict, Walk};
+use lynx_graph::{BlockWalk, Walk};
 use lynx_names::Memory;
 use lynx_samples::texts::set_of;
+use lynx_verdict::Verdict;
 use std::alloc::Global;
 use std::fmt::Write;
 

@@ -2,9 +2,10 @@
 use crate::expected::PAY_AND_NOTE_LINES;
 use crate::walks::judged;
 use lynx_draw::draw;
-use lynx_graph::{BlockWalk, Verdict, Visit, Walk};
+use lynx_graph::{BlockWalk, Visit, Walk};
 use lynx_names::{Memory, ProgramId};
 use lynx_samples::texts::{PAY_AND_NOTE, TRIP, set_of};
+use lynx_verdict::Verdict;
 use std::alloc::Global;
 use std::fmt::Write;
 

@@ -1,7 +1,7 @@
 use Rattle.std.proofs.Common.{List, map, ap, ◌∙◌}
 use Rattle.std.proofs.lemmas.List.{take_all}
 use Rattle.lynx_graph.specs.declared.site.Site.{Site}
-use Rattle.lynx_graph.specs.inner.Nodes.{node_among}
+use Rattle.lynx_graph.specs.Nodes.{node_among}
 use Rattle.lynx_graph.proofs.Places.{nodes_of-sites}
 use Rattle.lynx_graph.proofs.nodes.nodes_of.Goals as goal
 

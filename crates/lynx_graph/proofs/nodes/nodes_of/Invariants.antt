@@ -1,5 +1,5 @@
 use Rattle.std.proofs.Common.{◌≡◌, map, take}
-use Rattle.lynx_graph.specs.inner.Nodes.{node_among}
+use Rattle.lynx_graph.specs.Nodes.{node_among}
 use Rattle.lynx_graph.proofs.nodes.nodes_of.Given as goal
 
 abbrev pub invariant-loop-site : goal.invariant-loop-site

@@ -1,5 +1,5 @@
 use Rattle.std.proofs.Common.{◌≡◌, map, take}
-use Rattle.lynx_graph.specs.inner.Nodes.{site_of}
+use Rattle.lynx_graph.specs.Nodes.{site_of}
 use Rattle.lynx_graph.proofs.site.sites_of.Given as goal
 
 abbrev pub invariant-loop-place : goal.invariant-loop-place

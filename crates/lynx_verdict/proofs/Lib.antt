@@ -1,0 +1,10 @@
+pub mod Divided
+pub mod Rounds
+pub mod Accepting
+pub mod Tables
+pub mod Trails
+pub mod Sound
+pub mod Complete
+pub mod Levels
+pub mod Deeper
+pub mod Bests

@@ -15,7 +15,7 @@ use Rattle.lynx_entry.specs.declared.message.Message.{Message}
 use Rattle.lynx_entry.specs.declared.request.Request.{Request}
 use Rattle.lynx_rules.specs.Deliveries.{same_chain}
 use Rattle.lynx_rules.specs.Messages.{next_message}
-use Rattle.lynx_rules.proofs.Ranges.{range_more}
+use Rattle.lynx_names.proofs.Ranges.{range_more}
 use Rattle.lynx_world.specs.Placed.{Placed}
 use Rattle.lynx_world.specs.Legal.{IsSent, MayFollow, IsLegal}
 use Rattle.lynx_world.proofs.LegalSteps.{legal-push}

@@ -32,7 +32,8 @@ use Rattle.lynx_order.proofs.Dones.{Done, begun_as, ran_as, done_in, is_done}
 use Rattle.lynx_order.proofs.Explains.{touches_are}
 use Rattle.lynx_order.proofs.Keys.{LiesAt}
 use Rattle.lynx_order.proofs.Places.{before_of_places, in_at}
-use Rattle.lynx_set.specs.Lookups.{origin_of, server_at}
+use Rattle.lynx_set.specs.Intervals.{are_in_range}
+use Rattle.lynx_set.specs.Lookups.{origin_of, ranges_of, server_at}
 
 -- ---- a hop at a place
 
@@ -44,6 +45,7 @@ pub record HopAt (set : Set) (list : List Placed) (chain : ChainId) : Type 0 whe
   pub placed : Placed
   pub there : slice_get list place ≡ Some placed
   pub is : done_in placed.entry ≡ Some done
+  pub in_range : are_in_range (ranges_of set done.act.program) done.act.args ≡ true
   pub lies : All (LiesAt set placed.server) (touched set done.act)
   pub at : server_at set done.act.program done.act.hop ≡ Some placed.server
   pub origin : origin_of set done.act.program ≡ Some chain.origin
@@ -83,6 +85,7 @@ hop_stands set list chain place placed is legal there own =
       placed = placed;
       there = there;
       is = own.1;
+      in_range = told.in_range;
       lies = told.lies;
       at = told.at;
       origin = told.origin ∙ ap (λ (c : ChainId). Some c.origin) own.2;
@@ -129,7 +132,7 @@ link set list one other is legal precedes =
     subst (λ t. Conflicts t (touched set entered.done.act)) (touches_at set list one left)
     (subst (Conflicts (touches_in set one precedes.first.entry)) (touches_at set list other entered) precedes.conflict) in
     let may = MayConflict-from_Conflicts set left.done.act.program left.done.act.hop entered.done.act.program entered.done.act.hop
-    left.done.act.args entered.done.act.args (keys_lie set list one left) (keys_lie set list other entered) conflict in
+    left.done.act.args entered.done.act.args left.in_range entered.in_range (keys_lie set list one left) (keys_lie set list other entered) conflict in
     record {
       different = precedes.different;
       left = left;

@@ -1,6 +1,6 @@
 -- The hops that a list has done, each with its chain, and what is known of them.
 use Rattle.std.proofs.Common.{◌≡◌, ℕ, Bool, true, false, cond, not, List, [], ◌∷◌, length, Option, Some, None, IsNone, Ok, nat_eq, nat_lt, option_map, slice_get, refl, sym, ap, ◌∙◌, subst}
-use Rattle.std.specs.Prelude.{All}
+use Rattle.std.specs.Prelude.{All, unwrap_or}
 use Rattle.std.specs.List.{filter_map}
 use Rattle.std.proofs.lemmas.Bool.{eqb-true}
 use Rattle.lynx_names.specs.declared.chain.ChainId.{ChainId}
@@ -10,7 +10,7 @@ use Rattle.lynx_set.specs.Home.{AreLiteralsHome}
 use Rattle.lynx_set.specs.Set.{Set}
 use Rattle.lynx_commute.specs.Acts.{Act, answer, answer_in, touched}
 use Rattle.lynx_entry.specs.declared.answer.Answer.{Answer}
-use Rattle.lynx_entry.specs.declared.answer.Answer.TheVariants.{WrongOrigin, ArgCount, WrongShard}
+use Rattle.lynx_entry.specs.declared.answer.Answer.TheVariants.{WrongOrigin, ArgCount, OutsideRange, WrongShard}
 use Rattle.lynx_entry.specs.declared.entry.BegunEntry.{BegunEntry}
 use Rattle.lynx_entry.specs.declared.entry.HopEntry.{HopEntry}
 use Rattle.lynx_entry.specs.declared.entry.Entry.{Entry}
@@ -29,7 +29,8 @@ use Rattle.lynx_world.specs.Order.{hop_in}
 use Rattle.lynx_world.proofs.HopsOf.{HasHop, hop_at-is, hops_are}
 use Rattle.lynx_world.proofs.Once.{both, program_of, same_chain-self}
 use Rattle.lynx_order.proofs.Keys.{LiesAt, touches_lie}
-use Rattle.lynx_set.specs.Lookups.{origin_of, program_at, server_at}
+use Rattle.lynx_set.specs.Intervals.{are_in_range}
+use Rattle.lynx_set.specs.Lookups.{origin_of, program_at, ranges_of, server_at}
 
 -- a hop that a chain has done, and the results that are kept of it
 pub record Done : Type 0 where
@@ -65,6 +66,7 @@ dones list = filter_map (λ placed. done_in placed.entry) list
 
 -- what is known of a hop that was done, where its entry may follow
 pub record IsDone (set : Set) (history : History) (server : ℕ) (entry : Entry) (done : Done) : Type 0 where
+  pub in_range : are_in_range (ranges_of set done.act.program) done.act.args ≡ true
   pub lies : All (LiesAt set server) (touched set done.act)
   pub at : server_at set done.act.program done.act.hop ≡ Some server
   pub origin : origin_of set done.act.program ≡ Some done.chain.origin
@@ -89,12 +91,17 @@ first_hop set program server found is starts =
 pub server_at-is : (set : Set) (program number : ℕ) (has : HasHop set program number) → server_at set program number ≡ Some has.hop.server
 server_at-is set program number has = ap (option_map (λ (h : Hop). h.server)) (hop_at-is set program number has)
 
+-- the ranges of a program that the set has
+ranges_are : (set : Set) (program : ℕ) (found : Program) → program_at set program ≡ Some found → ranges_of set program ≡ found.ranges
+ranges_are set program found is = ap (λ (o : Option Program). unwrap_or (option_map (λ (p : Program). p.ranges) o) []) is
+
 -- ---- a chain that begins
 
 -- what a request that is in order has
 record Begins (set : Set) (server : ℕ) (request : Request) : Type 0 where
   has : HasHop set request.program 0
   here : has.hop.server ≡ server
+  in_range : are_in_range (ranges_of set request.program) request.args ≡ true
   keys : are_keys_placed set request.args has.found.hops ≡ true
 
 passed : (b : Bool) (fault : Answer) (rest : Option Answer) → IsNone (cond (not b) (Some fault) rest) → (b ≡ true) × IsNone rest
@@ -106,9 +113,10 @@ begins_so set server request None is none = cc
 begins_so set server request (Some program) is none =
     let origin = passed (is_origin set request.program server) WrongOrigin _ none in
     let args = passed (nat_eq (length request.args) program.parameters) ArgCount _ origin.1 in
-    let keys = passed (are_keys_placed set request.args program.hops) WrongShard _ args.1 in
+    let ranges = passed (are_in_range program.ranges request.args) OutsideRange _ args.1 in
+    let keys = passed (are_keys_placed set request.args program.hops) WrongShard _ ranges.1 in
     let first = first_hop set request.program server program is origin.0 in
-    record { has = first.0; here = first.1; keys = ap (λ (p : Program). are_keys_placed set request.args p.hops) first.2 ∙ keys.0 }
+    record { has = first.0; here = first.1; in_range = ap (λ rows. are_in_range rows request.args) (ranges_are set request.program program is) ∙ ranges.0; keys = ap (λ (p : Program). are_keys_placed set request.args p.hops) first.2 ∙ keys.0 }
 
 -- the origin of a program that starts at a server
 origin-is : (set : Set) (program server : ℕ) (found : Program) → program_at set program ≡ Some found → is_origin set program server ≡ true →
@@ -125,6 +133,7 @@ begun_done set history server begun done is lawful same =
     let made = begun_as begun in
     let here : made ≡ done = cc in
     subst (IsDone set history server (Begun begun)) here (record {
+      in_range = begins.in_range;
       lies = subst (λ s. All (LiesAt set s) (touched set made.act)) begins.here
           (touches_lie set begun.request.program 0 begun.request.args begins.has is begins.keys);
       at = server_at-is set begun.request.program 0 begins.has ∙ ap Some begins.here;
@@ -140,6 +149,7 @@ begun_done set history server begun done is lawful same =
 record Fits (set : Set) (server : ℕ) (message : Message) : Type 0 where
   has : HasHop set message.program message.hop
   here : has.hop.server ≡ server
+  in_range : are_in_range (ranges_of set message.program) message.args ≡ true
   keys : are_keys_placed set message.args has.found.hops ≡ true
   origin : origin_of set message.program ≡ Some message.chain.origin
 
@@ -149,10 +159,12 @@ fits_so set server message program None found is e = cc
 fits_so set server message program (Some hop) found is e =
     let p6 = both _ _ e in let p5 = both _ _ p6.0 in let p4 = both _ _ p5.0 in let p3 = both _ _ p4.0 in
     let p2 = both _ _ p3.0 in let p1 = both (nat_lt 0 message.hop) (nat_eq hop.server server) p2.0 in
+    let args = both (are_in_range program.ranges message.args) (are_keys_placed set message.args program.hops) p4.1 in
     record {
       has = record { found = program; hop = hop; program_is = found; hop_is = is };
       here = eqb-true _ _ p1.1;
-      keys = p4.1;
+      in_range = ap (λ rows. are_in_range rows message.args) (ranges_are set message.program program found) ∙ args.0;
+      keys = args.1;
       origin = origin-is set message.program message.chain.origin program found p2.1;
     }
 
@@ -170,6 +182,7 @@ hop_done set history server ran done is lawful same =
     let made = ran_as ran in
     let here : made ≡ done = cc in
     subst (IsDone set history server (HopRan ran)) here (record {
+      in_range = fit.in_range;
       lies = subst (λ s. All (LiesAt set s) (touched set made.act)) fit.here
           (touches_lie set ran.message.program ran.message.hop ran.message.args fit.has is fit.keys);
       at = server_at-is set ran.message.program ran.message.hop fit.has ∙ ap Some fit.here;

@@ -19,7 +19,7 @@ use Rattle.lynx_order.specs.inner.ChainsAt.{chain_at}
 use Rattle.lynx_order.specs.Explained.{CycleIsRight, GivesOrder, IsOrder}
 use Rattle.lynx_order.specs.Explanations.{AreTheBegun, request_of}
 use Rattle.lynx_order.specs.Lists.{IsIn, AreDifferent, StandsBefore}
-use Rattle.lynx_order.specs.inner.Picks.{AreLinked, AreTaken, ComesBefore, IsMarked, IsRound, IsSquare}
+use Rattle.lynx_order.specs.inner.Picks.{AreLinked, ArePicked, ComesBefore, IsMarked, IsRound, IsSquare}
 use Rattle.lynx_order.specs.Precedence.{IsCycle, KeepsPrecedence, Precedes, PrecedesAround, touches_in}
 use Rattle.lynx_order.proofs.ChainForm.{dones_of, told}
 use Rattle.lynx_order.proofs.BlockCircle.{no_cycle_by_blocks}
@@ -111,11 +111,11 @@ order_right set list order legal once within all keeps_places =
       explains = λ is. order_explains set list (map (chain_at (begun_chains list)) order) is legal begun keeps;
     }
 
-pub order_found : (set : Set) (list : List Placed) (taken : List ℕ) (left : List Bool) → IsLegal set list →
-    AreTaken (table_for set list (begun_chains list)) taken left → ((place : ℕ) → IsMarked left place → ⊥) →
-    IsOrder set list (map (chain_at (begun_chains list)) taken)
-order_found set list taken left legal are none =
-    order_right set list taken legal are.once within all (λ one other precedes.
+pub order_found : (set : Set) (list : List Placed) (picked : List ℕ) (left : List Bool) → IsLegal set list →
+    ArePicked (table_for set list (begun_chains list)) picked left → ((place : ℕ) → IsMarked left place → ⊥) →
+    IsOrder set list (map (chain_at (begun_chains list)) picked)
+order_found set list picked left legal are none =
+    order_right set list picked legal are.once within all (λ one other precedes.
     let back = Conflicts-swapped (touches_in set one precedes.first.entry) (touches_in set other precedes.second.entry) precedes.conflict in
     let first = place_of (begun_chains list) one (record { origin = 0; index = 0 })
     (acts_begun set list one precedes.place precedes.first (touches_in set other precedes.second.entry) legal precedes.first_there precedes.conflict) in
@@ -128,10 +128,10 @@ order_found set list taken left legal are none =
     whole : length (table_for set list (begun_chains list)) ≡ length (begun_chains list)
     whole = table_length set list (begun_chains list)
 
-    within : (place : ℕ) → IsIn place taken → place < length (begun_chains list)
+    within : (place : ℕ) → IsIn place picked → place < length (begun_chains list)
     within place there = subst (λ n. place < n) whole (are.within place there)
 
-    all : (place : ℕ) → place < length (begun_chains list) → IsIn place taken
+    all : (place : ℕ) → place < length (begun_chains list) → IsIn place picked
     all place below = elim (are.either place (subst (λ n. place < n) (sym whole) below)) [
       | inl there ↦ there
       | inr marked ↦ absurd (none place marked)
@@ -199,20 +199,20 @@ places_within set list chains table places are within =
     let whole : length table ≡ length chains = ap length are.table_is ∙ table_length set list (begun_chains list) ∙ ap length (sym are.chains_are) in
     all_of_in (λ place. place < length chains) places (λ place there. subst (λ n. place < n) whole (within place there))
 
-pub taken_within : (set : Set) (list : List Placed) (chains : List ChainId) (table : List (List Bool)) (order places : List ℕ) (left : List Bool) → IsSearched set list chains table →
-    AreTaken table order left → places ≡ order → All (λ place. place < length chains) places
-taken_within set list chains table order places left are taken same = places_within set list chains table places are (λ place there. taken.within place (subst (IsIn place) same there))
+pub picked_within : (set : Set) (list : List Placed) (chains : List ChainId) (table : List (List Bool)) (order places : List ℕ) (left : List Bool) → IsSearched set list chains table →
+    ArePicked table order left → places ≡ order → All (λ place. place < length chains) places
+picked_within set list chains table order places left are picked same = places_within set list chains table places are (λ place there. picked.within place (subst (IsIn place) same there))
 
 pub round_within : (set : Set) (list : List Placed) (chains : List ChainId) (table : List (List Bool)) (round places : List ℕ) → IsSearched set list chains table →
     IsRound table round → places ≡ round → All (λ place. place < length chains) places
 round_within set list chains table round places are is same = places_within set list chains table places are (λ place there. is.within place (subst (IsIn place) same there))
 
 pub order_given : (set : Set) (list : List Placed) (chains found : List ChainId) (table : List (List Bool)) (order places : List ℕ) (left marks : List Bool) → IsLegal set list →
-    IsSearched set list chains table → AreTaken table order left → places ≡ order → marks ≡ left → ((place : ℕ) → IsMarked marks place → ⊥) →
+    IsSearched set list chains table → ArePicked table order left → places ≡ order → marks ≡ left → ((place : ℕ) → IsMarked marks place → ⊥) →
     found ≡ map (chain_at chains) places → IsOrder set list found
-order_given set list chains found table order places left marks legal are taken same unmarked none is =
+order_given set list chains found table order places left marks legal are picked same unmarked none is =
     subst (IsOrder set list) (sym (is ∙ ap (λ cs. map (chain_at cs) places) are.chains_are ∙ ap (map (chain_at (begun_chains list))) same))
-    (order_found set list order left legal (subst (λ t. AreTaken t order left) are.table_is taken) (λ place marked. none place (subst (λ m. IsMarked m place) (sym unmarked) marked)))
+    (order_found set list order left legal (subst (λ t. ArePicked t order left) are.table_is picked) (λ place marked. none place (subst (λ m. IsMarked m place) (sym unmarked) marked)))
 
 pub cycle_given : (set : Set) (list : List Placed) (chains found : List ChainId) (table : List (List Bool)) (round places : List ℕ) → IsLegal set list →
     IsSearched set list chains table → IsRound table round → places ≡ round → found ≡ map (chain_at chains) places → IsCycle set list found

@@ -7,7 +7,7 @@ use Rattle.std.proofs.lemmas.Bool.{eqb-true}
 use Rattle.std.proofs.lemmas.List.Elements.{All-nil, All-cons}
 use Rattle.lynx_shards.specs.Shards.{server_of}
 use Rattle.lynx_set.specs.declared.action.Action.{Action}
-use Rattle.lynx_set.specs.declared.action.Action.TheVariants.{Get, Set as SetCell, Add, Sub, Let, Need}
+use Rattle.lynx_set.specs.declared.action.Action.TheVariants.{Get, Update, Let, Need}
 use Rattle.lynx_set.specs.declared.action.Key.{Key}
 use Rattle.lynx_set.specs.declared.action.Key.TheVariants.{Literal, Param}
 use Rattle.lynx_set.specs.declared.program.Hop.{Hop}
@@ -44,15 +44,7 @@ actions_lie set server args (Get table key ∷ actions) home there =
     let parts = both (is_key_at set server args table key) _ there in
     let homes = both (is_home set.shards server table key) _ home in
     All-cons (LiesAt set server) _ _ (key_lies set server args table key homes.0 parts.0) (actions_lie set server args actions homes.1 parts.1)
-actions_lie set server args (SetCell table key value ∷ actions) home there =
-    let parts = both (is_key_at set server args table key) _ there in
-    let homes = both (is_home set.shards server table key) _ home in
-    All-cons (LiesAt set server) _ _ (key_lies set server args table key homes.0 parts.0) (actions_lie set server args actions homes.1 parts.1)
-actions_lie set server args (Add table key value ∷ actions) home there =
-    let parts = both (is_key_at set server args table key) _ there in
-    let homes = both (is_home set.shards server table key) _ home in
-    All-cons (LiesAt set server) _ _ (key_lies set server args table key homes.0 parts.0) (actions_lie set server args actions homes.1 parts.1)
-actions_lie set server args (Sub table key value ∷ actions) home there =
+actions_lie set server args (Update update table key value ∷ actions) home there =
     let parts = both (is_key_at set server args table key) _ there in
     let homes = both (is_home set.shards server table key) _ home in
     All-cons (LiesAt set server) _ _ (key_lies set server args table key homes.0 parts.0) (actions_lie set server args actions homes.1 parts.1)

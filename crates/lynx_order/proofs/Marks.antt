@@ -1,4 +1,4 @@
--- Marks, chains that are taken, and walks back.
+-- Marks, chains that are picked, and walks back.
 use Rattle.std.proofs.Common.{◌≡◌, ◌≢◌, ℕ, zero, suc, ◌<◌, Bool, true, false, List, [], ◌∷◌, ◌++◌, length, get_or, take, drop, replicate, inl, inr, ◌⊎◌, refl, sym, ap, ◌∙◌, subst, arith}
 use Rattle.std.specs.Prelude.{All, IfOk, Result, Ok, Err}
 use Rattle.std.proofs.Math.ListN.{set}
@@ -7,7 +7,7 @@ use Rattle.std.proofs.lemmas.Bool.Decides.{eqb_tells}
 use Rattle.std.proofs.lemmas.List.{get_or-replicate, get_or-set_other, get_or-set_same, get_or_default, get_or_past, length-replicate, length-set}
 use Rattle.std.proofs.lemmas.List.Elements.{All-nil, All-cons}
 use Rattle.lynx_order.specs.Lists.{IsIn, AreDifferent}
-use Rattle.lynx_order.specs.inner.Picks.{AreHints, AreLinked, AreTaken, ComesBefore, IsClosed, IsFree, IsMarked, IsPart, IsRound, IsTrail, LeftBefore}
+use Rattle.lynx_order.specs.inner.Picks.{AreHints, AreLinked, ArePicked, ComesBefore, IsClosed, IsFree, IsMarked, IsPart, IsRound, IsTrail, LeftBefore}
 use Rattle.lynx_order.proofs.Lists.{before-across, before-left, different-append, different-seam, in-either, in-left, in-right}
 
 -- ---- marks
@@ -52,10 +52,10 @@ mark_count-set (false ∷ marks) zero is = cc
 mark_count-set (true ∷ marks) (suc place) is = let fewer = mark_count-set marks place is in omega arith
 mark_count-set (false ∷ marks) (suc place) is = mark_count-set marks place is
 
--- ---- chains that are taken
+-- ---- chains that are picked
 
-pub taken_none : (table : List (List Bool)) → AreTaken table [] (replicate (length table) true)
-taken_none table = record {
+pub picked_none : (table : List (List Bool)) → ArePicked table [] (replicate (length table) true)
+picked_none table = record {
   whole = length-replicate (length table) true;
   once = tt;
   within = λ place never. absurd never;
@@ -64,15 +64,15 @@ taken_none table = record {
   in_order = λ one other within never before. absurd never;
 }
 
-pub taken_more : (table : List (List Bool)) (taken : List ℕ) (left : List Bool) (place : ℕ) → AreTaken table taken left → IsFree table left place →
-    AreTaken table (taken ++ place ∷ []) (set left place false)
-taken_more table taken left place old free = record {
+pub picked_more : (table : List (List Bool)) (picked : List ℕ) (left : List Bool) (place : ℕ) → ArePicked table picked left → IsFree table left place →
+    ArePicked table (picked ++ place ∷ []) (set left place false)
+picked_more table picked left place old free = record {
   whole = length-set left place false ∙ old.whole;
-  once = different-append taken (place ∷ []) old.once (λ never. never, tt) (λ other there same. elim same [
-    | inl is ↦ old.apart place (subst (λ p. IsIn p taken) (sym is) there) free.is_left
+  once = different-append picked (place ∷ []) old.once (λ never. never, tt) (λ other there same. elim same [
+    | inl is ↦ old.apart place (subst (λ p. IsIn p picked) (sym is) there) free.is_left
     | inr never ↦ never
   ]);
-  within = λ other there. elim (in-either other taken (place ∷ []) there) [
+  within = λ other there. elim (in-either other picked (place ∷ []) there) [
     | inl before ↦ old.within other before
     | inr last ↦ elim last [
       | inl is ↦ let below : place < length left = free.within in let whole = old.whole in omega arith
@@ -80,23 +80,23 @@ taken_more table taken left place old free = record {
     ]
   ];
   either = λ other within. elim (old.either other within) [
-    | inl there ↦ inl (in-left other taken (place ∷ []) there)
+    | inl there ↦ inl (in-left other picked (place ∷ []) there)
     | inr marked ↦ elim (marked_or left place other marked) [
-      | inl is ↦ inl (in-right other taken (place ∷ []) (inl is))
+      | inl is ↦ inl (in-right other picked (place ∷ []) (inl is))
       | inr still ↦ inr still
     ]
   ];
   apart = λ other there marked.
       let still = marked_still left place other free.within marked in
-      elim (in-either other taken (place ∷ []) there) [
+      elim (in-either other picked (place ∷ []) there) [
         | inl before ↦ old.apart other before still.1
         | inr last ↦ elim last [ inl is ↦ still.0 is | inr never ↦ never ]
       ];
-  in_order = λ one other within there before. elim (in-either other taken (place ∷ []) there) [
-    | inl old_one ↦ before-left one other taken (place ∷ []) (old.in_order one other within old_one before)
+  in_order = λ one other within there before. elim (in-either other picked (place ∷ []) there) [
+    | inl old_one ↦ before-left one other picked (place ∷ []) (old.in_order one other within old_one before)
     | inr last ↦ elim last [
       | inl is ↦ elim (old.either one within) [
-        | inl taken_before ↦ before-across one other taken (place ∷ []) taken_before (inl is)
+        | inl picked_before ↦ before-across one other picked (place ∷ []) picked_before (inl is)
         | inr marked ↦ absurd (free.alone one marked (subst (λ p. ComesBefore table one p) (sym is) before))
       ]
       | inr never ↦ absurd never

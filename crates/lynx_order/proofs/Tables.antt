@@ -10,7 +10,7 @@ use Rattle.lynx_entry.specs.declared.entry.Entry.{Entry}
 use Rattle.lynx_order.specs.inner.Begun.{begun_chains, begun_in, chain_begun}
 use Rattle.lynx_names.specs.declared.chain.ChainId.{ChainId}
 use Rattle.lynx_set.specs.Set.{Set}
-use Rattle.lynx_rules.proofs.Ranges.{range_more}
+use Rattle.lynx_names.proofs.Ranges.{range_more}
 use Rattle.lynx_world.specs.Placed.{Placed}
 use Rattle.lynx_order.specs.declared.touching.Touching.{Touching}
 use Rattle.lynx_order.specs.Precedence.{touches_in}

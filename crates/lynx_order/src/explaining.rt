@@ -14,9 +14,9 @@ use crate::cycle::cycle_from;
 use crate::explained::Explained;
 use crate::links::{cycle_holds, numbers_of};
 use crate::listing::touches_by_cell;
+use crate::picked::pick_all;
 use crate::picks::first_marked;
 use crate::table::{all_touchings, table_of};
-use crate::taken::take_all;
 use lynx_names::{ChainId, Items, Memory};
 use lynx_search::{Candidate, ChainTouch, Link, search};
 use lynx_set::ChainSet;
@@ -103,11 +103,11 @@ fn explain_by_table(alloc: Global, set: &ChainSet, world: &World) -> Result<Expl
     let all = all_touchings(alloc, set, chains, world)?;
     let rows = table_of(alloc, all.as_slice())?;
     let table = rows.as_slice();
-    let taken = take_all(alloc, table)?;
-    let left = taken.left.as_slice();
+    let picked = pick_all(alloc, table)?;
+    let left = picked.left.as_slice();
     match first_marked(left) {
         None => {
-            let found = chains_at(alloc, chains, taken.order.as_slice())?;
+            let found = chains_at(alloc, chains, picked.order.as_slice())?;
             Ok(Explained::Order(found))
         }
         Some(start) => {

@@ -11,6 +11,7 @@ struct Greatest {
     getting: usize,
     setting: usize,
     adding: usize,
+    raising: usize,
 }
 
 impl Greatest {
@@ -24,6 +25,7 @@ impl Greatest {
             getting: 0,
             setting: 0,
             adding: 0,
+            raising: 0,
         }
     }
 
@@ -44,6 +46,10 @@ impl Greatest {
                 adding: self.adding.max(rank),
                 ..self
             },
+            Kind::Raising => Greatest {
+                raising: self.raising.max(rank),
+                ..self
+            },
         }
     }
 
@@ -55,6 +61,7 @@ impl Greatest {
         (Kind::Getting.commutes(kind) || self.getting <= rank)
             && (Kind::Setting.commutes(kind) || self.setting <= rank)
             && (Kind::Adding.commutes(kind) || self.adding <= rank)
+            && (Kind::Raising.commutes(kind) || self.raising <= rank)
     }
 }
 

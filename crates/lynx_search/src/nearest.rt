@@ -55,6 +55,7 @@ struct Touchers {
     getting: FirstTwo,
     setting: FirstTwo,
     adding: FirstTwo,
+    raising: FirstTwo,
 }
 
 impl Touchers {
@@ -63,6 +64,7 @@ impl Touchers {
             getting: FirstTwo::none(),
             setting: FirstTwo::none(),
             adding: FirstTwo::none(),
+            raising: FirstTwo::none(),
         }
     }
 
@@ -71,6 +73,7 @@ impl Touchers {
             Kind::Getting => &mut self.getting,
             Kind::Setting => &mut self.setting,
             Kind::Adding => &mut self.adding,
+            Kind::Raising => &mut self.raising,
         };
         touchers.add(touch.chain, touch.place);
     }
@@ -81,6 +84,7 @@ impl Touchers {
             (Kind::Getting, self.getting),
             (Kind::Setting, self.setting),
             (Kind::Adding, self.adding),
+            (Kind::Raising, self.raising),
         ];
         let mut found: Option<(usize, usize)> = None;
         for (kind, touchers) in &ways {

@@ -3,7 +3,7 @@ use Rattle.std.specs.Prelude.{◌≡◌, ◌≢◌, ℕ, ◌<◌, ◌≤◌, max
 use Rattle.lynx_names.specs.declared.chain.ChainId.{ChainId}
 use Rattle.lynx_set.specs.Set.{Set}
 use Rattle.lynx_foot.specs.declared.kind.Kind.{Kind}
-use Rattle.lynx_foot.specs.declared.kind.Kind.TheVariants.{Getting, Setting, Adding}
+use Rattle.lynx_foot.specs.declared.kind.Kind.TheVariants.{Getting, Setting, Adding, Raising}
 use Rattle.lynx_foot.specs.declared.touch.Touch.{Touch}
 use Rattle.lynx_foot.specs.Tests.{collide}
 use Rattle.lynx_search.specs.declared.touched.ChainTouch.{ChainTouch}
@@ -74,12 +74,14 @@ abbrev pub greatest_of : Greatest → Kind → ℕ
 greatest_of greatest Getting = greatest.getting
 greatest_of greatest Setting = greatest.setting
 greatest_of greatest Adding = greatest.adding
+greatest_of greatest Raising = greatest.raising
 
 -- with a rank of that kind
 abbrev pub with_rank : Greatest → Kind → ℕ → Greatest
-with_rank greatest Getting rank = record { getting = max greatest.getting rank; setting = greatest.setting; adding = greatest.adding }
-with_rank greatest Setting rank = record { getting = greatest.getting; setting = max greatest.setting rank; adding = greatest.adding }
-with_rank greatest Adding rank = record { getting = greatest.getting; setting = greatest.setting; adding = max greatest.adding rank }
+with_rank greatest Getting rank = record { getting = max greatest.getting rank; setting = greatest.setting; adding = greatest.adding; raising = greatest.raising }
+with_rank greatest Setting rank = record { getting = greatest.getting; setting = max greatest.setting rank; adding = greatest.adding; raising = greatest.raising }
+with_rank greatest Adding rank = record { getting = greatest.getting; setting = greatest.setting; adding = max greatest.adding rank; raising = greatest.raising }
+with_rank greatest Raising rank = record { getting = greatest.getting; setting = greatest.setting; adding = greatest.adding; raising = max greatest.raising rank }
 
 -- a touch that is not behind the last one, and whose rank is counted if it is of the same cell
 pub record IsCounted (ranks : List ℕ) (sweep : Sweep) (one : ChainTouch) : Type 0 where

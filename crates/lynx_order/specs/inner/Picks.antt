@@ -1,4 +1,4 @@
--- Which chains are left, named by their places, and which may be taken next.
+-- Which chains are left, named by their places, and which may be picked next.
 use Rattle.std.specs.Prelude.{◌≡◌, ℕ, ◌<◌, Bool, true, false, List, [], ◌∷◌, ◌++◌, length, slice_index_or, ◌⊎◌}
 use Rattle.lynx_order.specs.Lists.{IsIn, AreDifferent, StandsBefore}
 
@@ -39,14 +39,14 @@ pub record AreHints (table : List (List Bool)) (left : List Bool) (hints : List 
   pub whole : length hints ≡ length table
   pub none_below : (place : ℕ) → place < length table → NoneCommon (slice_index_or table place []) left (slice_index_or hints place 0)
 
--- these chains are taken, each behind all that precede it, and the others are left
-pub record AreTaken (table : List (List Bool)) (taken : List ℕ) (left : List Bool) : Type 0 where
+-- these chains are picked, each behind all that precede it, and the others are left
+pub record ArePicked (table : List (List Bool)) (picked : List ℕ) (left : List Bool) : Type 0 where
   pub whole : length left ≡ length table
-  pub once : AreDifferent taken
-  pub within : (place : ℕ) → IsIn place taken → place < length table
-  pub either : (place : ℕ) → place < length table → IsIn place taken ⊎ IsMarked left place
-  pub apart : (place : ℕ) → IsIn place taken → ¬ IsMarked left place
-  pub in_order : (one other : ℕ) → one < length table → IsIn other taken → ComesBefore table one other → StandsBefore one other taken
+  pub once : AreDifferent picked
+  pub within : (place : ℕ) → IsIn place picked → place < length table
+  pub either : (place : ℕ) → place < length table → IsIn place picked ⊎ IsMarked left place
+  pub apart : (place : ℕ) → IsIn place picked → ¬ IsMarked left place
+  pub in_order : (one other : ℕ) → one < length table → IsIn other picked → ComesBefore table one other → StandsBefore one other picked
 
 -- the first comes before the next, and so on
 abbrev pub AreLinked : {X : Type 0} → (X → X → Type 0) → List X → Type 0

@@ -1,10 +1,10 @@
-use Rattle.lynx_order.specs.inner.Picks.{AreHints, AreTaken}
+use Rattle.lynx_order.specs.inner.Picks.{AreHints, ArePicked}
 use Rattle.lynx_order.proofs.Marks.{mark_count}
-use Rattle.lynx_order.proofs.taken.take_all.Given as goal
+use Rattle.lynx_order.proofs.picked.pick_all.Given as goal
 
 abbrev pub invariant-loop-place : goal.invariant-loop-place
 invariant-loop-place l = record {
-  taken : AreTaken l.table l.order l.left.items;
+  picked : ArePicked l.table l.order l.left.items;
   hints : AreHints l.table l.left.items l.hints.items;
 }
 

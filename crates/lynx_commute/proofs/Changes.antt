@@ -1,22 +1,21 @@
 -- A change of the database that neither alters what actions do nor is altered by them.
-use Rattle.std.specs.Prelude.{◌≡◌, ℕ, ◌+◌, ◌-◌, ◌^◌, ◌++◌, List, [], ◌∷◌, Ok, Err, refl, if◌then◌else◌, true, false}
+use Rattle.std.specs.Prelude.{◌≡◌, ℕ, ◌+◌, ◌++◌, List, [], ◌∷◌, Ok, Err, refl, if◌then◌else◌, true, false}
 use Rattle.std.proofs.Common.{ap, ◌∙◌}
 use Rattle.lynx_cells.specs.Database.{Database, value_at, with_value}
 use Rattle.lynx_set.specs.declared.action.Action.{Action}
-use Rattle.lynx_set.specs.declared.action.Action.TheVariants.{Get, Set as SetCell, Add, Sub, Let, Need}
-use Rattle.lynx_hops.specs.Meaning.{HopOutcome, after_results, key_of, value_of, sum_of, result_of, is_met, run}
+use Rattle.lynx_set.specs.declared.action.Action.TheVariants.{Get, Update, Let, Need}
+use Rattle.lynx_set.specs.declared.action.Update.{Update as TheUpdate}
+use Rattle.lynx_hops.specs.Meaning.{HopOutcome, after_results, key_of, value_of, updated, result_of, is_met, run}
 use Rattle.lynx_commute.specs.Acts.{answer_in, database_in}
 
--- the database after an amount is added to a cell
-abbrev pub with_more : Database → ℕ → ℕ → ℕ → Database
-with_more db table key amount = with_value db table key (sum_of (value_at db table key) amount)
+-- the database after an update of a cell
+abbrev pub with_update : Database → TheUpdate → ℕ → ℕ → ℕ → Database
+with_update db update table key value = with_value db table key (updated update (value_at db table key) value)
 
 -- the action reads and writes the same before the change as after it
 abbrev pub Passes : List ℕ → (Database → Database) → Action → Type 0
 Passes args change (Get table key) = (db : Database) → value_at (change db) table (key_of args key) ≡ value_at db table (key_of args key)
-Passes args change (SetCell table key value) = (db : Database) (new : ℕ) → with_value (change db) table (key_of args key) new ≡ change (with_value db table (key_of args key) new)
-Passes args change (Add table key value) = (db : Database) (amount : ℕ) → with_more (change db) table (key_of args key) amount ≡ change (with_more db table (key_of args key) amount)
-Passes args change (Sub table key value) = (db : Database) (amount : ℕ) → with_more (change db) table (key_of args key) amount ≡ change (with_more db table (key_of args key) amount)
+Passes args change (Update update table key value) = (db : Database) (by : ℕ) → with_update (change db) update table (key_of args key) by ≡ change (with_update db update table (key_of args key) by)
 Passes args change (Let left operator right) = Unit {0}
 Passes args change (Need left relation right) = Unit {0}
 
@@ -42,15 +41,9 @@ run-change args change needs (Get table key ∷ actions) names db pass =
     ap (λ value. after_results (value ∷ []) (run args needs actions (names ++ value ∷ []) (change db))) (pass.0 db)
     ∙ ap (after_results (value_at db table (key_of args key) ∷ [])) (run-change args change needs actions (names ++ value_at db table (key_of args key) ∷ []) db pass.1)
     ∙ after_results-changed change (value_at db table (key_of args key) ∷ []) _
-run-change args change needs (SetCell table key value ∷ actions) names db pass =
+run-change args change needs (Update update table key value ∷ actions) names db pass =
     ap (run args needs actions names) (pass.0 db (value_of names value))
-    ∙ run-change args change needs actions names (with_value db table (key_of args key) (value_of names value)) pass.1
-run-change args change needs (Add table key value ∷ actions) names db pass =
-    ap (run args needs actions names) (pass.0 db (value_of names value))
-    ∙ run-change args change needs actions names (with_more db table (key_of args key) (value_of names value)) pass.1
-run-change args change needs (Sub table key value ∷ actions) names db pass =
-    ap (run args needs actions names) (pass.0 db (2 ^ 64 - value_of names value))
-    ∙ run-change args change needs actions names (with_more db table (key_of args key) (2 ^ 64 - value_of names value)) pass.1
+    ∙ run-change args change needs actions names (with_update db update table (key_of args key) (value_of names value)) pass.1
 run-change args change needs (Let left operator right ∷ actions) names db pass =
     let value = result_of operator (value_of names left) (value_of names right) in
     ap (after_results (value ∷ [])) (run-change args change needs actions (names ++ value ∷ []) db pass.1)

@@ -8,16 +8,17 @@ use Rattle.lynx_cells.specs.Database.{cell_cmp, Database, value_at, with_value}
 use Rattle.lynx_cells.proofs.CellOrder.{same_cell}
 use Rattle.lynx_cells.proofs.Writes.{get-with_value, kept}
 use Rattle.lynx_set.specs.declared.action.Action.{Action}
-use Rattle.lynx_set.specs.declared.action.Action.TheVariants.{Get, Set as SetCell, Add, Sub, Let, Need}
+use Rattle.lynx_set.specs.declared.action.Action.TheVariants.{Get, Update, Let, Need}
 use Rattle.lynx_set.specs.Set.{Set}
-use Rattle.lynx_hops.specs.Meaning.{HopOutcome, after_results, key_of, value_of, sum_of, difference_of, result_of, is_met, run}
-use Rattle.lynx_foot.specs.declared.kind.Kind.TheVariants.{Getting, Setting, Adding}
+use Rattle.lynx_hops.specs.Meaning.{HopOutcome, after_results, key_of, value_of, updated, result_of, is_met, run}
+use Rattle.lynx_foot.specs.declared.kind.Kind.TheVariants.{Getting}
+use Rattle.lynx_foot.specs.Feet.{kind_of}
 use Rattle.lynx_foot.specs.declared.touch.Touch.{Touch}
 use Rattle.lynx_foot.specs.Conflicts.{Collides, Conflicts}
 use Rattle.lynx_foot.proofs.ConflictLaws.{Conflicts-swapped}
 use Rattle.lynx_commute.specs.Acts.{Act, ChangePlaces, after, answer, answer_in, database_in, outcome, touched}
-use Rattle.lynx_commute.proofs.Changes.{AllPass, answer_in-changed, changed, database_in-changed, run-change, with_more}
-use Rattle.lynx_commute.proofs.Writes.{AllPass-with_more, AllPass-with_value, CollidesWithNone, apart, touch_at, touches_in, turned}
+use Rattle.lynx_commute.proofs.Changes.{AllPass, answer_in-changed, changed, database_in-changed, run-change, with_update}
+use Rattle.lynx_commute.proofs.Writes.{AllPass-with_update, CollidesWithNone, apart, get_of_update, touch_at, touches_in, turned}
 use Rattle.lynx_set.specs.Lookups.{actions_at}
 
 -- ---- a cell that isn't written keeps what it holds
@@ -53,18 +54,10 @@ run-keeps args needs (Get other place ∷ actions) names db table key held none 
     let value = value_at db other (key_of args place) in
     Leaves-after_results (λ last. map.get last (table, key) ≡ held) (value ∷ []) (run args needs actions (names ++ value ∷ []) db)
     (run-keeps args needs actions (names ++ value ∷ []) db table key held none.1 here)
-run-keeps args needs (SetCell other place value ∷ actions) names db table key held none here =
-    let new = value_of names value in
+run-keeps args needs (Update update other place value ∷ actions) names db table key held none here =
+    let new = updated update (value_at db other (key_of args place)) (value_of names value) in
     run-keeps args needs actions names (with_value db other (key_of args place) new) table key held none.1
-    (get-with_value_other db (other, key_of args place) (table, key) new (turned (other, key_of args place) (table, key) (apart table key other (key_of args place) Getting Setting none.0 refl)) ∙ here)
-run-keeps args needs (Add other place value ∷ actions) names db table key held none here =
-    let new = sum_of (value_at db other (key_of args place)) (value_of names value) in
-    run-keeps args needs actions names (with_value db other (key_of args place) new) table key held none.1
-    (get-with_value_other db (other, key_of args place) (table, key) new (turned (other, key_of args place) (table, key) (apart table key other (key_of args place) Getting Adding none.0 refl)) ∙ here)
-run-keeps args needs (Sub other place value ∷ actions) names db table key held none here =
-    let new = difference_of (value_at db other (key_of args place)) (value_of names value) in
-    run-keeps args needs actions names (with_value db other (key_of args place) new) table key held none.1
-    (get-with_value_other db (other, key_of args place) (table, key) new (turned (other, key_of args place) (table, key) (apart table key other (key_of args place) Getting Adding none.0 refl)) ∙ here)
+    (get-with_value_other db (other, key_of args place) (table, key) new (turned (other, key_of args place) (table, key) (apart table key other (key_of args place) Getting (kind_of update) none.0 (get_of_update update))) ∙ here)
 run-keeps args needs (Let left operator right ∷ actions) names db table key held none here =
     let value = result_of operator (value_of names left) (value_of names right) in
     Leaves-after_results (λ last. map.get last (table, key) ≡ held) (value ∷ []) (run args needs actions (names ++ value ∷ []) db)
@@ -123,16 +116,8 @@ AllPass-after_all args (Get table place ∷ actions) hop_args hop_actions hop_na
       (run-keeps hop_args 0 hop_actions hop_names db table (key_of args place) (map.get db (table, key_of args place)) none.0 refl)),
   AllPass-after_all args actions hop_args hop_actions hop_names none.1,
 )
-AllPass-after_all args (SetCell table place _ ∷ actions) hop_args hop_actions hop_names none = (
-  λ db new. sym (after_all-change hop_args hop_actions hop_names (λ db. with_value db table (key_of args place) new) db (AllPass-with_value hop_args hop_actions table (key_of args place) new none.0)),
-  AllPass-after_all args actions hop_args hop_actions hop_names none.1,
-)
-AllPass-after_all args (Add table place _ ∷ actions) hop_args hop_actions hop_names none = (
-  λ db amount. sym (after_all-change hop_args hop_actions hop_names (λ db. with_more db table (key_of args place) amount) db (AllPass-with_more hop_args hop_actions table (key_of args place) amount none.0)),
-  AllPass-after_all args actions hop_args hop_actions hop_names none.1,
-)
-AllPass-after_all args (Sub table place _ ∷ actions) hop_args hop_actions hop_names none = (
-  λ db amount. sym (after_all-change hop_args hop_actions hop_names (λ db. with_more db table (key_of args place) amount) db (AllPass-with_more hop_args hop_actions table (key_of args place) amount none.0)),
+AllPass-after_all args (Update update table place _ ∷ actions) hop_args hop_actions hop_names none = (
+  λ db by. sym (after_all-change hop_args hop_actions hop_names (λ db. with_update db update table (key_of args place) by) db (AllPass-with_update hop_args hop_actions update table (key_of args place) by none.0)),
   AllPass-after_all args actions hop_args hop_actions hop_names none.1,
 )
 AllPass-after_all args (Let left operator right ∷ actions) hop_args hop_actions hop_names none = (tt, AllPass-after_all args actions hop_args hop_actions hop_names none)

@@ -9,10 +9,11 @@ use Rattle.std.proofs.lemmas.List.Elements.{All-contains, All-map, All-head, All
 use Rattle.lynx_cells.specs.Database.{cell_cmp, Database, IsZeroFree, value_at, with_value}
 use Rattle.lynx_cells.proofs.Writes.{IsZeroFree-with_value, get-with_value, kept}
 use Rattle.lynx_set.specs.declared.action.Action.{Action}
-use Rattle.lynx_set.specs.declared.action.Action.TheVariants.{Get, Set as SetCell, Add, Sub, Let, Need}
+use Rattle.lynx_set.specs.declared.action.Action.TheVariants.{Get, Update, Let, Need}
 use Rattle.lynx_set.specs.Set.{Set}
-use Rattle.lynx_hops.specs.Meaning.{HopOutcome, after_results, key_of, value_of, sum_of, difference_of, result_of, is_met, run}
-use Rattle.lynx_foot.specs.declared.kind.Kind.TheVariants.{Getting, Setting, Adding}
+use Rattle.lynx_hops.specs.Meaning.{HopOutcome, after_results, key_of, value_of, updated, result_of, is_met, run}
+use Rattle.lynx_foot.specs.declared.kind.Kind.TheVariants.{Getting}
+use Rattle.lynx_foot.specs.Feet.{kind_of}
 use Rattle.lynx_foot.specs.declared.touch.Touch.{Touch}
 use Rattle.lynx_commute.specs.Acts.{Act, AgreeOn, IsUntouched, after, answer, answer_in, cell_of, database_in, outcome, touched}
 use Rattle.lynx_commute.proofs.Writes.{CollidesWithNone, touch_at, touches_in}
@@ -87,29 +88,14 @@ AgreeIn-run P args needs (Get table key ∷ actions) names left right touched ag
     let later = AgreeIn-run P args needs actions (names ++ value ∷ []) left right (All-tail (λ (touch : Touch). P touch.table touch.key) (touch_at table place Getting) (touches_in args actions) touched) agree in
     let Same : ℕ → Type 0 = λ read. AgreeIn P (after_results (value ∷ []) (run args needs actions (names ++ value ∷ []) left)) (after_results (read ∷ []) (run args needs actions (names ++ read ∷ []) right)) in
     subst Same here (AgreeIn-after_results P (value ∷ []) (run args needs actions (names ++ value ∷ []) left) (run args needs actions (names ++ value ∷ []) right) later)
-AgreeIn-run P args needs (SetCell table key value ∷ actions) names left right touched agree =
+AgreeIn-run P args needs (Update update table key value ∷ actions) names left right touched agree =
     let place = key_of args key in
-    let new = value_of names value in
-    AgreeIn-run P args needs actions names (with_value left table place new) (with_value right table place new)
-    (All-tail (λ (touch : Touch). P touch.table touch.key) (touch_at table place Setting) (touches_in args actions) touched)
-    (Agree-with_value P left right table place new agree)
-AgreeIn-run P args needs (Add table key value ∷ actions) names left right touched agree =
-    let place = key_of args key in
-    let here : value_at left table place ≡ value_at right table place = agree table place (All-head (λ (touch : Touch). P touch.table touch.key) (touch_at table place Adding) (touches_in args actions) touched) in
-    let new = sum_of (value_at left table place) (value_of names value) in
+    let here : value_at left table place ≡ value_at right table place = agree table place (All-head (λ (touch : Touch). P touch.table touch.key) (touch_at table place (kind_of update)) (touches_in args actions) touched) in
+    let new = updated update (value_at left table place) (value_of names value) in
     let later = AgreeIn-run P args needs actions names (with_value left table place new) (with_value right table place new)
-    (All-tail (λ (touch : Touch). P touch.table touch.key) (touch_at table place Adding) (touches_in args actions) touched)
+    (All-tail (λ (touch : Touch). P touch.table touch.key) (touch_at table place (kind_of update)) (touches_in args actions) touched)
     (Agree-with_value P left right table place new agree) in
-    let Same : ℕ → Type 0 = λ read. AgreeIn P (run args needs actions names (with_value left table place new)) (run args needs actions names (with_value right table place (sum_of read (value_of names value)))) in
-    subst Same here later
-AgreeIn-run P args needs (Sub table key value ∷ actions) names left right touched agree =
-    let place = key_of args key in
-    let here : value_at left table place ≡ value_at right table place = agree table place (All-head (λ (touch : Touch). P touch.table touch.key) (touch_at table place Adding) (touches_in args actions) touched) in
-    let new = difference_of (value_at left table place) (value_of names value) in
-    let later = AgreeIn-run P args needs actions names (with_value left table place new) (with_value right table place new)
-    (All-tail (λ (touch : Touch). P touch.table touch.key) (touch_at table place Adding) (touches_in args actions) touched)
-    (Agree-with_value P left right table place new agree) in
-    let Same : ℕ → Type 0 = λ read. AgreeIn P (run args needs actions names (with_value left table place new)) (run args needs actions names (with_value right table place (difference_of read (value_of names value)))) in
+    let Same : ℕ → Type 0 = λ read. AgreeIn P (run args needs actions names (with_value left table place new)) (run args needs actions names (with_value right table place (updated update read (value_of names value)))) in
     subst Same here later
 AgreeIn-run P args needs (Let first operator second ∷ actions) names left right touched agree =
     let value = result_of operator (value_of names first) (value_of names second) in
@@ -188,14 +174,8 @@ IsZeroFree-run args needs [] names db free = free
 IsZeroFree-run args needs (Get table key ∷ actions) names db free =
     let value = value_at db table (key_of args key) in
     Leaves-after_results IsZeroFree (value ∷ []) (run args needs actions (names ++ value ∷ []) db) (IsZeroFree-run args needs actions (names ++ value ∷ []) db free)
-IsZeroFree-run args needs (SetCell table key value ∷ actions) names db free =
-    let new = value_of names value in
-    IsZeroFree-run args needs actions names (with_value db table (key_of args key) new) (IsZeroFree-with_value db table (key_of args key) new free)
-IsZeroFree-run args needs (Add table key value ∷ actions) names db free =
-    let new = sum_of (value_at db table (key_of args key)) (value_of names value) in
-    IsZeroFree-run args needs actions names (with_value db table (key_of args key) new) (IsZeroFree-with_value db table (key_of args key) new free)
-IsZeroFree-run args needs (Sub table key value ∷ actions) names db free =
-    let new = difference_of (value_at db table (key_of args key)) (value_of names value) in
+IsZeroFree-run args needs (Update update table key value ∷ actions) names db free =
+    let new = updated update (value_at db table (key_of args key)) (value_of names value) in
     IsZeroFree-run args needs actions names (with_value db table (key_of args key) new) (IsZeroFree-with_value db table (key_of args key) new free)
 IsZeroFree-run args needs (Let left operator right ∷ actions) names db free =
     let value = result_of operator (value_of names left) (value_of names right) in

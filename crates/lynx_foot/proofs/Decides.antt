@@ -1,16 +1,16 @@
 -- The tests of conflicts decide what they are named for.
-use Rattle.std.proofs.Common.{◌≡◌, ℕ, Bool, List, true, not, refl, IsTrue}
+use Rattle.std.proofs.Common.{◌≡◌, ◌≤◌, leb, ℕ, Bool, List, Option, Some, None, true, not, refl, IsTrue}
 use Rattle.std.specs.Bool.{Decides}
 use Rattle.std.specs.List.{Any, list_any}
+use Rattle.std.proofs.lemmas.Bool.{leb-true, le-leb}
 use Rattle.std.proofs.lemmas.Bool.Decides.{Decides-eqb, Decides-and, Decides-like}
 use Rattle.std.proofs.lemmas.List.Folds.{Any-from_list_any, list_any-from_Any}
-use Rattle.lynx_set.specs.declared.action.Key.{Key}
-use Rattle.lynx_set.specs.declared.action.Key.TheVariants.{Literal, Param}
-use Rattle.lynx_foot.specs.declared.foot.Foot.{Foot}
+use Rattle.lynx_set.specs.declared.interval.Interval.{Interval}
+use Rattle.lynx_foot.specs.declared.reach.Reach.{Reach}
 use Rattle.lynx_foot.specs.declared.touch.Touch.{Touch}
 use Rattle.lynx_set.specs.Set.{Set}
 use Rattle.lynx_foot.specs.Kinds.{commute}
-use Rattle.lynx_foot.specs.Feet.{footprint_of}
+use Rattle.lynx_foot.specs.Reaches.{reaches_of}
 use Rattle.lynx_foot.specs.Conflicts.{Collides, Conflicts, MayCollide, MayMeet, MayConflict}
 use Rattle.lynx_foot.specs.Tests.{collide, some_collide, may_collide, may_meet, some_may_collide}
 use Rattle.lynx_set.specs.Lookups.{server_at}
@@ -22,8 +22,11 @@ Decides-list_any p P each xs = (
   λ found. list_any-from_Any p xs (found.0, found.1, found.2, found.3, (each found.1).1 found.4),
 )
 
+pub Decides-leb : (a b : ℕ) → Decides (leb a b) (a ≤ b)
+Decides-leb a b = (leb-true a b, le-leb a b)
+
 -- a test decides itself
-Decides-itself : (b : Bool) → Decides b (b ≡ true)
+pub Decides-itself : (b : Bool) → Decides b (b ≡ true)
 Decides-itself b = (λ holds. holds, λ holds. holds)
 
 Decides-collide : (left right : Touch) → Decides (collide left right) (Collides left right)
@@ -37,26 +40,26 @@ Decides-collide left right = Decides-like
 pub Decides-some_collide : (lefts rights : List Touch) → Decides (some_collide lefts rights) (Conflicts lefts rights)
 Decides-some_collide lefts rights = Decides-list_any _ _ (λ left. Decides-list_any _ _ (Decides-collide left) rights) lefts
 
-Decides-may_meet : (left right : Key) → Decides (may_meet left right) (MayMeet left right)
-Decides-may_meet (Literal left) (Literal right) = Decides-eqb left right
-Decides-may_meet (Literal left) (Param right) = (λ _. tt, λ _. refl)
-Decides-may_meet (Param left) right = (λ _. tt, λ _. refl)
+Decides-may_meet : (left right : Option Interval) → Decides (may_meet left right) (MayMeet left right)
+Decides-may_meet (Some left) (Some right) = Decides-and _ _ (Decides-leb left.low right.high) (Decides-leb right.low left.high)
+Decides-may_meet (Some left) None = (λ _. tt, λ _. refl)
+Decides-may_meet None right = (λ _. tt, λ _. refl)
 
-Decides-may_collide : (left right : Foot) → Decides (may_collide left right) (MayCollide left right)
+Decides-may_collide : (left right : Reach) → Decides (may_collide left right) (MayCollide left right)
 Decides-may_collide left right = Decides-like
-    {P = ((left.table ≡ right.table) × MayMeet left.key right.key) × IsTrue (not (commute left.kind right.kind))}
+    {P = ((left.table ≡ right.table) × MayMeet left.keys right.keys) × IsTrue (not (commute left.kind right.kind))}
     (may_collide left right)
     (λ parts. record { same_table = parts.0.0; keys_may_meet = parts.0.1; kinds_collide = parts.1 })
     (λ whole. ((whole.same_table, whole.keys_may_meet), whole.kinds_collide))
-    (Decides-and _ _ (Decides-and _ _ (Decides-eqb left.table right.table) (Decides-may_meet left.key right.key)) (Decides-itself (not (commute left.kind right.kind))))
+    (Decides-and _ _ (Decides-and _ _ (Decides-eqb left.table right.table) (Decides-may_meet left.keys right.keys)) (Decides-itself (not (commute left.kind right.kind))))
 
-pub Decides-some_may_collide : (lefts rights : List Foot) → Decides (some_may_collide lefts rights) (Any (λ left. Any (λ right. MayCollide left right) rights) lefts)
+pub Decides-some_may_collide : (lefts rights : List Reach) → Decides (some_may_collide lefts rights) (Any (λ left. Any (λ right. MayCollide left right) rights) lefts)
 Decides-some_may_collide lefts rights = Decides-list_any _ _ (λ left. Decides-list_any _ _ (Decides-may_collide left) rights) lefts
 
--- between hops of one server, the feet alone decide
+-- between hops of one server, the reaches alone decide
 pub Decides-MayConflict : (set : Set) (left_program left_hop right_program right_hop : ℕ) →
     server_at set left_program left_hop ≡ server_at set right_program right_hop →
-    Decides (some_may_collide (footprint_of set left_program left_hop) (footprint_of set right_program right_hop)) (MayConflict set left_program left_hop right_program right_hop)
+    Decides (some_may_collide (reaches_of set left_program left_hop) (reaches_of set right_program right_hop)) (MayConflict set left_program left_hop right_program right_hop)
 Decides-MayConflict set left_program left_hop right_program right_hop same =
-    let feet = Decides-some_may_collide (footprint_of set left_program left_hop) (footprint_of set right_program right_hop) in
-    (λ passes. record { same_server = same; feet_may_collide = feet.0 passes }, λ may. feet.1 may.feet_may_collide)
+    let reaches = Decides-some_may_collide (reaches_of set left_program left_hop) (reaches_of set right_program right_hop) in
+    (λ passes. record { same_server = same; reaches_may_collide = reaches.0 passes }, λ may. reaches.1 may.reaches_may_collide)

@@ -2,20 +2,28 @@
 use Rattle.std.specs.Prelude.{ℕ, List, map, Option, Some, None}
 use Rattle.std.specs.List.{filter_map}
 use Rattle.lynx_set.specs.declared.action.Action.{Action}
-use Rattle.lynx_set.specs.declared.action.Action.TheVariants.{Get, Set as SetCell, Add, Sub, Let, Need}
+use Rattle.lynx_set.specs.declared.action.Action.TheVariants.{Get, Update, Let, Need}
+use Rattle.lynx_set.specs.declared.action.Update.{Update as TheUpdate}
+use Rattle.lynx_set.specs.declared.action.Update.TheVariants.{Set as SetTo, Add, Sub, Max}
 use Rattle.lynx_set.specs.Set.{Set}
 use Rattle.lynx_hops.specs.Meaning.{key_of}
-use Rattle.lynx_foot.specs.declared.kind.Kind.TheVariants.{Getting, Setting, Adding}
+use Rattle.lynx_foot.specs.declared.kind.Kind.{Kind}
+use Rattle.lynx_foot.specs.declared.kind.Kind.TheVariants.{Getting, Setting, Adding, Raising}
 use Rattle.lynx_foot.specs.declared.foot.Foot.{Foot}
 use Rattle.lynx_foot.specs.declared.touch.Touch.{Touch}
 use Rattle.lynx_set.specs.Lookups.{actions_at}
 
+-- the kind of an update
+abbrev pub kind_of : TheUpdate → Kind
+kind_of SetTo = Setting
+kind_of Add = Adding
+kind_of Sub = Adding
+kind_of Max = Raising
+
 -- the foot of an action: `let` and `need` have none
 abbrev pub foot_of : Action → Option Foot
 foot_of (Get table key) = Some (record { table = table; key = key; kind = Getting })
-foot_of (SetCell table key value) = Some (record { table = table; key = key; kind = Setting })
-foot_of (Add table key value) = Some (record { table = table; key = key; kind = Adding })
-foot_of (Sub table key value) = Some (record { table = table; key = key; kind = Adding })
+foot_of (Update update table key value) = Some (record { table = table; key = key; kind = kind_of update })
 foot_of (Let left operator right) = None
 foot_of (Need left relation right) = None
 

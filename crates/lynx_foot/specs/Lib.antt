@@ -1,4 +1,5 @@
 pub mod Kinds
 pub mod Feet
+pub mod Reaches
 pub mod Conflicts
 pub mod Tests

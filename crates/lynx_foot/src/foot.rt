@@ -22,10 +22,12 @@ pub(crate) fn foot_of(action: Action) -> Option<Foot>
 {
     let (table, key, kind) = match action {
         Action::Get { table, key } => (table, key, Kind::Getting),
-        Action::Set { table, key, .. } => (table, key, Kind::Setting),
-        Action::Add { table, key, .. } | Action::Sub { table, key, .. } => {
-            (table, key, Kind::Adding)
-        }
+        Action::Update {
+            update,
+            table,
+            key,
+            ..
+        } => (table, key, Kind::of(update)),
         Action::Let { .. } | Action::Need { .. } => return None,
     };
     Some(Foot { table, key, kind })
@@ -41,7 +43,7 @@ pub(crate) fn actions_of(set: &ChainSet, program: ProgramId, hop: usize) -> &[Ac
     }
 }
 
-/// The feet of a hop, one for each `get`, `set`, `add` and `sub`, in order. A hop that the set hasn't has none.
+/// The feet of a hop, one for each `get` and each update, in order. A hop that the set hasn't has none.
 pub fn footprint(
     alloc: Global,
     set: &ChainSet,

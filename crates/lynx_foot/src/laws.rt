@@ -1,7 +1,9 @@
 //! The laws of conflict, each the contract of a function that does nothing. `proofs/ConflictLaws.antt` has the
 //! lemmas.
-ghost use Rattle.std.specs.Prelude.{ℕ, List};
+ghost use Rattle.std.specs.Prelude.{◌≡◌, ℕ, List, true};
 ghost use Rattle.lynx_set.specs.Set.{Set};
+ghost use Rattle.lynx_set.specs.Intervals.{are_in_range};
+ghost use Rattle.lynx_set.specs.Lookups.{ranges_of};
 ghost use Rattle.lynx_foot.specs.declared.touch.Touch.{Touch};
 ghost use Rattle.lynx_foot.specs.Feet.{touches_of};
 ghost use Rattle.lynx_foot.specs.Conflicts.{Conflicts, KeysLieAtServer, MayConflict};
@@ -18,10 +20,13 @@ pub fn may_conflict_needs_no_order()
         → MayConflict set right_program right_hop left_program left_hop }
 {}
 
-/// Where the keys of two hops lie at the hops' servers, hops that conflict may conflict.
+/// Where the arguments of two hops lie in their ranges, and the keys at the hops' servers, hops that conflict may
+/// conflict.
 pub fn hops_that_conflict_may_conflict()
     ensures { (set : Set) (left_program left_hop right_program right_hop : ℕ)
         (left_args right_args : List ℕ)
+        → are_in_range (ranges_of set left_program) left_args ≡ true
+        → are_in_range (ranges_of set right_program) right_args ≡ true
         → KeysLieAtServer set left_program left_hop left_args
         → KeysLieAtServer set right_program right_hop right_args
         → Conflicts (touches_of set left_program left_hop left_args)

@@ -5,7 +5,8 @@ pub use collision::{conflict, touches_collide};
 pub use foot::{Foot, footprint};
 pub use kind::Kind;
 pub use lynx_set::Key;
-pub use may_collide::{feet_may_collide, may_conflict};
+pub use may_collide::{may_conflict, reaches_may_collide};
+pub use reach::{Reach, reach_of, reaches};
 pub use touch::{Touch, touches};
 
 pub mod collision;
@@ -13,4 +14,5 @@ pub mod foot;
 pub mod kind;
 pub mod laws;
 pub mod may_collide;
+pub mod reach;
 pub mod touch;

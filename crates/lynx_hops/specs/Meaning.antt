@@ -1,9 +1,11 @@
 -- What a hop does: its actions in order, each to the database that the one before left.
-use Rattle.std.specs.Prelude.{ℕ, ◌+◌, ◌-◌, ◌%◌, ◌^◌, ◌==◌, Bool, not, if◌then◌else◌, nat_lt, nat_le, List, [], ◌∷◌, ◌++◌, slice_get, slice_index, unwrap_or, option_and_then, option_map, Option, Result, Ok, Err}
+use Rattle.std.specs.Prelude.{ℕ, ◌+◌, ◌-◌, ◌%◌, ◌^◌, ◌==◌, Bool, not, if◌then◌else◌, nat_lt, nat_le, List, [], ◌∷◌, ◌++◌, max, slice_get, slice_index, unwrap_or, option_and_then, option_map, Option, Result, Ok, Err}
 use Rattle.std.specs.List.{flat_map}
 use Rattle.lynx_cells.specs.Database.{Database, value_at, with_value}
 use Rattle.lynx_set.specs.declared.action.Action.{Action}
-use Rattle.lynx_set.specs.declared.action.Action.TheVariants.{Get, Set as SetCell, Add, Sub, Let, Need}
+use Rattle.lynx_set.specs.declared.action.Action.TheVariants.{Get, Update, Let, Need}
+use Rattle.lynx_set.specs.declared.action.Update.{Update as TheUpdate}
+use Rattle.lynx_set.specs.declared.action.Update.TheVariants.{Set as SetTo, Add, Sub, Max}
 use Rattle.lynx_set.specs.declared.action.Key.{Key}
 use Rattle.lynx_set.specs.declared.action.Key.TheVariants.{Literal, Param}
 use Rattle.lynx_set.specs.declared.action.Operand.{Operand}
@@ -38,6 +40,13 @@ abbrev pub result_of : Operator → ℕ → ℕ → ℕ
 result_of Plus left right = sum_of left right
 result_of Minus left right = difference_of left right
 
+-- what a cell holds after an update
+abbrev pub updated : TheUpdate → ℕ → ℕ → ℕ
+updated SetTo held value = value
+updated Add held value = sum_of held value
+updated Sub held value = difference_of held value
+updated Max held value = max held value
+
 -- what `need` asks
 abbrev pub is_met : Relation → ℕ → ℕ → Bool
 is_met Below left right = nat_lt left right
@@ -62,12 +71,8 @@ run args needs [] names db = Ok ([], db)
 run args needs (Get table key ∷ actions) names db =
     let value = value_at db table (key_of args key) in
     after_results (value ∷ []) (run args needs actions (names ++ value ∷ []) db)
-run args needs (SetCell table key value ∷ actions) names db =
-    run args needs actions names (with_value db table (key_of args key) (value_of names value))
-run args needs (Add table key value ∷ actions) names db =
-    run args needs actions names (with_value db table (key_of args key) (sum_of (value_at db table (key_of args key)) (value_of names value)))
-run args needs (Sub table key value ∷ actions) names db =
-    run args needs actions names (with_value db table (key_of args key) (difference_of (value_at db table (key_of args key)) (value_of names value)))
+run args needs (Update update table key value ∷ actions) names db =
+    run args needs actions names (with_value db table (key_of args key) (updated update (value_at db table (key_of args key)) (value_of names value)))
 run args needs (Let left operator right ∷ actions) names db =
     let value = result_of operator (value_of names left) (value_of names right) in
     after_results (value ∷ []) (run args needs actions (names ++ value ∷ []) db)

@@ -5,7 +5,7 @@ ghost use Rattle.lynx_hops.specs.Meaning.{key_of, meaning, run};
 ghost use Rattle.lynx_set.specs.declared.action.Action.{Action};
 
 use crate::ran::Ran;
-use crate::value::{is_met, key_of, result_of, value_of};
+use crate::value::{is_met, key_of, result_of, updated, value_of};
 use lynx_cells::{Cells, Changes};
 use lynx_names::{Memory, ProgramId, TableId, Values};
 use lynx_set::{Action, ChainSet, Key};
@@ -92,19 +92,15 @@ impl Running<'_> {
                 let value = self.read(table, key);
                 self.bind(value)?;
             }
-            Action::Set { table, key, value } => {
+            Action::Update {
+                update,
+                table,
+                key,
+                value,
+            } => {
                 let value = value_of(self.names.as_slice(), value);
-                self.write(table, key, value)?;
-            }
-            Action::Add { table, key, value } => {
-                let value = value_of(self.names.as_slice(), value);
-                let sum = self.read(table, key).wrapping_add(value);
-                self.write(table, key, sum)?;
-            }
-            Action::Sub { table, key, value } => {
-                let value = value_of(self.names.as_slice(), value);
-                let difference = self.read(table, key).wrapping_sub(value);
-                self.write(table, key, difference)?;
+                let held = self.read(table, key);
+                self.write(table, key, updated(update, held, value))?;
             }
             Action::Let {
                 left,

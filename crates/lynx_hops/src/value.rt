@@ -1,8 +1,8 @@
 //! What the words of an action mean, where the program's names have these values so far.
 ghost use Rattle.std.specs.Prelude.{◌≡◌, slice_index};
-ghost use Rattle.lynx_hops.specs.Meaning.{key_of, value_of, is_met, result_of};
+ghost use Rattle.lynx_hops.specs.Meaning.{key_of, value_of, is_met, result_of, updated};
 
-use lynx_set::{Key, Operand, Operator, Relation};
+use lynx_set::{Key, Operand, Operator, Relation, Update};
 
 /// The value at a place of a list. There is one at each place that a parsed program names.
 fn at(values: &[u64], place: u8) -> u64
@@ -35,6 +35,18 @@ pub(crate) fn result_of(operator: Operator, left: u64, right: u64) -> u64
     match operator {
         Operator::Plus => left.wrapping_add(right),
         Operator::Minus => left.wrapping_sub(right),
+    }
+}
+
+/// What a cell that held a value holds after the update.
+pub(crate) fn updated(update: Update, held: u64, value: u64) -> u64
+    ensures { result ≡ updated update held value }
+{
+    match update {
+        Update::Set => value,
+        Update::Add => held.wrapping_add(value),
+        Update::Sub => held.wrapping_sub(value),
+        Update::Max => held.max(value),
     }
 }
 

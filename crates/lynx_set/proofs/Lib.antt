@@ -2,3 +2,4 @@ pub mod Alike
 pub mod Literals
 pub mod Same
 pub mod Sets
+pub mod Upgraded

@@ -4,7 +4,7 @@ use Rattle.std.specs.List.{list_all}
 use Rattle.std.proofs.lemmas.Option.{slice_get-map}
 use Rattle.lynx_shards.specs.declared.shard.Shard.{Shard}
 use Rattle.lynx_set.specs.declared.action.Action.{Action}
-use Rattle.lynx_set.specs.declared.action.Action.TheVariants.{Get, Set as SetCell, Add, Sub, Let, Need}
+use Rattle.lynx_set.specs.declared.action.Action.TheVariants.{Get, Update, Let, Need}
 use Rattle.lynx_set.specs.declared.program.Hop.{Hop}
 use Rattle.lynx_set.specs.declared.program.Program.{Program}
 use Rattle.lynx_set.specs.Home.{AreLiteralsHome, is_action_home}
@@ -24,9 +24,7 @@ both_true a b first second = ap (λ x. x && b) first ∙ second
 home_actions : (scope : PlainScope) (actions : List Action) (known : List (List ℕ)) → FitActions scope actions known → AreHome scope.shards scope.server actions
 home_actions scope [] known fit = refl
 home_actions scope (Get table key ∷ actions) known fit = both_true _ _ fit.1.at_home (home_actions (next_scope scope fit.2) actions known fit.4)
-home_actions scope (SetCell table key value ∷ actions) known fit = both_true _ _ fit.1.0.at_home (home_actions (next_scope scope fit.2) actions known fit.4)
-home_actions scope (Add table key value ∷ actions) known fit = both_true _ _ fit.1.0.at_home (home_actions (next_scope scope fit.2) actions known fit.4)
-home_actions scope (Sub table key value ∷ actions) known fit = both_true _ _ fit.1.0.at_home (home_actions (next_scope scope fit.2) actions known fit.4)
+home_actions scope (Update update table key value ∷ actions) known fit = both_true _ _ fit.1.0.at_home (home_actions (next_scope scope fit.2) actions known fit.4)
 home_actions scope (Let left operator right ∷ actions) known fit = home_actions (next_scope scope fit.2) actions known fit.4
 home_actions scope (Need left relation right ∷ actions) known fit = home_actions (next_scope scope fit.2) actions known fit.4
 
@@ -44,7 +42,7 @@ home_program : (set : PlainSet) (programs : List (List ℕ × PlainProgram)) (i 
 home_program set [] i named fit is number hop there = cc
 home_program set (first ∷ programs) zero named fit is number hop there =
     let same : first ≡ named = cc in
-    let start : PlainProgram = record { parameters = length fit.2.parameters; names = fit.2.parameters; hops = [] } in
+    let start : PlainProgram = record { parameters = length fit.2.parameters; names = fit.2.parameters; ranges = first.1.ranges; hops = [] } in
     home_hop set start first.1.hops first.1.names number hop fit.2.hops
     (ap (λ (n : List ℕ × PlainProgram). slice_get n.1.hops number) same ∙ there)
 home_program set (first ∷ programs) (suc i) named fit is number hop there =

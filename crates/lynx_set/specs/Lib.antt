@@ -4,5 +4,6 @@ pub mod Names
 pub mod Plain
 pub mod Rules
 pub mod Set
+pub mod Intervals
 pub mod Scopes
 pub mod Text

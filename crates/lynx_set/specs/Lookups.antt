@@ -1,15 +1,20 @@
 -- What a set says of its programs and tables, by their numbers, and what an action says of itself.
 use Rattle.std.specs.Prelude.{ℕ, Bool, true, false, List, [], Option, Some, None, map, slice_get, unwrap_or, option_and_then, option_map}
 use Rattle.lynx_set.specs.declared.action.Action.{Action}
-use Rattle.lynx_set.specs.declared.action.Action.TheVariants.{Get, Set as SetCell, Add, Sub, Let, Need}
+use Rattle.lynx_set.specs.declared.action.Action.TheVariants.{Get, Update, Let, Need}
 use Rattle.lynx_set.specs.declared.action.Key.{Key}
 use Rattle.lynx_set.specs.declared.program.Hop.{Hop}
+use Rattle.lynx_set.specs.declared.program.ParameterRange.{ParameterRange}
 use Rattle.lynx_set.specs.declared.program.Program.{Program}
 use Rattle.lynx_set.specs.Set.{Set}
 
 -- the program of that number
 abbrev pub program_at : Set → ℕ → Option Program
 program_at set program = option_map (λ named. named.1) (slice_get set.programs program)
+
+-- the ranges of its parameters, none where there is no such program
+abbrev pub ranges_of : Set → ℕ → List ParameterRange
+ranges_of set program = unwrap_or (option_map (λ found. found.ranges) (program_at set program)) []
 
 -- its hops, none where there is no such program
 abbrev pub hops_of : Set → ℕ → List Hop
@@ -34,18 +39,14 @@ origin_of set program = server_at set program 0
 -- the table and the key of the cell that an action touches, none for `let` and `need`
 abbrev pub cell_of : Action → Option (ℕ × Key)
 cell_of (Get table key) = Some (table, key)
-cell_of (SetCell table key value) = Some (table, key)
-cell_of (Add table key value) = Some (table, key)
-cell_of (Sub table key value) = Some (table, key)
+cell_of (Update update table key value) = Some (table, key)
 cell_of (Let left operator right) = None
 cell_of (Need left relation right) = None
 
 -- an action binds a name: `get` and `let` do
 abbrev pub binds : Action → Bool
 binds (Get table key) = true
-binds (SetCell table key value) = false
-binds (Add table key value) = false
-binds (Sub table key value) = false
+binds (Update update table key value) = false
 binds (Let left operator right) = true
 binds (Need left relation right) = false
 

@@ -4,11 +4,16 @@ use Rattle.lynx_names.specs.declared.limits.TheConstants.{MAX_ACTIONS, MAX_HOPS,
 use Rattle.lynx_shards.specs.declared.shard.Shard.{Shard}
 use Rattle.lynx_shards.specs.Ranges.{last_key, next_key}
 use Rattle.lynx_set.specs.declared.action.Action.{Action}
-use Rattle.lynx_set.specs.declared.action.Action.TheVariants.{Get, Set, Add, Sub, Let, Need}
+use Rattle.lynx_set.specs.declared.action.Action.TheVariants.{Get, Update, Let, Need}
+use Rattle.lynx_set.specs.declared.action.Update.{Update as TheUpdate}
+use Rattle.lynx_set.specs.declared.action.Update.TheVariants.{Max}
 use Rattle.lynx_set.specs.declared.action.Key.{Key}
 use Rattle.lynx_set.specs.declared.action.Key.TheVariants.{Literal, Param}
 use Rattle.lynx_set.specs.declared.action.Operand.{Operand}
 use Rattle.lynx_set.specs.declared.action.Operand.TheVariants.{Number, Name}
+use Rattle.lynx_set.specs.declared.program.ParameterRange.{ParameterRange}
+use Rattle.lynx_set.specs.declared.version.Version.{Version}
+use Rattle.lynx_set.specs.declared.version.Version.TheVariants.{Two}
 use Rattle.lynx_set.specs.Scopes.{scope_in}
 use Rattle.lynx_set.specs.Plain.{PlainHop, PlainProgram, PlainSet, plain_set}
 use Rattle.lynx_set.specs.Names.{place_of}
@@ -44,12 +49,15 @@ pub record FitsCell (scope : PlainScope) (table : ℕ) (key : Key) : Type 0 wher
   pub key_is : FitsKey scope.parameters key
   pub at_home : is_home scope.shards scope.server table key ≡ true
 
+-- the updates that a version has: `max` is of version 2, the others of both
+abbrev pub HasUpdate : Version → TheUpdate → Type 0
+HasUpdate version Max = version ≡ Two
+HasUpdate version update = Unit {0}
+
 -- what an action may say where it stands
 abbrev pub FitsAction : PlainScope → Action → Type 0
 FitsAction scope (Get table key) = FitsCell scope table key
-FitsAction scope (Set table key value) = FitsCell scope table key × FitsOperand (length scope.names) value
-FitsAction scope (Add table key value) = FitsCell scope table key × FitsOperand (length scope.names) value
-FitsAction scope (Sub table key value) = FitsCell scope table key × FitsOperand (length scope.names) value
+FitsAction scope (Update update table key value) = FitsCell scope table key × FitsOperand (length scope.names) value × HasUpdate scope.version update
 FitsAction scope (Let left operator right) = FitsOperand (length scope.names) left × FitsOperand (length scope.names) right
 FitsAction scope (Need left relation right) = (scope.is_first ≡ true) × FitsOperand (length scope.names) left × FitsOperand (length scope.names) right
 
@@ -57,9 +65,7 @@ FitsAction scope (Need left relation right) = (scope.is_first ≡ true) × FitsO
 abbrev pub BindsNew : PlainScope → Action → Option (List ℕ) → Type 0
 BindsNew scope (Get table key) (Some name) = IsNew scope.names name
 BindsNew scope (Let left operator right) (Some name) = IsNew scope.names name
-BindsNew scope (Set table key value) None = Unit {0}
-BindsNew scope (Add table key value) None = Unit {0}
-BindsNew scope (Sub table key value) None = Unit {0}
+BindsNew scope (Update update table key value) None = Unit {0}
 BindsNew scope (Need left relation right) None = Unit {0}
 BindsNew scope action binds = ⊥
 
@@ -89,14 +95,28 @@ FitHops set program (hop ∷ hops) after =
     (length program.hops < MAX_HOPS) × (hop.server < set.servers) × (0 < length hop.actions)
     × (names : List (List ℕ)) × FitActions (scope_in set hop.server program []) hop.actions names × FitHops set (with_hop program hop names) hops after
 
+-- ranges that can follow one another, of parameters from that one on: in order of the parameters, one for each at most
+abbrev pub FitRanges : ℕ → ℕ → List ParameterRange → Type 0
+FitRanges parameters first [] = Unit {0}
+FitRanges parameters first (range ∷ ranges) =
+    (first ≤ range.parameter) × (range.parameter < parameters) × (range.interval.low ≤ range.interval.high) × (range.interval.high < 2 ^ 64)
+    × FitRanges parameters (range.parameter + 1) ranges
+
+-- a version has ranges: version 2 does
+abbrev pub HasRanges : Version → List ParameterRange → Type 0
+HasRanges version [] = Unit {0}
+HasRanges version (range ∷ ranges) = version ≡ Two
+
 -- a program of the set: few parameters, a hop at least, and no name but those that it binds
 pub record FitsProgram (set : PlainSet) (program : PlainProgram) : Type 0 where
   pub parameters : List (List ℕ)
   pub few : length parameters ≤ MAX_PARAMETERS
   pub names : AreNew [] parameters
   pub count : program.parameters ≡ length parameters
+  pub ranges : FitRanges (length parameters) 0 program.ranges
+  pub has_ranges : HasRanges set.version program.ranges
   pub some : 0 < length program.hops
-  pub hops : FitHops set (record { parameters = length parameters; names = parameters; hops = [] }) program.hops program.names
+  pub hops : FitHops set (record { parameters = length parameters; names = parameters; ranges = program.ranges; hops = [] }) program.hops program.names
 
 abbrev pub with_program : PlainSet → List ℕ × PlainProgram → PlainSet
 with_program set program = record set { programs = set.programs ++ program ∷ [] }
@@ -124,8 +144,8 @@ FitTables set (name ∷ names) (shards ∷ tables) =
     (length set.tables < MAX_TABLES) × IsNew set.tables name × FitShards set.servers [] shards × FitTables (with_table set name shards) names tables
 FitTables set names tables = ⊥
 
-abbrev pub no_tables : ℕ → PlainSet
-no_tables servers = record { servers = servers; tables = []; shards = []; programs = [] }
+abbrev pub no_tables : Version → ℕ → PlainSet
+no_tables version servers = record { version = version; servers = servers; tables = []; shards = []; programs = [] }
 
 abbrev pub no_programs : PlainSet → PlainSet
 no_programs set = record set { programs = [] }
@@ -133,7 +153,7 @@ no_programs set = record set { programs = [] }
 -- a set that has a text, if this isn't too long: 1 or more servers, within the limit, tables and programs
 abbrev pub IsPlainSet : PlainSet → Type 0
 IsPlainSet set =
-    (1 ≤ set.servers) × (set.servers ≤ MAX_SERVERS) × FitTables (no_tables set.servers) set.tables set.shards × FitPrograms (no_programs set) set.programs
+    (1 ≤ set.servers) × (set.servers ≤ MAX_SERVERS) × FitTables (no_tables set.version set.servers) set.tables set.shards × FitPrograms (no_programs set) set.programs
 
 -- a set within all limits
 abbrev pub IsSet : ChainSet → Type 0

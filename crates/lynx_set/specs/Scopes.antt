@@ -5,10 +5,12 @@ use Rattle.lynx_shards.specs.Shards.{server_of}
 use Rattle.lynx_set.specs.declared.action.Action.{Action}
 use Rattle.lynx_set.specs.declared.action.Key.{Key}
 use Rattle.lynx_set.specs.declared.action.Key.TheVariants.{Literal, Param}
+use Rattle.lynx_set.specs.declared.version.Version.{Version}
 use Rattle.lynx_set.specs.Plain.{PlainProgram, PlainSet}
 
--- the names, tables and shards that an action has before it, and where it stands
+-- the version, names, tables and shards that an action has before it, and where it stands
 pub record PlainScope : Type 0 where
+  pub version : Version
   pub tables : List (List ℕ)
   pub shards : List (List Shard)
   pub parameters : ℕ
@@ -25,6 +27,7 @@ is_home shards server table (Param place) = true
 -- where the next action of a hop stands
 abbrev pub scope_in : PlainSet → ℕ → PlainProgram → List Action → PlainScope
 scope_in set server program actions = record {
+  version = set.version;
   tables = set.tables;
   shards = set.shards;
   parameters = program.parameters;

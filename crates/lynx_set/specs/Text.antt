@@ -2,7 +2,7 @@
 use Rattle.std.specs.Prelude.{ℕ, ◌+◌, List, [], ◌∷◌, ◌++◌, map, take, codes, decimal, unwrap_or, slice_get}
 use Rattle.lynx_shards.specs.declared.shard.Shard.{Shard}
 use Rattle.lynx_set.specs.declared.action.Action.{Action}
-use Rattle.lynx_set.specs.declared.action.Action.TheVariants.{Get, Set, Add, Sub, Let, Need}
+use Rattle.lynx_set.specs.declared.action.Action.TheVariants.{Get, Update, Let, Need}
 use Rattle.lynx_set.specs.declared.action.Key.{Key}
 use Rattle.lynx_set.specs.declared.action.Key.TheVariants.{Literal, Param}
 use Rattle.lynx_set.specs.declared.action.Operand.{Operand}
@@ -11,8 +11,14 @@ use Rattle.lynx_set.specs.declared.action.Operator.{Operator}
 use Rattle.lynx_set.specs.declared.action.Operator.TheVariants.{Plus, Minus}
 use Rattle.lynx_set.specs.declared.action.Relation.{Relation}
 use Rattle.lynx_set.specs.declared.action.Relation.TheVariants.{Below, AtMost, Same, Differs, AtLeast, Above}
+use Rattle.lynx_set.specs.declared.action.Update.{Update as TheUpdate}
+use Rattle.lynx_set.specs.declared.action.Update.TheVariants.{Set as SetTo, Add, Sub, Max}
 use Rattle.lynx_set.specs.declared.program.Hop.{Hop}
+use Rattle.lynx_set.specs.declared.interval.Interval.{Interval}
+use Rattle.lynx_set.specs.declared.program.ParameterRange.{ParameterRange}
 use Rattle.lynx_set.specs.declared.program.Program.{Program}
+use Rattle.lynx_set.specs.declared.version.Version.{Version}
+use Rattle.lynx_set.specs.declared.version.Version.TheVariants.{One, Two}
 use Rattle.lynx_set.specs.Set.{Set as ChainSet}
 use Rattle.lynx_words.specs.Lines.{line}
 
@@ -47,21 +53,23 @@ relation_word Differs = codes "!="
 relation_word AtLeast = codes ">="
 relation_word Above = codes ">"
 
+abbrev pub update_word : TheUpdate → List ℕ
+update_word SetTo = codes "set"
+update_word Add = codes "add"
+update_word Sub = codes "sub"
+update_word Max = codes "max"
+
 -- the words of an action, which binds the name at that place if it binds one
 abbrev pub action_words : List (List ℕ) → List (List ℕ) → ℕ → Action → List (List ℕ)
 action_words tables names place (Get table key) = codes "get" ∷ name_at names place ∷ name_at tables table ∷ key_word names key ∷ []
-action_words tables names place (Set table key value) = codes "set" ∷ name_at tables table ∷ key_word names key ∷ operand_word names value ∷ []
-action_words tables names place (Add table key value) = codes "add" ∷ name_at tables table ∷ key_word names key ∷ operand_word names value ∷ []
-action_words tables names place (Sub table key value) = codes "sub" ∷ name_at tables table ∷ key_word names key ∷ operand_word names value ∷ []
+action_words tables names place (Update update table key value) = update_word update ∷ name_at tables table ∷ key_word names key ∷ operand_word names value ∷ []
 action_words tables names place (Let left operator right) = codes "let" ∷ name_at names place ∷ operand_word names left ∷ operator_word operator ∷ operand_word names right ∷ []
 action_words tables names place (Need left relation right) = codes "need" ∷ operand_word names left ∷ relation_word relation ∷ operand_word names right ∷ []
 
 -- how many names an action binds
 abbrev pub bound_names : Action → ℕ
 bound_names (Get table key) = 1
-bound_names (Set table key value) = 0
-bound_names (Add table key value) = 0
-bound_names (Sub table key value) = 0
+bound_names (Update update table key value) = 0
 bound_names (Let left operator right) = 1
 bound_names (Need left relation right) = 0
 
@@ -90,10 +98,18 @@ hops_lines tables names place (hop ∷ hops) =
 abbrev pub program_words : List ℕ → Program → List (List ℕ)
 program_words name program = codes "program" ∷ name ∷ take program.parameters program.names
 
+-- an interval, its least number first
+abbrev pub interval_word : Interval → List ℕ
+interval_word interval = decimal interval.low ++ codes ".." ++ decimal interval.high
+
+-- the words of a range, where the program has these names
+abbrev pub range_words : List (List ℕ) → ParameterRange → List (List ℕ)
+range_words names range = codes "range" ∷ name_at names range.parameter ∷ interval_word range.interval ∷ []
+
 -- the lines of a program under its name
 abbrev pub program_lines : List (List ℕ) → List ℕ × Program → List (List (List ℕ))
 program_lines tables (name, program) =
-    program_words name program ∷ hops_lines tables program.names program.parameters program.hops ++ (codes "end" ∷ []) ∷ []
+    program_words name program ∷ map (range_words program.names) program.ranges ++ hops_lines tables program.names program.parameters program.hops ++ (codes "end" ∷ []) ∷ []
 
 -- the lines of programs
 abbrev pub programs_lines : List (List ℕ) → List (List ℕ × Program) → List (List (List ℕ))
@@ -113,13 +129,20 @@ tables_lines [] tables = []
 tables_lines (name ∷ names) [] = []
 tables_lines (name ∷ names) (shards ∷ tables) = table_lines name shards ++ tables_lines names tables
 
+abbrev pub version_word : Version → List ℕ
+version_word One = codes "1"
+version_word Two = codes "2"
+
+abbrev pub version_words : Version → List (List ℕ)
+version_words version = codes "lynx" ∷ version_word version ∷ []
+
 -- the version, and how many servers there are
-abbrev pub head_lines : ℕ → List (List (List ℕ))
-head_lines servers = (codes "lynx" ∷ codes "1" ∷ []) ∷ (codes "servers" ∷ decimal servers ∷ []) ∷ []
+abbrev pub head_lines : Version → ℕ → List (List (List ℕ))
+head_lines version servers = version_words version ∷ (codes "servers" ∷ decimal servers ∷ []) ∷ []
 
 -- the lines of a set
 abbrev pub set_lines : ChainSet → List (List (List ℕ))
-set_lines set = head_lines set.servers ++ tables_lines set.tables set.shards ++ programs_lines set.tables set.programs
+set_lines set = head_lines set.version set.servers ++ tables_lines set.tables set.shards ++ programs_lines set.tables set.programs
 
 -- the text of a set
 abbrev pub text_of : ChainSet → List ℕ

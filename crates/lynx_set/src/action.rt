@@ -36,6 +36,16 @@ pub enum Relation {
     Above,
 }
 
+/// What changes a cell: `set` to the value, `add` and `sub` by it, modulo 2^64, `max` to the value where that is
+/// greater. `max` is of version 2.
+#[derive(Clone, Copy, Debug, PartialEq, Eq)]
+pub enum Update {
+    Set,
+    Add,
+    Sub,
+    Max,
+}
+
 /// One line of a hop. `Get` and `Let` bind the next name.
 #[derive(Clone, Copy, Debug, PartialEq, Eq)]
 pub enum Action {
@@ -43,17 +53,8 @@ pub enum Action {
         table: TableId,
         key: Key,
     },
-    Set {
-        table: TableId,
-        key: Key,
-        value: Operand,
-    },
-    Add {
-        table: TableId,
-        key: Key,
-        value: Operand,
-    },
-    Sub {
+    Update {
+        update: Update,
         table: TableId,
         key: Key,
         value: Operand,
@@ -76,10 +77,7 @@ impl Action {
         ensures { result ≡ cell_of self.now }
     {
         match *self {
-            Action::Get { table, key }
-            | Action::Set { table, key, .. }
-            | Action::Add { table, key, .. }
-            | Action::Sub { table, key, .. } => Some((table, key)),
+            Action::Get { table, key } | Action::Update { table, key, .. } => Some((table, key)),
             Action::Let { .. } | Action::Need { .. } => None,
         }
     }

@@ -3,9 +3,16 @@ ghost use Rattle.std.specs.Prelude.{◌≡◌, ◌↔◌, IsTrue};
 
 use crate::program::Program;
 use crate::set::ChainSet;
+use crate::version::Version;
 use indexmap::{IndexMap, IndexSet};
 use lynx_shards::ShardMap;
 use lynx_words::Name;
+
+fn same_versions(left: Version, right: Version) -> bool
+    ensures { IsTrue result ↔ (left ≡ right) }
+{
+    left == right
+}
 
 fn same_tables(left: &IndexSet<Name>, right: &IndexSet<Name>) -> bool
     ensures { IsTrue result ↔ (left.now.keys ≡ right.now.keys) }
@@ -26,12 +33,13 @@ fn same_programs(left: &IndexMap<Name, Program>, right: &IndexMap<Name, Program>
 }
 
 impl ChainSet {
-    /// Whether both sets have the same servers, tables, shards and programs, in one order and under the same names.
+    /// Whether both sets have the same version, servers, tables, shards and programs, in one order and under the same names.
     /// The work is a walk over both. Takes no memory.
     pub fn is_same(&self, other: &ChainSet) -> bool
         ensures { IsTrue result ↔ (self.now ≡ other.now) }
     {
-        self.servers() == other.servers()
+        same_versions(self.version(), other.version())
+            && self.servers() == other.servers()
             && same_tables(self.tables(), other.tables())
             && same_shards(self.shards(), other.shards())
             && same_programs(self.programs(), other.programs())

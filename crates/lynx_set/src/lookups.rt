@@ -1,17 +1,27 @@
 //! What a set says of its programs and tables, by their numbers. None of it takes memory.
-use crate::program::Hop;
+use crate::program::{Hop, ParameterRange};
 use crate::set::ChainSet;
 use lynx_names::{ProgramId, ServerId, TableId};
 
 impl ChainSet {
     ghost use Rattle.std.specs.Prelude.{◌≡◌, ◌<◌, ◌↔◌, IsTrue, option_copied};
-    ghost use Rattle.lynx_set.specs.Lookups.{hop_at, hops_of, origin_of, program_name, table_name};
+    ghost use Rattle.lynx_set.specs.Lookups.{hop_at, hops_of, origin_of, program_name, ranges_of, table_name};
 
     /// The server is one of the set's.
     pub fn has_server(&self, server: ServerId) -> bool
         ensures { IsTrue result ↔ (server < self.now.servers) }
     {
         server.number() < self.servers()
+    }
+
+    /// The ranges of a program's parameters, none where the set hasn't the program.
+    pub fn ranges(&self, program: ProgramId) -> &[ParameterRange]
+        ensures { result.now ≡ ranges_of self.now program }
+    {
+        match self.program(program) {
+            Some(program) => program.ranges.as_slice(),
+            None => &[],
+        }
     }
 
     /// The hops of a program, none where the set hasn't it.

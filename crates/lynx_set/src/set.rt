@@ -6,6 +6,7 @@ ghost use Rattle.lynx_set.specs.Lookups.{program_at, program_names};
 ghost use Rattle.lynx_set.specs.Names.{place_of, place_below};
 
 use crate::program::Program;
+use crate::version::Version;
 use indexmap::{IndexMap, IndexSet};
 use lynx_names::limits::{MAX_PROGRAMS, MAX_TABLES};
 use lynx_names::{Memory, ProgramId, TableId, TryCopy};
@@ -17,6 +18,7 @@ use std::marker::Model;
 /// A set of chain programs over the tables of some servers.
 #[derive(Debug, Drop)]
 pub struct ChainSet {
+    version: Version,
     servers: u8,
     tables: IndexSet<Name>,
     shards: ShardMap,
@@ -29,6 +31,7 @@ impl Model for ChainSet {
     ghost Value = { Set };
 
     ghost view = { λ set. record {
+      version = set.version;
       servers = set.servers;
       tables = set.tables.keys;
       shards = set.shards;
@@ -45,17 +48,38 @@ impl Model for ChainSet {
 }
 
 impl ChainSet {
-    /// The set of so many servers without tables and programs. It takes no memory.
-    pub fn new(alloc: Global, servers: u8) -> ChainSet
+    /// The set of that version and so many servers without tables and programs. It takes no memory.
+    pub fn new(alloc: Global, version: Version, servers: u8) -> ChainSet
         requires { servers ≤ MAX_SERVERS }
-        ensures { result ≡ record { servers = servers; tables = []; shards = []; programs = [] } }
+        ensures { result ≡ record {
+          version = version;
+          servers = servers;
+          tables = [];
+          shards = [];
+          programs = [];
+        } }
     {
         ChainSet {
+            version,
             servers,
             tables: IndexSet::new(alloc),
             shards: ShardMap::new(alloc),
             programs: IndexMap::new(alloc),
         }
+    }
+
+    /// The version of its text.
+    pub fn version(&self) -> Version
+        ensures { result ≡ self.now.version }
+    {
+        self.version
+    }
+
+    /// The same set with that version.
+    pub(crate) fn at_version(self, version: Version) -> ChainSet
+        ensures { result ≡ record self { version = version } }
+    {
+        ChainSet { version, ..self }
     }
 
     /// How many servers there are, from 1 to 16.
@@ -168,6 +192,7 @@ impl ChainSet {
 impl TryCopy for ChainSet {
     fn copy(&self, alloc: Global) -> Result<ChainSet, Memory> {
         Ok(ChainSet {
+            version: self.version,
             servers: self.servers,
             tables: copy_names(alloc, &self.tables)?,
             shards: self.shards.copy(alloc)?,

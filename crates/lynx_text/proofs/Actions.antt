@@ -1,10 +1,14 @@
 -- Lines of actions: what is read is spelled so.
 use Rattle.std.proofs.Common.{◌≡◌, inl, inr, ℕ, ◌<◌, true, cond, ltb, List, [], ◌∷◌, ◌++◌, length, Option, Some, None, is_none, refl, sym, ap, subst, ◌∙◌}
-use Rattle.std.specs.Prelude.{option_map, codes}
+use Rattle.std.specs.Prelude.{codes}
 use Rattle.std.specs.Str.{bytes_eq}
 use Rattle.std.proofs.lemmas.Bool.{ltb-true}
 use Rattle.std.proofs.lemmas.Slice.Eq.{bytes_eq-Decides}
-use Rattle.lynx_set.specs.declared.action.Action.TheVariants.{Get, Set, Add, Sub, Let, Need}
+use Rattle.lynx_set.specs.declared.action.Action.TheVariants.{Get, Update, Let, Need}
+use Rattle.lynx_set.specs.declared.action.Update.{Update as TheUpdate}
+use Rattle.lynx_set.specs.declared.action.Update.TheVariants.{Set as SetTo, Add, Sub, Max}
+use Rattle.lynx_set.specs.declared.version.Version.{Version}
+use Rattle.lynx_set.specs.declared.version.Version.TheVariants.{One, Two}
 use Rattle.lynx_set.specs.declared.action.Key.{Key}
 use Rattle.lynx_set.specs.declared.action.Operand.{Operand}
 use Rattle.lynx_set.specs.declared.action.Operator.{Operator}
@@ -14,12 +18,12 @@ use Rattle.lynx_set.specs.declared.action.Relation.TheVariants.{Below, AtMost, S
 use Rattle.lynx_text.specs.declared.action_line.ActionLine.{ActionLine}
 use Rattle.lynx_words.specs.Lines.{◌>>=◌, only_if}
 use Rattle.lynx_words.specs.Word.{is_name}
-use Rattle.lynx_set.specs.Rules.{IsNew, FitsKey, FitsOperand, FitsAction, BindsNew, bound}
+use Rattle.lynx_set.specs.Rules.{IsNew, FitsKey, FitsOperand, FitsAction, HasUpdate, BindsNew, bound}
 use Rattle.lynx_set.specs.Names.{place_of}
 use Rattle.lynx_set.specs.Scopes.{PlainScope, is_home}
-use Rattle.lynx_text.specs.Reading.{name_of, new_name, table_of, read_key, operand_of, room, home, binding, plain, changing, operator_of, relation_of, get_of, change_of, let_of, need_of, action_of}
-use Rattle.lynx_set.specs.Text.{name_at, key_word, operand_word, operator_word, relation_word, action_words}
-use Rattle.lynx_text.proofs.Lookups.{bind_some, only_if_some, map_some, choose, name_at-next, table_take, key_take, operand_take}
+use Rattle.lynx_text.specs.Reading.{name_of, new_name, table_of, read_key, operand_of, room, home, binding, plain, changing, operator_of, relation_of, get_of, change_of, let_of, need_of, max_in, update_named, update_of, action_of}
+use Rattle.lynx_set.specs.Text.{name_at, key_word, operand_word, operator_word, relation_word, update_word, action_words}
+use Rattle.lynx_text.proofs.Lookups.{bind_some, only_if_some, choose, name_at-next, table_take, key_take, operand_take}
 use Rattle.lynx_words.proofs.Equal.{some_is, none_some}
 
 -- a line that can stand there, and its words, whatever names come after
@@ -189,37 +193,44 @@ change_take scope (table ∷ key ∷ value ∷ []) line e =
           ∙ ap (λ (w : List ℕ). name_at scope.tables s_t.0 ∷ key_word (scope.names ++ more) s_k.0 ∷ w ∷ []) (operand_take scope.names more value s_v.0 s_v.1).1;
     })
 
-set_take : (scope : PlainScope) (words : List (List ℕ)) (line : ActionLine) → option_map (changing Set) (change_of scope words) ≡ Some line → IsLineAfter (codes "set") scope line words
-set_take scope words line e =
-    let read = map_some (changing Set) (change_of scope words) line e in
-    let change = change_take scope words read.0 read.1 in
-    subst (λ (l : ActionLine). IsLine scope l (codes "set" ∷ words)) read.2 (record {
-      room = change.room;
-      fits = (record { table_is = change.table; numbered = change.numbered; key_is = change.key; at_home = change.home }, change.value);
-      binds = tt;
-      spelled = λ more. ap (λ (ws : List (List ℕ)). codes "set" ∷ ws) (change.spelled more);
-    })
+-- an update of the version, spelled so
+record IsNamed (version : Version) (word : List ℕ) (update : TheUpdate) : Type 0 where
+  has : HasUpdate version update
+  spelled : word ≡ update_word update
 
-add_take : (scope : PlainScope) (words : List (List ℕ)) (line : ActionLine) → option_map (changing Add) (change_of scope words) ≡ Some line → IsLineAfter (codes "add") scope line words
-add_take scope words line e =
-    let read = map_some (changing Add) (change_of scope words) line e in
-    let change = change_take scope words read.0 read.1 in
-    subst (λ (l : ActionLine). IsLine scope l (codes "add" ∷ words)) read.2 (record {
-      room = change.room;
-      fits = (record { table_is = change.table; numbered = change.numbered; key_is = change.key; at_home = change.home }, change.value);
-      binds = tt;
-      spelled = λ more. ap (λ (ws : List (List ℕ)). codes "add" ∷ ws) (change.spelled more);
-    })
+max_take : (version : Version) (word : List ℕ) (update : TheUpdate) → word ≡ codes "max" → max_in version ≡ Some update → IsNamed version word update
+max_take One word update is e = absurd (none_some e)
+max_take Two word update is e = subst (IsNamed Two word) (some_is Max update e) (record { has = refl; spelled = is })
 
-sub_take : (scope : PlainScope) (words : List (List ℕ)) (line : ActionLine) → option_map (changing Sub) (change_of scope words) ≡ Some line → IsLineAfter (codes "sub") scope line words
-sub_take scope words line e =
-    let read = map_some (changing Sub) (change_of scope words) line e in
+named_take : (version : Version) (word : List ℕ) (update : TheUpdate) → update_named version word ≡ Some update → IsNamed version word update
+unfolding update_named
+named_take version word update e =
+    elim (choose (bytes_eq word (codes "set")) (Some SetTo) (cond (bytes_eq word (codes "add")) (Some Add) (cond (bytes_eq word (codes "sub")) (Some Sub) (cond (bytes_eq word (codes "max")) (max_in version) None))) (Some update) e) [
+      | inl p ↦ subst (IsNamed version word) (some_is SetTo update p.1) (record { has = tt; spelled = (bytes_eq-Decides word (codes "set")).0 p.0 })
+      | inr p ↦ elim (choose (bytes_eq word (codes "add")) (Some Add) (cond (bytes_eq word (codes "sub")) (Some Sub) (cond (bytes_eq word (codes "max")) (max_in version) None)) (Some update) p.1) [
+        | inl q ↦ subst (IsNamed version word) (some_is Add update q.1) (record { has = tt; spelled = (bytes_eq-Decides word (codes "add")).0 q.0 })
+        | inr q ↦ elim (choose (bytes_eq word (codes "sub")) (Some Sub) (cond (bytes_eq word (codes "max")) (max_in version) None) (Some update) q.1) [
+          | inl r ↦ subst (IsNamed version word) (some_is Sub update r.1) (record { has = tt; spelled = (bytes_eq-Decides word (codes "sub")).0 r.0 })
+          | inr r ↦ elim (choose (bytes_eq word (codes "max")) (max_in version) None (Some update) r.1) [
+            | inl m ↦ max_take version word update ((bytes_eq-Decides word (codes "max")).0 m.0) m.1
+            | inr m ↦ absurd (none_some m.1)
+          ]
+        ]
+      ]
+    ]
+
+update_take : (scope : PlainScope) (verb : List ℕ) (words : List (List ℕ)) (line : ActionLine) → update_of scope verb words ≡ Some line → IsLine scope line (verb ∷ words)
+unfolding update_of
+update_take scope verb words line e =
+    let named = bind_some (update_named scope.version verb) (λ update. change_of scope words >>= λ change. Some (changing update change)) line e in
+    let read = bind_some (change_of scope words) (λ change. Some (changing named.0 change)) line named.2 in
     let change = change_take scope words read.0 read.1 in
-    subst (λ (l : ActionLine). IsLine scope l (codes "sub" ∷ words)) read.2 (record {
+    let is = named_take scope.version verb named.0 named.1 in
+    subst (λ (l : ActionLine). IsLine scope l (verb ∷ words)) (some_is (changing named.0 read.0) line read.2) (record {
       room = change.room;
-      fits = (record { table_is = change.table; numbered = change.numbered; key_is = change.key; at_home = change.home }, change.value);
+      fits = (record { table_is = change.table; numbered = change.numbered; key_is = change.key; at_home = change.home }, change.value, is.has);
       binds = tt;
-      spelled = λ more. ap (λ (ws : List (List ℕ)). codes "sub" ∷ ws) (change.spelled more);
+      spelled = λ more. ap (λ (w : List ℕ). w ∷ words) is.spelled ∙ ap (λ (ws : List (List ℕ)). update_word named.0 ∷ ws) (change.spelled more);
     })
 
 -- an action that is read is spelled so
@@ -227,22 +238,13 @@ pub action_take : (scope : PlainScope) (words : List (List ℕ)) (line : ActionL
 unfolding action_of
 action_take scope [] line e = absurd cc
 action_take scope (verb ∷ words) line e =
-    elim (choose (bytes_eq verb (codes "get")) (get_of scope words) (cond (bytes_eq verb (codes "set")) (option_map (changing Set) (change_of scope words)) (cond (bytes_eq verb (codes "add")) (option_map (changing Add) (change_of scope words)) (cond (bytes_eq verb (codes "sub")) (option_map (changing Sub) (change_of scope words)) (cond (bytes_eq verb (codes "let")) (let_of scope words) (cond (bytes_eq verb (codes "need")) (need_of scope words) None))))) (Some line) e) [
+    elim (choose (bytes_eq verb (codes "get")) (get_of scope words) (cond (bytes_eq verb (codes "let")) (let_of scope words) (cond (bytes_eq verb (codes "need")) (need_of scope words) (update_of scope verb words))) (Some line) e) [
       | inl p0 ↦ subst (λ (v : List ℕ). IsLine scope line (v ∷ words)) (sym ((bytes_eq-Decides verb (codes "get")).0 p0.0)) (get_take scope words line p0.1)
-      | inr p0 ↦ elim (choose (bytes_eq verb (codes "set")) (option_map (changing Set) (change_of scope words)) (cond (bytes_eq verb (codes "add")) (option_map (changing Add) (change_of scope words)) (cond (bytes_eq verb (codes "sub")) (option_map (changing Sub) (change_of scope words)) (cond (bytes_eq verb (codes "let")) (let_of scope words) (cond (bytes_eq verb (codes "need")) (need_of scope words) None)))) (Some line) p0.1) [
-        | inl p1 ↦ subst (λ (v : List ℕ). IsLine scope line (v ∷ words)) (sym ((bytes_eq-Decides verb (codes "set")).0 p1.0)) (set_take scope words line p1.1)
-        | inr p1 ↦ elim (choose (bytes_eq verb (codes "add")) (option_map (changing Add) (change_of scope words)) (cond (bytes_eq verb (codes "sub")) (option_map (changing Sub) (change_of scope words)) (cond (bytes_eq verb (codes "let")) (let_of scope words) (cond (bytes_eq verb (codes "need")) (need_of scope words) None))) (Some line) p1.1) [
-          | inl p2 ↦ subst (λ (v : List ℕ). IsLine scope line (v ∷ words)) (sym ((bytes_eq-Decides verb (codes "add")).0 p2.0)) (add_take scope words line p2.1)
-          | inr p2 ↦ elim (choose (bytes_eq verb (codes "sub")) (option_map (changing Sub) (change_of scope words)) (cond (bytes_eq verb (codes "let")) (let_of scope words) (cond (bytes_eq verb (codes "need")) (need_of scope words) None)) (Some line) p2.1) [
-            | inl p3 ↦ subst (λ (v : List ℕ). IsLine scope line (v ∷ words)) (sym ((bytes_eq-Decides verb (codes "sub")).0 p3.0)) (sub_take scope words line p3.1)
-            | inr p3 ↦ elim (choose (bytes_eq verb (codes "let")) (let_of scope words) (cond (bytes_eq verb (codes "need")) (need_of scope words) None) (Some line) p3.1) [
-              | inl p4 ↦ subst (λ (v : List ℕ). IsLine scope line (v ∷ words)) (sym ((bytes_eq-Decides verb (codes "let")).0 p4.0)) (let_take scope words line p4.1)
-              | inr p4 ↦ elim (choose (bytes_eq verb (codes "need")) (need_of scope words) None (Some line) p4.1) [
-                | inl p5 ↦ subst (λ (v : List ℕ). IsLine scope line (v ∷ words)) (sym ((bytes_eq-Decides verb (codes "need")).0 p5.0)) (need_take scope words line p5.1)
-                | inr p5 ↦ absurd (none_some p5.1)
-              ]
-            ]
-          ]
+      | inr p0 ↦ elim (choose (bytes_eq verb (codes "let")) (let_of scope words) (cond (bytes_eq verb (codes "need")) (need_of scope words) (update_of scope verb words)) (Some line) p0.1) [
+        | inl p1 ↦ subst (λ (v : List ℕ). IsLine scope line (v ∷ words)) (sym ((bytes_eq-Decides verb (codes "let")).0 p1.0)) (let_take scope words line p1.1)
+        | inr p1 ↦ elim (choose (bytes_eq verb (codes "need")) (need_of scope words) (update_of scope verb words) (Some line) p1.1) [
+          | inl p2 ↦ subst (λ (v : List ℕ). IsLine scope line (v ∷ words)) (sym ((bytes_eq-Decides verb (codes "need")).0 p2.0)) (need_take scope words line p2.1)
+          | inr p2 ↦ update_take scope verb words line p2.1
         ]
       ]
     ]

@@ -1,10 +1,14 @@
 -- Lines of actions: what is spelled so is read.
 use Rattle.std.proofs.Common.{◌≡◌, ℕ, ◌<◌, ◌≤◌, true, ltb, List, [], ◌∷◌, ◌++◌, length, Option, Some, None, refl, ap, ◌∙◌, arith}
-use Rattle.std.specs.Prelude.{option_map, codes}
+use Rattle.std.specs.Prelude.{codes}
 use Rattle.std.specs.List.{list_all}
 use Rattle.std.proofs.lemmas.Bool.{lt-ltb}
 use Rattle.lynx_set.specs.declared.action.Action.{Action}
-use Rattle.lynx_set.specs.declared.action.Action.TheVariants.{Get, Set, Add, Sub, Let, Need}
+use Rattle.lynx_set.specs.declared.action.Action.TheVariants.{Get, Update, Let, Need}
+use Rattle.lynx_set.specs.declared.action.Update.{Update as TheUpdate}
+use Rattle.lynx_set.specs.declared.action.Update.TheVariants.{Set as SetTo, Add, Sub, Max}
+use Rattle.lynx_set.specs.declared.version.Version.{Version}
+use Rattle.lynx_set.specs.declared.version.Version.TheVariants.{Two}
 use Rattle.lynx_set.specs.declared.action.Key.{Key}
 use Rattle.lynx_set.specs.declared.action.Operand.{Operand}
 use Rattle.lynx_set.specs.declared.action.Operator.{Operator}
@@ -14,9 +18,9 @@ use Rattle.lynx_set.specs.declared.action.Relation.TheVariants.{Below, AtMost, S
 use Rattle.lynx_text.specs.declared.action_line.ActionLine.{ActionLine}
 use Rattle.lynx_words.specs.Lines.{◌>>=◌, is_word, AreWords, only_if}
 use Rattle.lynx_set.specs.Scopes.{PlainScope, is_home}
-use Rattle.lynx_text.specs.Reading.{new_name, table_of, read_key, operand_of, room, home, binding, plain, changing, operator_of, relation_of, get_of, change_of, let_of, need_of, action_of}
-use Rattle.lynx_set.specs.Rules.{IsNew, FitsOperand, FitsCell, FitsAction, BindsNew, bound}
-use Rattle.lynx_set.specs.Text.{name_at, key_word, operand_word, operator_word, relation_word, action_words}
+use Rattle.lynx_text.specs.Reading.{new_name, table_of, read_key, operand_of, room, home, binding, plain, changing, operator_of, relation_of, get_of, change_of, let_of, need_of, max_in, update_named, update_of, action_of}
+use Rattle.lynx_set.specs.Rules.{IsNew, FitsOperand, FitsCell, FitsAction, HasUpdate, BindsNew, bound}
+use Rattle.lynx_set.specs.Text.{name_at, key_word, operand_word, operator_word, relation_word, update_word, action_words}
 use Rattle.lynx_words.proofs.WordLaws.{both_true, name-word}
 use Rattle.lynx_text.proofs.Lookups.{name_at-next}
 use Rattle.lynx_text.proofs.Known.{bind_is, only_if_yes, Known, new_again, table_again, key_again, operand_again}
@@ -133,38 +137,43 @@ change_again scope table key value more open_ free cell fits =
           (refl))),
     )
 
-set_again : (scope : PlainScope) (table : ℕ) (key : Key) (value : Operand) (more : List (List ℕ)) → IsOpen scope → scope.actions < 16 → FitsCell scope table key → FitsOperand (length scope.names) value
-    → IsRead scope (plain (Set table key value)) (action_words scope.tables (scope.names ++ more) (length scope.names) (Set table key value))
-unfolding action_of
-set_again scope table key value more open_ free cell fits =
-    let change = change_again scope table key value more open_ free cell fits in
-    record { read = ap (option_map (changing Set)) change.0; are = (omega arith, change.1) }
+named_again : (version : Version) (update : TheUpdate) → HasUpdate version update → (update_named version (update_word update) ≡ Some update) × (is_word (update_word update) ≡ true)
+unfolding update_named
+named_again version SetTo has = (refl, refl)
+named_again version Add has = (refl, refl)
+named_again version Sub has = (refl, refl)
+named_again version Max has = (ap max_in has, refl)
 
-add_again : (scope : PlainScope) (table : ℕ) (key : Key) (value : Operand) (more : List (List ℕ)) → IsOpen scope → scope.actions < 16 → FitsCell scope table key → FitsOperand (length scope.names) value
-    → IsRead scope (plain (Add table key value)) (action_words scope.tables (scope.names ++ more) (length scope.names) (Add table key value))
+-- the line of an update is read as one
+read_as_update : (scope : PlainScope) (update : TheUpdate) (words : List (List ℕ)) → action_of scope (update_word update ∷ words) ≡ update_of scope (update_word update) words
 unfolding action_of
-add_again scope table key value more open_ free cell fits =
-    let change = change_again scope table key value more open_ free cell fits in
-    record { read = ap (option_map (changing Add)) change.0; are = (omega arith, change.1) }
+read_as_update scope SetTo words = refl
+read_as_update scope Add words = refl
+read_as_update scope Sub words = refl
+read_as_update scope Max words = refl
 
-sub_again : (scope : PlainScope) (table : ℕ) (key : Key) (value : Operand) (more : List (List ℕ)) → IsOpen scope → scope.actions < 16 → FitsCell scope table key → FitsOperand (length scope.names) value
-    → IsRead scope (plain (Sub table key value)) (action_words scope.tables (scope.names ++ more) (length scope.names) (Sub table key value))
-unfolding action_of
-sub_again scope table key value more open_ free cell fits =
+update_again : (scope : PlainScope) (update : TheUpdate) (table : ℕ) (key : Key) (value : Operand) (more : List (List ℕ)) → IsOpen scope → scope.actions < 16 → FitsCell scope table key → FitsOperand (length scope.names) value → HasUpdate scope.version update
+    → IsRead scope (plain (Update update table key value)) (action_words scope.tables (scope.names ++ more) (length scope.names) (Update update table key value))
+unfolding update_of
+update_again scope update table key value more open_ free cell fits has =
+    let names : List (List ℕ) = scope.names ++ more in
+    let words : List (List ℕ) = name_at scope.tables table ∷ key_word names key ∷ operand_word names value ∷ [] in
     let change = change_again scope table key value more open_ free cell fits in
-    record { read = ap (option_map (changing Sub)) change.0; are = (omega arith, change.1) }
+    let named = named_again scope.version update has in
+    record {
+      read = read_as_update scope update words
+          ∙ bind_is (update_named scope.version (update_word update)) (λ u. change_of scope words >>= λ c. Some (changing u c)) update (Some (plain (Update update table key value))) named.0
+          (bind_is (change_of scope words) (λ c. Some (changing update c)) (table, key, value) (Some (plain (Update update table key value))) change.0 refl);
+      are = (omega arith, both_true (is_word (update_word update)) (list_all is_word words) named.1 change.1);
+    }
 
 -- an action that fits is read again
 pub action_again : (scope : PlainScope) (action : Action) (binds : Option (List ℕ)) (more : List (List ℕ)) → IsOpen scope → scope.actions < 16 → FitsAction scope action → BindsNew scope action binds
     → IsRead scope (record { action = action; binds = binds }) (action_words scope.tables (scope.names ++ (bound binds ++ more)) (length scope.names) action)
 action_again scope (Get table key) None more open_ free fits new = absurd new
 action_again scope (Get table key) (Some name) more open_ free fits new = get_again scope name table key more open_ free fits new
-action_again scope (Set table key value) None more open_ free fits new = set_again scope table key value more open_ free fits.0 fits.1
-action_again scope (Set table key value) (Some name) more open_ free fits new = absurd new
-action_again scope (Add table key value) None more open_ free fits new = add_again scope table key value more open_ free fits.0 fits.1
-action_again scope (Add table key value) (Some name) more open_ free fits new = absurd new
-action_again scope (Sub table key value) None more open_ free fits new = sub_again scope table key value more open_ free fits.0 fits.1
-action_again scope (Sub table key value) (Some name) more open_ free fits new = absurd new
+action_again scope (Update update table key value) None more open_ free fits new = update_again scope update table key value more open_ free fits.0 fits.1 fits.2
+action_again scope (Update update table key value) (Some name) more open_ free fits new = absurd new
 action_again scope (Let left operator right) None more open_ free fits new = absurd new
 action_again scope (Let left operator right) (Some name) more open_ free fits new = let_again scope name left operator right more open_ free fits new
 action_again scope (Need left relation right) None more open_ free fits new = need_again scope left relation right more open_ free fits

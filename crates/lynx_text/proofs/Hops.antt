@@ -6,7 +6,7 @@ use Rattle.std.proofs.lemmas.Bool.{ltb-true}
 use Rattle.std.proofs.lemmas.List.{append-nil, length-append, length_push, map-append}
 use Rattle.std.proofs.lemmas.Slice.Eq.{bytes_eq-Decides}
 use Rattle.lynx_set.specs.declared.action.Action.{Action}
-use Rattle.lynx_set.specs.declared.action.Action.TheVariants.{Get, Set, Add, Sub, Let, Need}
+use Rattle.lynx_set.specs.declared.action.Action.TheVariants.{Get, Update, Let, Need}
 use Rattle.lynx_text.specs.declared.action_line.ActionLine.{ActionLine}
 use Rattle.lynx_words.specs.Digits.{read_number}
 use Rattle.lynx_words.specs.Lines.{◌>>=◌, words_in, AreWords, only_if, joined}
@@ -63,12 +63,8 @@ none_read scope lines = record { fit = refl; more = []; grown = sym (append-nil 
 pub binds-count : (scope : PlainScope) (action : Action) (binds : Option (List ℕ)) → BindsNew scope action binds → length (bound binds) ≡ bound_names action
 binds-count scope (Get table key) None h = absurd h
 binds-count scope (Get table key) (Some name) h = refl
-binds-count scope (Set table key value) None h = refl
-binds-count scope (Set table key value) (Some name) h = absurd h
-binds-count scope (Add table key value) None h = refl
-binds-count scope (Add table key value) (Some name) h = absurd h
-binds-count scope (Sub table key value) None h = refl
-binds-count scope (Sub table key value) (Some name) h = absurd h
+binds-count scope (Update update table key value) None h = refl
+binds-count scope (Update update table key value) (Some name) h = absurd h
 binds-count scope (Let left operator right) None h = absurd h
 binds-count scope (Let left operator right) (Some name) h = refl
 binds-count scope (Need left relation right) None h = refl
@@ -98,10 +94,10 @@ one_read scope line words lines mid added after rest is next read =
 pub scope_next : (set : PlainSet) (server : ℕ) (program : PlainProgram) (actions : List Action) (action : Action) (binds : Option (List ℕ))
     → scope_in set server (with_name program binds) (actions ++ action ∷ []) ≡ next_scope (scope_in set server program actions) binds
 scope_next set server program actions action None =
-    let mk : List (List ℕ) → ℕ → PlainScope = λ ns n. record { tables = set.tables; shards = set.shards; parameters = program.parameters; names = ns; is_first = length program.hops == 0; server = server; actions = n } in
+    let mk : List (List ℕ) → ℕ → PlainScope = λ ns n. record { version = set.version; tables = set.tables; shards = set.shards; parameters = program.parameters; names = ns; is_first = length program.hops == 0; server = server; actions = n } in
     ap (λ (ns : List (List ℕ)). mk ns (length (actions ++ action ∷ []))) (sym (append-nil program.names)) ∙ ap (mk (program.names ++ [])) (length_push actions action)
 scope_next set server program actions action (Some name) =
-    let mk : List (List ℕ) → ℕ → PlainScope = λ ns n. record { tables = set.tables; shards = set.shards; parameters = program.parameters; names = ns; is_first = length program.hops == 0; server = server; actions = n } in
+    let mk : List (List ℕ) → ℕ → PlainScope = λ ns n. record { version = set.version; tables = set.tables; shards = set.shards; parameters = program.parameters; names = ns; is_first = length program.hops == 0; server = server; actions = n } in
     ap (mk (program.names ++ name ∷ [])) (length_push actions action)
 
 -- what an action's line leaves

@@ -4,7 +4,9 @@ use Rattle.std.specs.Prelude.{codes}
 use Rattle.std.specs.Str.{bytes_eq}
 use Rattle.std.proofs.lemmas.List.{append-nil, length-append}
 use Rattle.lynx_set.specs.declared.action.Action.{Action}
-use Rattle.lynx_set.specs.declared.action.Action.TheVariants.{Get, Set, Add, Sub, Let, Need}
+use Rattle.lynx_set.specs.declared.action.Action.TheVariants.{Get, Update, Let, Need}
+use Rattle.lynx_set.specs.declared.action.Update.{Update as TheUpdate}
+use Rattle.lynx_set.specs.declared.action.Update.TheVariants.{Set as SetTo, Add, Sub, Max}
 use Rattle.lynx_text.specs.declared.action_line.ActionLine.{ActionLine}
 use Rattle.lynx_words.specs.Lines.{◌>>=◌, words_in, AreWords, joined}
 use Rattle.lynx_text.specs.Pieces.{until, next_piece, next_words, begins}
@@ -68,9 +70,10 @@ goes_verb verb words rest are no_hop no_end =
 
 goes_line : (tables names : List (List ℕ)) (scope : ℕ) (action : Action) (rest : List (List ℕ)) → AreWords (action_words tables names scope action) → goes_action (joined (action_words tables names scope action) ∷ rest) ≡ true
 goes_line tables names scope (Get table key) rest are = goes_verb (codes "get") (name_at names scope ∷ name_at tables table ∷ key_word names key ∷ []) rest are refl refl
-goes_line tables names scope (Set table key value) rest are = goes_verb (codes "set") (name_at tables table ∷ key_word names key ∷ operand_word names value ∷ []) rest are refl refl
-goes_line tables names scope (Add table key value) rest are = goes_verb (codes "add") (name_at tables table ∷ key_word names key ∷ operand_word names value ∷ []) rest are refl refl
-goes_line tables names scope (Sub table key value) rest are = goes_verb (codes "sub") (name_at tables table ∷ key_word names key ∷ operand_word names value ∷ []) rest are refl refl
+goes_line tables names scope (Update SetTo table key value) rest are = goes_verb (codes "set") (name_at tables table ∷ key_word names key ∷ operand_word names value ∷ []) rest are refl refl
+goes_line tables names scope (Update Add table key value) rest are = goes_verb (codes "add") (name_at tables table ∷ key_word names key ∷ operand_word names value ∷ []) rest are refl refl
+goes_line tables names scope (Update Sub table key value) rest are = goes_verb (codes "sub") (name_at tables table ∷ key_word names key ∷ operand_word names value ∷ []) rest are refl refl
+goes_line tables names scope (Update Max table key value) rest are = goes_verb (codes "max") (name_at tables table ∷ key_word names key ∷ operand_word names value ∷ []) rest are refl refl
 goes_line tables names scope (Let left operator right) rest are = goes_verb (codes "let") (name_at names scope ∷ operand_word names left ∷ operator_word operator ∷ operand_word names right ∷ []) rest are refl refl
 goes_line tables names scope (Need left relation right) rest are = goes_verb (codes "need") (operand_word names left ∷ relation_word relation ∷ operand_word names right ∷ []) rest are refl refl
 
@@ -79,9 +82,7 @@ known_next : (scope : PlainScope) (action : Action) (binds : Option (List ℕ)) 
 known_next scope action None known new = subst Known (sym (append-nil scope.names)) known
 known_next scope (Get table key) (Some name) known new = one_known scope.names name known new
 known_next scope (Let left operator right) (Some name) known new = one_known scope.names name known new
-known_next scope (Set table key value) (Some name) known new = absurd new
-known_next scope (Add table key value) (Some name) known new = absurd new
-known_next scope (Sub table key value) (Some name) known new = absurd new
+known_next scope (Update update table key value) (Some name) known new = absurd new
 known_next scope (Need left relation right) (Some name) known new = absurd new
 
 pub open_next : (scope : PlainScope) (action : Action) (binds : Option (List ℕ)) → IsOpen scope → BindsNew scope action binds → IsOpen (next_scope scope binds)

@@ -8,6 +8,9 @@ pub mod ActionsAgain
 pub mod Known
 pub mod Found
 pub mod Tables
+pub mod Dots
+pub mod Ranges
+pub mod RangesAgain
 pub mod Programs
 pub mod Hops
 pub mod Actions

@@ -9,7 +9,7 @@ use Rattle.std.proofs.lemmas.Bool.Decides.{nat_tests}
 use Rattle.lynx_words.specs.Lines.{is_feed}
 use Rattle.lynx_words.proofs.PieceLaws.{has_piece}
 use Rattle.lynx_words.proofs.WordLaws.{split_found, split_none}
-use Rattle.lynx_text.specs.Pieces.{is_version, until, front_to, ends, next_piece}
+use Rattle.lynx_text.specs.Pieces.{until, front_to, ends, next_piece, version_of, version_told}
 
 -- the first piece is the text up to the first such byte
 pub first_piece : (end : ℕ) (text : List ℕ) → (rest : List (List ℕ)) × (slice_split (λ byte. byte == end) text ≡ until text end ∷ rest)
@@ -21,20 +21,9 @@ first_piece end text =
     by None is = ([], split_none (λ byte. byte == end) text is)
     by (Some i) is = (slice_split (λ byte. byte == end) (drop (i + 1) text), split_found (λ byte. byte == end) text i is)
 
--- the first line is the version's where the text up to its first line feed is
-pub is_version-text : (text : List ℕ) → is_version (slice_split is_feed text) ≡ bytes_eq (until text 10) (codes "lynx 1")
-is_version-text text = let h = first_piece 10 text in ap is_version h.1
-
-pub version_is : (text : List ℕ) → (is_version (slice_split is_feed text) ≡ false → until text 10 ≢ codes "lynx 1") × (until text 10 ≢ codes "lynx 1" → is_version (slice_split is_feed text) ≡ false)
-version_is text =
-    let same = bytes_eq-Decides (until text 10) (codes "lynx 1") in (
-      λ other is. absurd (false≢true (sym other ∙ is_version-text text ∙ same.1 is)),
-      λ differs. is_version-text text ∙ not_true (bytes_eq (until text 10) (codes "lynx 1")) (λ e. differs (same.0 e)),
-    )
-  where
-    not_true : (b : Bool) → (b ≡ true → ⊥) → b ≡ false
-    not_true true h = absurd (h refl)
-    not_true false h = refl
+-- the first line of a text is the text up to its first line feed
+pub version_told-text : (text : List ℕ) → version_told (slice_split is_feed text) ≡ version_of (until text 10)
+version_told-text text = let h = first_piece 10 text in ap version_told h.1
 
 -- where there are pieces after the first, that one is the next line
 pub next_piece-more : (line : List ℕ) (text : List ℕ) → next_piece (line ∷ slice_split is_feed text) ≡ Some (line, slice_split is_feed text)

@@ -7,16 +7,19 @@ use Rattle.std.proofs.lemmas.List.{append-nil, map-append, take_at}
 use Rattle.std.proofs.lemmas.Slice.Eq.{bytes_eq-Decides}
 use Rattle.lynx_words.specs.Lines.{◌>>=◌, only_if, joined}
 use Rattle.lynx_text.specs.Pieces.{next_words}
-use Rattle.lynx_text.specs.Parts.{parts, goes_hop, next_hop, end_line, parameters_of, program_line, next_program, goes_program}
+use Rattle.lynx_text.specs.Parts.{parts, goes_hop, next_hop, end_line, parameters_of, program_line, program_head, next_program, goes_program}
+use Rattle.lynx_set.specs.declared.program.ParameterRange.{ParameterRange}
 use Rattle.lynx_set.specs.Plain.{PlainProgram, PlainSet}
 use Rattle.lynx_set.specs.Names.{place_of}
+use Rattle.lynx_text.specs.Ranges.{next_range, goes_range}
 use Rattle.lynx_text.specs.Reading.{name_of, new_name}
-use Rattle.lynx_set.specs.Rules.{IsNew, AreNew, FitsProgram, FitPrograms, with_program}
+use Rattle.lynx_set.specs.Rules.{IsNew, AreNew, FitRanges, HasRanges, FitsProgram, FitPrograms, with_program}
 use Rattle.lynx_words.specs.Word.{is_name}
 use Rattle.lynx_words.proofs.WordLaws.{and_true}
 use Rattle.lynx_text.proofs.Lookups.{bind_some, only_if_some, choose, both, both_is}
 use Rattle.lynx_text.proofs.Actions.{new_take}
 use Rattle.lynx_text.proofs.Hops.{raw, IsNext, next_words_take, HopRead, lines_of_hops, HopsLeft, next_hop_take, more_hops, hops_take}
+use Rattle.lynx_text.proofs.Ranges.{lines_of_ranges, RangesLeft, ranges_take}
 use Rattle.lynx_words.proofs.Equal.{some_is, none_some}
 
 -- parameters that are read are those that are spelled
@@ -78,7 +81,13 @@ end_line_take (a ∷ b ∷ words) x e = absurd cc
 -- the lines of a program under its name
 abbrev pub lines_of_program : List (List ℕ) → List ℕ × PlainProgram → List (List (List ℕ))
 lines_of_program tables (name, program) =
-    (codes "program" ∷ name ∷ take program.parameters program.names) ∷ lines_of_hops tables program.names program.parameters program.hops ++ (codes "end" ∷ []) ∷ []
+    (codes "program" ∷ name ∷ take program.parameters program.names) ∷ lines_of_ranges program.names program.ranges ++ lines_of_hops tables program.names program.parameters program.hops ++ (codes "end" ∷ []) ∷ []
+
+-- lines in three parts, and those behind them
+pub raw_three : (a b c : List (List (List ℕ))) (rest : List (List ℕ)) → raw (a ++ b ++ c) ++ rest ≡ raw a ++ (raw b ++ (raw c ++ rest))
+raw_three a b c rest =
+    ap (λ ls. ls ++ rest) (map-append joined (a ++ b) c ∙ ap (λ ls. ls ++ raw c) (map-append joined a b))
+    ∙ append_assoc (raw a ++ raw b) (raw c) rest ∙ append_assoc (raw a) (raw b) (raw c ++ rest)
 
 -- what a program's lines leave
 pub record ProgramRead (set : PlainSet) (lines : List (List ℕ)) (out : PlainSet) (rest : List (List ℕ)) : Type 0 where
@@ -97,59 +106,105 @@ some_hops : (set : PlainSet) (program : PlainProgram) (lines mid : List (List �
     → HopRead set program lines next mid → HopsLeft set next mid out rest → (left : HopsLeft set program lines out rest) × (0 < length left.added)
 some_hops set program lines mid next out rest first later = (more_hops set program lines mid next out rest first later, omega arith)
 
-abbrev start : List (List ℕ) → PlainProgram
-start names = record { parameters = length names; names = names; hops = [] }
+-- a program with its ranges, before its hops
+abbrev pub start : List (List ℕ) → List ParameterRange → PlainProgram
+start names ranges = record { parameters = length names; names = names; ranges = ranges; hops = [] }
 
-program_made : (set : PlainSet) (lines mid below rest : List (List ℕ)) (name : List ℕ) (names words last : List (List ℕ)) (program : PlainProgram) (out : PlainSet)
-    → IsNext lines words mid → HeadRead (map (λ named. named.0) set.programs) words name names
-    → (left : HopsLeft set (start names) mid program below) → 0 < length left.added
-    → IsNext below last rest → last ≡ codes "end" ∷ [] → record set { programs = set.programs ++ (name, program) ∷ [] } ≡ out → ProgramRead set lines out rest
-program_made set lines mid below rest name names words last program out first head left some ended last_is same =
-    let made : PlainProgram = record { parameters = length names; names = left.names; hops = left.added } in
-    let parameters : take (length names) left.names ≡ names = ap (take (length names)) left.grown ∙ take_at names left.more (length names) refl in
-    let tail : List (List (List ℕ)) = lines_of_hops set.tables left.names (length names) left.added in
-    let below_is : below ≡ joined (codes "end" ∷ []) ∷ rest = ended.spelled ∙ ap (λ w. joined w ∷ rest) last_is in
-    let mid_is : mid ≡ raw (tail ++ (codes "end" ∷ []) ∷ []) ++ rest =
-    left.spelled [] ∙ ap (λ ns. raw (lines_of_hops set.tables ns (length names) left.added) ++ below) (append-nil left.names)
-    ∙ ap (λ r. raw tail ++ r) below_is
-    ∙ sym (append_assoc (raw tail) (joined (codes "end" ∷ []) ∷ []) rest)
-    ∙ ap (λ ls. ls ++ rest) (sym (map-append joined tail ((codes "end" ∷ []) ∷ []))) in
+-- what a program's head leaves
+record HeadLeft (set : PlainSet) (lines : List (List ℕ)) (name : List ℕ) (program : PlainProgram) (rest : List (List ℕ)) : Type 0 where
+  names : List (List ℕ)
+  ranges : List ParameterRange
+  room : length set.programs < 64
+  few : length names ≤ 8
+  new : IsNew (map (λ named. named.0) set.programs) name
+  names_new : AreNew [] names
+  fit : FitRanges (length names) 0 ranges
+  has : HasRanges set.version ranges
+  leaves : program ≡ start names ranges
+  spelled : (more : List (List ℕ)) → lines ≡ joined (codes "program" ∷ name ∷ names) ∷ (raw (lines_of_ranges (names ++ more) ranges) ++ rest)
+
+program_head_take : (set : PlainSet) (lines : List (List ℕ)) (name : List ℕ) (program : PlainProgram) (rest : List (List ℕ)) → program_head set lines ≡ both (name, program) rest → HeadLeft set lines name program rest
+unfolding program_head
+program_head_take set lines name program rest e =
+    let known : List (List ℕ) = map (λ named. named.0) set.programs in
+    let goes = goes_range set.version in
+    let s_words = bind_some (next_words lines) (λ w. program_line known w.0 >>= λ h. parts goes next_range 8 (start h.1 []) w.1 >>= λ r. both (h.0, r.0) r.1) ((name, program), rest) e in
+    let s_head = bind_some (program_line known s_words.0.0) (λ h. parts goes next_range 8 (start h.1 []) s_words.0.1 >>= λ r. both (h.0, r.0) r.1) ((name, program), rest) s_words.2 in
+    let s_ranges = bind_some (parts goes next_range 8 (start s_head.0.1 []) s_words.0.1) (λ r. both (s_head.0.0, r.0) r.1) ((name, program), rest) s_head.2 in
+    let out : List ℕ × PlainProgram = (name, program) in
+    let made : List ℕ × PlainProgram = (s_head.0.0, s_ranges.0.0) in
+    let same = both_is made out s_ranges.0.1 rest s_ranges.2 in
+    let name_is : s_head.0.0 ≡ name = ap (λ (p : List ℕ × PlainProgram). p.0) same.0 in
+    let names : List (List ℕ) = s_head.0.1 in
+    let read = program_line_take known s_words.0.0 s_head.0.0 names s_head.1 in
+    let left = ranges_take set.version 8 (start names []) s_words.0.1 s_ranges.0.0 s_ranges.0.1 s_ranges.1 in
     record {
-      program = (name, made);
-      room = omega (arith, head.room, names_count set.programs);
-      new = head.new;
-      fit = record { parameters = names; few = head.few; names = head.names_new; count = refl; some = some; hops = left.fit };
-      leaves = sym same ∙ ap (λ (p : PlainProgram). let s : PlainSet = record set { programs = set.programs ++ (name, p) ∷ [] } in s) left.leaves;
-      spelled =
-          first.spelled ∙ ap (λ w. joined w ∷ mid) (head.spelled ∙ ap (λ ps. codes "program" ∷ name ∷ ps) (sym parameters))
-          ∙ ap (λ ls. joined (codes "program" ∷ name ∷ take (length names) left.names) ∷ ls) mid_is;
+      names = names;
+      ranges = left.added;
+      room = omega (arith, read.room, names_count set.programs);
+      few = read.few;
+      new = subst (IsNew known) name_is read.new;
+      names_new = read.names_new;
+      fit = left.fit;
+      has = left.has;
+      leaves = sym (ap (λ (p : List ℕ × PlainProgram). p.1) same.0) ∙ left.leaves;
+      spelled = λ more.
+          (next_words_take lines s_words.0.0 s_words.0.1 s_words.1).spelled
+          ∙ ap (λ w. joined w ∷ s_words.0.1) (read.spelled ∙ ap (λ n. codes "program" ∷ n ∷ names) name_is)
+          ∙ ap (λ ls. joined (codes "program" ∷ name ∷ names) ∷ ls) (left.spelled more ∙ ap (λ r. raw (lines_of_ranges (names ++ more) left.added) ++ r) same.1);
     }
 
-program_hops_take : (set : PlainSet) (lines mid after : List (List ℕ)) (words : List (List ℕ)) (name : List ℕ) (names : List (List ℕ)) (first : PlainProgram) (out : PlainSet) (rest : List (List ℕ))
-    → IsNext lines words mid → HeadRead (map (λ named. named.0) set.programs) words name names → HopRead set (start names) mid first after
+program_made : (set : PlainSet) (lines mid below rest : List (List ℕ)) (name : List ℕ) (first program : PlainProgram) (last : List (List ℕ)) (out : PlainSet)
+    → (head : HeadLeft set lines name first mid)
+    → (left : HopsLeft set (start head.names head.ranges) mid program below) → 0 < length left.added
+    → IsNext below last rest → last ≡ codes "end" ∷ [] → record set { programs = set.programs ++ (name, program) ∷ [] } ≡ out → ProgramRead set lines out rest
+program_made set lines mid below rest name first program last out head left some ended last_is same =
+    let names : List (List ℕ) = head.names in
+    let ranges : List ParameterRange = head.ranges in
+    let made : PlainProgram = record { parameters = length names; names = left.names; ranges = ranges; hops = left.added } in
+    let parameters : take (length names) left.names ≡ names = ap (take (length names)) left.grown ∙ take_at names left.more (length names) refl in
+    let rows : List (List (List ℕ)) = lines_of_ranges left.names ranges in
+    let tail : List (List (List ℕ)) = lines_of_hops set.tables left.names (length names) left.added in
+    let below_is : below ≡ joined (codes "end" ∷ []) ∷ rest = ended.spelled ∙ ap (λ w. joined w ∷ rest) last_is in
+    let mid_is : mid ≡ raw tail ++ joined (codes "end" ∷ []) ∷ rest =
+    left.spelled [] ∙ ap (λ ns. raw (lines_of_hops set.tables ns (length names) left.added) ++ below) (append-nil left.names)
+    ∙ ap (λ r. raw tail ++ r) below_is in
+    let behind : raw (lines_of_ranges (names ++ left.more) ranges) ++ mid ≡ raw (rows ++ tail ++ (codes "end" ∷ []) ∷ []) ++ rest =
+    ap (λ ns. raw (lines_of_ranges ns ranges) ++ mid) (sym left.grown) ∙ ap (λ m. raw rows ++ m) mid_is ∙ sym (raw_three rows tail ((codes "end" ∷ []) ∷ []) rest) in
+    record {
+      program = (name, made);
+      room = head.room;
+      new = head.new;
+      fit = record { parameters = names; few = head.few; names = head.names_new; count = refl; ranges = head.fit; has_ranges = head.has; some = some; hops = left.fit };
+      leaves = sym same ∙ ap (λ (p : PlainProgram). let s : PlainSet = record set { programs = set.programs ++ (name, p) ∷ [] } in s) left.leaves;
+      spelled = head.spelled left.more
+          ∙ ap (λ ps. joined (codes "program" ∷ name ∷ ps) ∷ (raw (lines_of_ranges (names ++ left.more) ranges) ++ mid)) (sym parameters)
+          ∙ ap (λ ls. joined (codes "program" ∷ name ∷ take (length names) left.names) ∷ ls) behind;
+    }
+
+program_hops_take : (set : PlainSet) (lines mid after : List (List ℕ)) (name : List ℕ) (begun first : PlainProgram) (out : PlainSet) (rest : List (List ℕ))
+    → (head : HeadLeft set lines name begun mid) → HopRead set (start head.names head.ranges) mid first after
     → (parts goes_hop (next_hop set) (8 - length first.hops) first after >>= λ r. next_words r.1 >>= λ last. end_line last.0 >>= λ ok. both (record set { programs = set.programs ++ (name, r.0) ∷ [] }) last.1) ≡ Some (out, rest)
     → ProgramRead set lines out rest
-program_hops_take set lines mid after words name names first out rest next head hop e =
+program_hops_take set lines mid after name begun first out rest head hop e =
     let s_read = bind_some (parts goes_hop (next_hop set) (8 - length first.hops) first after) (λ r. next_words r.1 >>= λ last. end_line last.0 >>= λ ok. both (record set { programs = set.programs ++ (name, r.0) ∷ [] }) last.1) (out, rest) e in
     let s_last = bind_some (next_words s_read.0.1) (λ last. end_line last.0 >>= λ ok. both (record set { programs = set.programs ++ (name, s_read.0.0) ∷ [] }) last.1) (out, rest) s_read.2 in
     let s_end = bind_some (end_line s_last.0.0) (λ ok. both (record set { programs = set.programs ++ (name, s_read.0.0) ∷ [] }) s_last.0.1) (out, rest) s_last.2 in
     let same = both_is (record set { programs = set.programs ++ (name, s_read.0.0) ∷ [] }) out s_last.0.1 rest s_end.2 in
-    let hops = some_hops set (start names) mid after first s_read.0.0 s_read.0.1 hop (hops_take (8 - length first.hops) set first after s_read.0.0 s_read.0.1 s_read.1) in
-    program_made set lines mid s_read.0.1 rest name names words s_last.0.0 s_read.0.0 out next head hops.0 hops.1
+    let hops = some_hops set (start head.names head.ranges) mid after first s_read.0.0 s_read.0.1 hop (hops_take (8 - length first.hops) set first after s_read.0.0 s_read.0.1 s_read.1) in
+    program_made set lines mid s_read.0.1 rest name begun s_read.0.0 s_last.0.0 out head hops.0 hops.1
     (subst (λ (r : List (List ℕ)). IsNext s_read.0.1 s_last.0.0 r) same.1 (next_words_take s_read.0.1 s_last.0.0 s_last.0.1 s_last.1))
     (end_line_take s_last.0.0 s_end.0 s_end.1) same.0
 
 next_program_take : (set : PlainSet) (lines : List (List ℕ)) (out : PlainSet) (rest : List (List ℕ)) → next_program set lines ≡ Some (out, rest) → ProgramRead set lines out rest
 unfolding next_program
 next_program_take set lines out rest e =
-    let known : List (List ℕ) = map (λ named. named.0) set.programs in
     let end_of : List ℕ → PlainProgram → List (List ℕ) → Option (PlainSet × List (List ℕ)) = λ name program ls. next_words ls >>= λ last. end_line last.0 >>= λ ok. Some (record set { programs = set.programs ++ (name, program) ∷ [] }, last.1) in
-    let s_words = bind_some (next_words lines) (λ w. program_line known w.0 >>= λ h. next_hop set (start h.1) w.1 >>= λ f. parts goes_hop (next_hop set) (8 - length f.0.hops) f.0 f.1 >>= λ r. end_of h.0 r.0 r.1) (out, rest) e in
-    let s_head = bind_some (program_line known s_words.0.0) (λ h. next_hop set (start h.1) s_words.0.1 >>= λ f. parts goes_hop (next_hop set) (8 - length f.0.hops) f.0 f.1 >>= λ r. end_of h.0 r.0 r.1) (out, rest) s_words.2 in
-    let s_first = bind_some (next_hop set (start s_head.0.1) s_words.0.1) (λ f. parts goes_hop (next_hop set) (8 - length f.0.hops) f.0 f.1 >>= λ r. end_of s_head.0.0 r.0 r.1) (out, rest) s_head.2 in
-    program_hops_take set lines s_words.0.1 s_first.0.1 s_words.0.0 s_head.0.0 s_head.0.1 s_first.0.0 out rest
-    (next_words_take lines s_words.0.0 s_words.0.1 s_words.1) (program_line_take known s_words.0.0 s_head.0.0 s_head.0.1 s_head.1)
-    (next_hop_take set (start s_head.0.1) s_words.0.1 s_first.0.0 s_first.0.1 s_first.1) s_first.2
+    let s_head = bind_some (program_head set lines) (λ h. next_hop set h.0.1 h.1 >>= λ f. parts goes_hop (next_hop set) (8 - length f.0.hops) f.0 f.1 >>= λ r. end_of h.0.0 r.0 r.1) (out, rest) e in
+    let s_first = bind_some (next_hop set s_head.0.0.1 s_head.0.1) (λ f. parts goes_hop (next_hop set) (8 - length f.0.hops) f.0 f.1 >>= λ r. end_of s_head.0.0.0 r.0 r.1) (out, rest) s_head.2 in
+    let head = program_head_take set lines s_head.0.0.0 s_head.0.0.1 s_head.0.1 s_head.1 in
+    program_hops_take set lines s_head.0.1 s_first.0.1 s_head.0.0.0 s_head.0.0.1 s_first.0.0 out rest head
+    (subst (λ (p : PlainProgram). HopRead set p s_head.0.1 s_first.0.0 s_first.0.1) head.leaves (next_hop_take set s_head.0.0.1 s_head.0.1 s_first.0.0 s_first.0.1 s_first.1)) s_first.2
 
 -- the lines of programs
 abbrev pub lines_of_programs : List (List ℕ) → List (List ℕ × PlainProgram) → List (List (List ℕ))

@@ -11,12 +11,16 @@ use Rattle.lynx_words.specs.Digits.{read_number}
 use Rattle.lynx_words.specs.Lines.{◌>>=◌, is_word, AreWords, only_if, joined}
 use Rattle.lynx_text.specs.Pieces.{next_words, begins, one_after}
 use Rattle.lynx_set.specs.Scopes.{scope_in}
-use Rattle.lynx_text.specs.Parts.{parts, with_name, next_action, goes_action, hop_line, next_hop, goes_hop, parameters_of, program_line, end_line, next_program, goes_program}
+use Rattle.lynx_text.specs.Parts.{parts, with_name, next_action, goes_action, hop_line, next_hop, goes_hop, parameters_of, program_line, program_head, end_line, next_program, goes_program}
+use Rattle.lynx_set.specs.declared.program.ParameterRange.{ParameterRange}
+use Rattle.lynx_set.specs.declared.version.Version.{Version}
+use Rattle.lynx_set.specs.declared.version.Version.TheVariants.{One, Two}
 use Rattle.lynx_set.specs.Plain.{PlainHop, PlainProgram, PlainSet}
 use Rattle.lynx_set.specs.Names.{place_of}
 use Rattle.lynx_set.specs.Scopes.{PlainScope}
+use Rattle.lynx_text.specs.Ranges.{next_range, goes_range}
 use Rattle.lynx_text.specs.Reading.{name_of, new_name}
-use Rattle.lynx_set.specs.Rules.{IsNew, AreNew, bound, next_scope, FitActions, FitHops, with_hop, FitsProgram, FitPrograms, with_program}
+use Rattle.lynx_set.specs.Rules.{IsNew, AreNew, bound, next_scope, FitActions, FitHops, with_hop, FitRanges, HasRanges, FitsProgram, FitPrograms, with_program}
 use Rattle.lynx_set.specs.Text.{bound_names, bound_in, action_words, action_lines}
 use Rattle.lynx_words.specs.Word.{is_name}
 use Rattle.lynx_words.proofs.WordLaws.{both_true, name-word, number-word}
@@ -26,7 +30,9 @@ use Rattle.lynx_text.proofs.Known.{bind_is, only_if_yes, Known, none_known, one_
 use Rattle.lynx_text.proofs.ActionsAgain.{IsOpen}
 use Rattle.lynx_text.proofs.Hops.{raw, scope_next, binds-count, count_actions, names_over, lines_of_hops}
 use Rattle.lynx_text.proofs.HopsAgain.{IsMore, more_behind, next_words_again, begins_again, parts_stop, parts_step, open_next, grown_names, few_actions, known_after, one_again, names_with, actions_again}
-use Rattle.lynx_text.proofs.Programs.{lines_of_program, lines_of_programs, names_count}
+use Rattle.lynx_text.proofs.Programs.{lines_of_program, lines_of_programs, names_count, raw_three, start}
+use Rattle.lynx_text.proofs.Ranges.{lines_of_ranges}
+use Rattle.lynx_text.proofs.RangesAgain.{all_ranges}
 
 -- a line of two words
 pub one_after_again : (first word : List ℕ) → one_after first (first ∷ word ∷ []) ≡ Some word
@@ -234,56 +240,83 @@ end_stops rest = (
     and_no true = refl
     and_no false = refl
 
-abbrev start : List (List ℕ) → PlainProgram
-start names = record { parameters = length names; names = names; hops = [] }
-
 -- all hops of a program, the first of which has to be there
-all_hops : (set : PlainSet) (names : List (List ℕ)) (hops : List PlainHop) (after rest : List (List ℕ))
-    → set.servers ≤ 16 → Known set.tables → Known names → FitHops set (start names) hops after → 0 < length hops → IsMore rest → goes_action rest ≡ false → goes_hop rest ≡ false
-    → (next_hop set (start names) (raw (lines_of_hops set.tables after (length names) hops) ++ rest) >>= λ f. parts goes_hop (next_hop set) (8 - length f.0.hops) f.0 f.1)
-    ≡ Some ((record { parameters = length names; names = after; hops = hops }), rest)
-all_hops set names [] after rest limit tables known fit some left stops ends = absurd (omega arith)
-all_hops set names (hop ∷ hops) after rest limit tables known fit some left stops ends =
-    let one = one_hop set (start names) hop hops after [] rest limit tables known (omega arith) fit left stops in
-    let next : PlainProgram = with_hop (start names) hop one.0 in
+all_hops : (set : PlainSet) (names : List (List ℕ)) (ranges : List ParameterRange) (hops : List PlainHop) (after rest : List (List ℕ))
+    → set.servers ≤ 16 → Known set.tables → Known names → FitHops set (start names ranges) hops after → 0 < length hops → IsMore rest → goes_action rest ≡ false → goes_hop rest ≡ false
+    → (next_hop set (start names ranges) (raw (lines_of_hops set.tables after (length names) hops) ++ rest) >>= λ f. parts goes_hop (next_hop set) (8 - length f.0.hops) f.0 f.1)
+    ≡ Some ((record { parameters = length names; names = after; ranges = ranges; hops = hops }), rest)
+all_hops set names ranges [] after rest limit tables known fit some left stops ends = absurd (omega arith)
+all_hops set names ranges (hop ∷ hops) after rest limit tables known fit some left stops ends =
+    let one = one_hop set (start names ranges) hop hops after [] rest limit tables known (omega arith) fit left stops in
+    let next : PlainProgram = with_hop (start names ranges) hop one.0 in
     let tail : List (List ℕ) = raw (lines_of_hops set.tables (after ++ []) (length one.0) hops) ++ rest in
-    let out : PlainProgram = record { parameters = length names; names = after; hops = hop ∷ hops } in
+    let out : PlainProgram = record { parameters = length names; names = after; ranges = ranges; hops = hop ∷ hops } in
     let then_ : PlainProgram × List (List ℕ) → Option (PlainProgram × List (List ℕ)) = λ f. parts goes_hop (next_hop set) (8 - length f.0.hops) f.0 f.1 in
-    let few : length hops ≤ 7 = omega (arith, few_hops set (start names) (hop ∷ hops) after fit (omega arith)) in
-    ap (λ ns. next_hop set (start names) (raw (lines_of_hops set.tables ns (length names) (hop ∷ hops)) ++ rest) >>= then_) (sym (append-nil after))
-    ∙ bind_is (next_hop set (start names) (raw (lines_of_hops set.tables (after ++ []) (length names) (hop ∷ hops)) ++ rest)) then_ (next, tail) (Some (out, rest)) one.4
+    let few : length hops ≤ 7 = omega (arith, few_hops set (start names ranges) (hop ∷ hops) after fit (omega arith)) in
+    ap (λ ns. next_hop set (start names ranges) (raw (lines_of_hops set.tables ns (length names) (hop ∷ hops)) ++ rest) >>= then_) (sym (append-nil after))
+    ∙ bind_is (next_hop set (start names ranges) (raw (lines_of_hops set.tables (after ++ []) (length names) (hop ∷ hops)) ++ rest)) then_ (next, tail) (Some (out, rest)) one.4
     (hops_again set next hops after [] 7 rest limit tables one.2 one.3 one.1 few left stops ends)
 
--- one program
-program_read : (set : PlainSet) (name : List ℕ) (names : List (List ℕ)) (hops : List PlainHop) (after rest : List (List ℕ))
-    → set.servers ≤ 16 → Known set.tables → length set.programs < 64 → IsNew (map (λ named. named.0) set.programs) name → length names ≤ 8 → AreNew [] names → FitHops set (start names) hops after → 0 < length hops → IsMore rest
-    → next_program set (joined (codes "program" ∷ name ∷ names) ∷ raw (lines_of_hops set.tables after (length names) hops) ++ joined end_words ∷ rest)
-    ≡ Some (with_program set (name, record { parameters = length names; names = after; hops = hops }), rest)
-unfolding next_program
-program_read set name names hops after rest limit tables room new few parameters fit some left =
+-- the hops of a program are no ranges
+hops_no_range : (version : Version) (set : PlainSet) (program : PlainProgram) (hops : List PlainHop) (names after rest : List (List ℕ)) (place : ℕ) → set.servers ≤ 16 → FitHops set program hops after → 0 < length hops
+    → goes_range version (raw (lines_of_hops set.tables names place hops) ++ rest) ≡ false
+hops_no_range One set program hops names after rest place limit fit some = refl
+hops_no_range Two set program [] names after rest place limit fit some = absurd (omega arith)
+hops_no_range Two set program (hop ∷ hops) names after rest place limit fit some =
+    let below : List (List ℕ) = raw (action_lines set.tables names place hop.actions ++ lines_of_hops set.tables names (place + bound_in hop.actions) hops) ++ rest in
+    begins_again (codes "hop") (decimal hop.server ∷ []) below (codes "range") (hop_words hop.server (omega (arith, fit.1))) ∙ other
+  where
+    other : bytes_eq (codes "hop") (codes "range") ≡ false
+    other = refl
+
+-- a program's head
+program_head_again : (set : PlainSet) (name : List ℕ) (names : List (List ℕ)) (ranges : List ParameterRange) (more tail : List (List ℕ))
+    → length set.programs < 64 → IsNew (map (λ named. named.0) set.programs) name → length names ≤ 8 → AreNew [] names → FitRanges (length names) 0 ranges → HasRanges set.version ranges
+    → IsMore tail → goes_range set.version tail ≡ false
+    → program_head set (joined (codes "program" ∷ name ∷ names) ∷ (raw (lines_of_ranges (names ++ more) ranges) ++ tail)) ≡ both (name, start names ranges) tail
+unfolding program_head
+program_head_again set name names ranges more tail room new few parameters fit has left stops =
     let known : List (List ℕ) = map (λ named. named.0) set.programs in
     let words : List (List ℕ) = codes "program" ∷ name ∷ names in
+    let mid : List (List ℕ) = raw (lines_of_ranges (names ++ more) ranges) ++ tail in
+    let goes = goes_range set.version in
+    let out : Option ((List ℕ × PlainProgram) × List (List ℕ)) = both (name, start names ranges) tail in
+    bind_is (next_words (joined words ∷ mid)) (λ w. program_line known w.0 >>= λ h. parts goes next_range 8 (start h.1 []) w.1 >>= λ r. both (h.0, r.0) r.1) (words, mid) out
+    (next_words_again words mid (program_words_are name names known new parameters) (more_behind (lines_of_ranges (names ++ more) ranges) tail left))
+    (bind_is (program_line known words) (λ h. parts goes next_range 8 (start h.1 []) mid >>= λ r. both (h.0, r.0) r.1) (name, names) out
+    (program_line_again known name names (omega (arith, names_count set.programs)) few new parameters)
+    (bind_is (parts goes next_range 8 (start names []) mid) (λ r. both (name, r.0) r.1) (start names ranges, tail) out
+    (all_ranges set.version (start names []) ranges more tail (known_new [] names none_known parameters) few refl fit has left stops) refl))
+
+-- one program
+program_read : (set : PlainSet) (name : List ℕ) (names : List (List ℕ)) (ranges : List ParameterRange) (hops : List PlainHop) (more after rest : List (List ℕ))
+    → set.servers ≤ 16 → Known set.tables → length set.programs < 64 → IsNew (map (λ named. named.0) set.programs) name → length names ≤ 8 → AreNew [] names → FitRanges (length names) 0 ranges → HasRanges set.version ranges
+    → FitHops set (start names ranges) hops after → 0 < length hops → IsMore rest
+    → next_program set (joined (codes "program" ∷ name ∷ names) ∷ (raw (lines_of_ranges (names ++ more) ranges) ++ (raw (lines_of_hops set.tables after (length names) hops) ++ joined end_words ∷ rest)))
+    ≡ Some (with_program set (name, record { parameters = length names; names = after; ranges = ranges; hops = hops }), rest)
+unfolding next_program
+program_read set name names ranges hops more after rest limit tables room new few parameters fit_ranges has fit some left =
     let below : List (List ℕ) = joined end_words ∷ rest in
     let below_is : IsMore below = record { first = joined end_words; others = rest; is = refl } in
     let tail : List (List ℕ) = raw (lines_of_hops set.tables after (length names) hops) ++ below in
-    let made : PlainProgram = record { parameters = length names; names = after; hops = hops } in
+    let made : PlainProgram = record { parameters = length names; names = after; ranges = ranges; hops = hops } in
     let out : PlainSet = with_program set (name, made) in
     let end_of : List ℕ → PlainProgram × List (List ℕ) → Option (PlainSet × List (List ℕ)) = λ name r. next_words r.1 >>= λ last. end_line last.0 >>= λ ok. Some (record set { programs = set.programs ++ (name, r.0) ∷ [] }, last.1) in
+    let lines : List (List ℕ) = joined (codes "program" ∷ name ∷ names) ∷ (raw (lines_of_ranges (names ++ more) ranges) ++ tail) in
+    let begun : (List ℕ × PlainProgram) × List (List ℕ) = ((name, start names ranges), tail) in
     let stops = end_stops rest in
-    bind_is (next_words (joined words ∷ tail)) (λ w. program_line known w.0 >>= λ h. next_hop set (start h.1) w.1 >>= λ f. parts goes_hop (next_hop set) (8 - length f.0.hops) f.0 f.1 >>= end_of h.0) (words, tail) (Some (out, rest))
-    (next_words_again words tail (program_words_are name names known new parameters) (more_behind (lines_of_hops set.tables after (length names) hops) below below_is))
-    (bind_is (program_line known words) (λ h. next_hop set (start h.1) tail >>= λ f. parts goes_hop (next_hop set) (8 - length f.0.hops) f.0 f.1 >>= end_of h.0) (name, names) (Some (out, rest))
-    (program_line_again known name names (omega (arith, names_count set.programs)) few new parameters)
-    (bind_bind (next_hop set (start names) tail) (λ f. parts goes_hop (next_hop set) (8 - length f.0.hops) f.0 f.1) (end_of name)
-    ∙ bind_is (next_hop set (start names) tail >>= λ f. parts goes_hop (next_hop set) (8 - length f.0.hops) f.0 f.1) (end_of name) (made, below) (Some (out, rest))
-    (all_hops set names hops after below limit tables (known_new [] names none_known parameters) fit some below_is stops.0 stops.1)
+    bind_is (program_head set lines) (λ h. next_hop set h.0.1 h.1 >>= λ f. parts goes_hop (next_hop set) (8 - length f.0.hops) f.0 f.1 >>= end_of h.0.0) begun (Some (out, rest))
+    (program_head_again set name names ranges more tail room new few parameters fit_ranges has (more_behind (lines_of_hops set.tables after (length names) hops) below below_is) (hops_no_range set.version set (start names ranges) hops after after below (length names) limit fit some))
+    (bind_bind (next_hop set (start names ranges) tail) (λ f. parts goes_hop (next_hop set) (8 - length f.0.hops) f.0 f.1) (end_of name)
+    ∙ bind_is (next_hop set (start names ranges) tail >>= λ f. parts goes_hop (next_hop set) (8 - length f.0.hops) f.0 f.1) (end_of name) (made, below) (Some (out, rest))
+    (all_hops set names ranges hops after below limit tables (known_new [] names none_known parameters) fit some below_is stops.0 stops.1)
     (bind_is (next_words below) (λ last. end_line last.0 >>= λ ok. Some (record set { programs = set.programs ++ (name, made) ∷ [] }, last.1)) (end_words, rest) (Some (out, rest))
-    (next_words_again end_words rest end_are left) refl)))
+    (next_words_again end_words rest end_are left) refl))
 
 pub spelled_parameters : (set : PlainSet) (program : PlainProgram) (fit : FitsProgram set program) → take program.parameters program.names ≡ fit.parameters
 spelled_parameters set program fit =
     let names : List (List ℕ) = fit.parameters in
-    let grown = grown_by_hops set (start names) program.hops program.names fit.hops in
+    let grown = grown_by_hops set (start names program.ranges) program.hops program.names fit.hops in
     ap (λ n. take n program.names) fit.count ∙ ap (take (length names)) grown.1 ∙ take_at names grown.0 (length names) refl
 
 pub program_again : (set : PlainSet) (program : List ℕ × PlainProgram) (rest : List (List ℕ))
@@ -291,19 +324,21 @@ pub program_again : (set : PlainSet) (program : List ℕ × PlainProgram) (rest 
     → next_program set (raw (lines_of_program set.tables program) ++ rest) ≡ Some (with_program set program, rest)
 program_again set (name, program) rest limit tables room new fit left =
     let names : List (List ℕ) = fit.parameters in
+    let grown = grown_by_hops set (start names program.ranges) program.hops program.names fit.hops in
+    let rows : List (List ℕ) → List (List ℕ) = λ ns. raw (lines_of_ranges ns program.ranges) in
     let lines : ℕ → List (List (List ℕ)) = λ n. lines_of_hops set.tables program.names n program.hops in
-    ap (next_program set) (ap (λ ps. joined (codes "program" ∷ name ∷ ps) ∷ raw (lines program.parameters ++ end_words ∷ []) ++ rest) (spelled_parameters set program fit)
-    ∙ ap (λ n. joined (codes "program" ∷ name ∷ names) ∷ raw (lines n ++ end_words ∷ []) ++ rest) fit.count
-    ∙ ap (λ ls. joined (codes "program" ∷ name ∷ names) ∷ ls ++ rest) (map-append joined (lines (length names)) (end_words ∷ []))
-    ∙ ap (λ ls. joined (codes "program" ∷ name ∷ names) ∷ ls) (append_assoc (raw (lines (length names))) (joined end_words ∷ []) rest))
-    ∙ program_read set name names program.hops program.names rest limit tables room new fit.few fit.names fit.hops fit.some left
-    ∙ ap (λ n. let s : PlainSet = with_program set (name, record { parameters = n; names = program.names; hops = program.hops }) in Some (s, rest)) (sym fit.count)
+    ap (next_program set) (ap (λ ps. joined (codes "program" ∷ name ∷ ps) ∷ (raw (lines_of_ranges program.names program.ranges ++ lines program.parameters ++ end_words ∷ []) ++ rest)) (spelled_parameters set program fit)
+    ∙ ap (λ n. joined (codes "program" ∷ name ∷ names) ∷ (raw (lines_of_ranges program.names program.ranges ++ lines n ++ end_words ∷ []) ++ rest)) fit.count
+    ∙ ap (λ ls. joined (codes "program" ∷ name ∷ names) ∷ ls) (raw_three (lines_of_ranges program.names program.ranges) (lines (length names)) (end_words ∷ []) rest)
+    ∙ ap (λ ns. joined (codes "program" ∷ name ∷ names) ∷ (rows ns ++ (raw (lines (length names)) ++ joined end_words ∷ rest))) grown.1)
+    ∙ program_read set name names program.ranges program.hops grown.0 program.names rest limit tables room new fit.few fit.names fit.ranges fit.has_ranges fit.hops fit.some left
+    ∙ ap (λ n. let s : PlainSet = with_program set (name, record { parameters = n; names = program.names; ranges = program.ranges; hops = program.hops }) in Some (s, rest)) (sym fit.count)
 
 pub program_begins : (set : PlainSet) (program : List ℕ × PlainProgram) (tables rest : List (List ℕ)) (wanted : List ℕ)
     → IsNew (map (λ named. named.0) set.programs) program.0 → FitsProgram set program.1 → begins (raw (lines_of_program tables program) ++ rest) wanted ≡ bytes_eq (codes "program") wanted
 program_begins set (name, program) tables rest wanted new fit =
     let names : List (List ℕ) = fit.parameters in
-    let below : List (List ℕ) = raw (lines_of_hops tables program.names program.parameters program.hops ++ end_words ∷ []) ++ rest in
+    let below : List (List ℕ) = raw (lines_of_ranges program.names program.ranges ++ lines_of_hops tables program.names program.parameters program.hops ++ end_words ∷ []) ++ rest in
     ap (λ ps. begins (joined (codes "program" ∷ name ∷ ps) ∷ below) wanted) (spelled_parameters set program fit)
     ∙ begins_again (codes "program") (name ∷ names) below wanted (program_words_are name names (map (λ named. named.0) set.programs) new fit.names)
 

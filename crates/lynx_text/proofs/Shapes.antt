@@ -9,6 +9,7 @@ use Rattle.std.specs.Str.{bytes_eq}
 use Rattle.lynx_set.specs.Scopes.{PlainScope}
 use Rattle.lynx_text.specs.Reading.{get_of, change_of, let_of, need_of}
 use Rattle.lynx_text.specs.Parts.{shard_line, program_line, end_line}
+use Rattle.lynx_text.specs.Ranges.{range_line}
 
 pub get_of_other : (scope : PlainScope) (words : List (Bor (List ℕ))) → length words ≢ 3 → get_of scope (texts words) ≡ None
 unfolding get_of
@@ -51,6 +52,14 @@ shard_line_other count (a ∷ b ∷ []) h = refl
 shard_line_other count (a ∷ b ∷ c ∷ []) h = refl
 shard_line_other count (a ∷ b ∷ c ∷ d ∷ []) h = absurd (h (omega arith))
 shard_line_other count (a ∷ b ∷ c ∷ d ∷ e ∷ words) h = refl
+
+pub range_line_other : (names : List (List ℕ)) (first : ℕ) (words : List (Bor (List ℕ))) → length words ≢ 3 → range_line names first (texts words) ≡ None
+unfolding range_line
+range_line_other names first [] h = refl
+range_line_other names first (a ∷ []) h = refl
+range_line_other names first (a ∷ b ∷ []) h = refl
+range_line_other names first (a ∷ b ∷ c ∷ []) h = absurd (h (omega arith))
+range_line_other names first (a ∷ b ∷ c ∷ d ∷ words) h = refl
 
 pub program_line_other : (programs : List (List ℕ)) (words : List (Bor (List ℕ))) → length words < 2 → program_line programs (texts words) ≡ None
 unfolding program_line

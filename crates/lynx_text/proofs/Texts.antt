@@ -5,9 +5,11 @@ use Rattle.lynx_shards.specs.declared.shard.Shard.{Shard}
 use Rattle.std.proofs.lemmas.List.{append-nil}
 use Rattle.std.specs.Prelude.{codes, decimal}
 use Rattle.lynx_set.specs.declared.action.Action.{Action}
-use Rattle.lynx_set.specs.declared.action.Action.TheVariants.{Get, Set, Add, Sub, Let, Need}
+use Rattle.lynx_set.specs.declared.version.Version.{Version}
+use Rattle.lynx_set.specs.declared.version.Version.TheVariants.{One, Two}
+use Rattle.lynx_set.specs.declared.action.Action.TheVariants.{Get, Update, Let, Need}
 use Rattle.lynx_words.specs.Lines.{line}
-use Rattle.lynx_set.specs.Text.{text, table_lines, tables_lines, head_lines, bound_names, bound_in}
+use Rattle.lynx_set.specs.Text.{text, table_lines, tables_lines, version_word, version_words, head_lines, bound_names, bound_in}
 
 -- the text of two lists of lines
 pub text_append : (xs ys : List (List (List ℕ))) → text (xs ++ ys) ≡ text xs ++ text ys
@@ -26,6 +28,14 @@ three_written first second third before a b c wrote_a wrote_b wrote_c =
     wrote_c ∙ ap (λ w. w ++ text c) (wrote_b ∙ ap (λ w. w ++ text b) wrote_a)
     ∙ append_assoc (before ++ text a) (text b) (text c) ∙ append_assoc before (text a) (text b ++ text c)
     ∙ ap (λ t. before ++ t) (sym (append_assoc (text a) (text b) (text c)) ∙ ap (λ t. t ++ text c) (sym (text_append a b)) ∙ sym (text_append (a ++ b) c))
+
+-- and four
+pub four_written : (first second third fourth before : List ℕ) (a b c d : List (List (List ℕ))) → first ≡ before ++ text a → second ≡ first ++ text b → third ≡ second ++ text c → fourth ≡ third ++ text d
+    → fourth ≡ before ++ text (a ++ (b ++ c ++ d))
+four_written first second third fourth before a b c d wrote_a wrote_b wrote_c wrote_d =
+    three_written second third fourth first b c d wrote_b wrote_c wrote_d
+    ∙ ap (λ w. w ++ text (b ++ c ++ d)) wrote_a ∙ append_assoc before (text a) (text (b ++ c ++ d))
+    ∙ ap (λ t. before ++ t) (sym (text_append a (b ++ c ++ d)))
 
 -- names without shards have no lines
 tables_lines-none : (names : List (List ℕ)) → tables_lines names [] ≡ []
@@ -48,25 +58,39 @@ tables_lines-past names more tables i le =
     at_drop_all (tables_lines names) tables i le ∙ tables_lines-none names
     ∙ sym (at_drop_all (tables_lines more) tables (i + 1) (omega arith) ∙ tables_lines-none more)
 
--- the first two lines
-pub head_written : (first second third before bytes : List ℕ) (n m : ℕ) → first ≡ before ++ bytes → bytes ≡ codes "lynx 1\nservers " → second ≡ first ++ decimal m → m ≡ n → third ≡ second ++ 10 ∷ [] → third ≡ before ++ text (head_lines n)
-head_written first second third before bytes n m wrote_first bytes_are wrote_second same wrote_third =
-    wrote_third
-    ∙ ap (λ w. w ++ 10 ∷ []) (wrote_second ∙ ap (λ w. w ++ decimal m) (wrote_first ∙ ap (λ b. before ++ b) bytes_are) ∙ ap (λ k. (before ++ codes "lynx 1\nservers ") ++ decimal k) same)
-    ∙ whole before (decimal n)
+-- the front of the first two lines, in three writes
+abbrev pub front_of : Version → List ℕ
+front_of version = (codes "lynx " ++ version_word version) ++ codes "\nservers "
+
+front_joined : (version : Version) (digits : List ℕ) → (front_of version ++ digits) ++ 10 ∷ [] ≡ text (version_words version ∷ (codes "servers" ∷ digits ∷ []) ∷ [])
+front_joined version digits =
+    let tail : digits ++ 10 ∷ [] ≡ ((digits ++ []) ++ 10 ∷ []) ++ [] = sym (append-nil ((digits ++ []) ++ 10 ∷ []) ∙ ap (λ d. d ++ 10 ∷ []) (append-nil digits)) in
+    by version tail
   where
-    whole : (old digits : List ℕ) → ((old ++ codes "lynx 1\nservers ") ++ digits) ++ 10 ∷ [] ≡ old ++ text ((codes "lynx" ∷ codes "1" ∷ []) ∷ (codes "servers" ∷ digits ∷ []) ∷ [])
-    whole old digits =
-        let tail : digits ++ 10 ∷ [] ≡ ((digits ++ []) ++ 10 ∷ []) ++ [] = sym (append-nil ((digits ++ []) ++ 10 ∷ []) ∙ ap (λ d. d ++ 10 ∷ []) (append-nil digits)) in
-        append_assoc (old ++ codes "lynx 1\nservers ") digits (10 ∷ []) ∙ append_assoc old (codes "lynx 1\nservers ") (digits ++ 10 ∷ [])
-        ∙ ap (λ t. old ++ (codes "lynx 1\nservers " ++ t)) tail
+    by : (version : Version) → digits ++ 10 ∷ [] ≡ ((digits ++ []) ++ 10 ∷ []) ++ [] → (front_of version ++ digits) ++ 10 ∷ [] ≡ text (version_words version ∷ (codes "servers" ∷ digits ∷ []) ∷ [])
+    by One tail = ap (λ t. codes "lynx 1\nservers " ++ t) tail
+    by Two tail = ap (λ t. codes "lynx 2\nservers " ++ t) tail
+
+pub front_written : (first second third before lynx word servers : List ℕ) (version : Version) → first ≡ before ++ lynx → lynx ≡ codes "lynx " → second ≡ first ++ word → word ≡ version_word version
+    → third ≡ second ++ servers → servers ≡ codes "\nservers " → third ≡ before ++ front_of version
+front_written first second third before lynx word servers version wrote_first lynx_is wrote_second word_is wrote_third servers_are =
+    wrote_third ∙ ap (λ s. second ++ s) servers_are
+    ∙ ap (λ w. w ++ codes "\nservers ") (wrote_second ∙ ap (λ w. first ++ w) word_is ∙ ap (λ w. w ++ version_word version) (wrote_first ∙ ap (λ b. before ++ b) lynx_is) ∙ append_assoc before (codes "lynx ") (version_word version))
+    ∙ append_assoc before (codes "lynx " ++ version_word version) (codes "\nservers ")
+
+-- the first two lines
+pub head_written : (front second third before : List ℕ) (version : Version) (n m : ℕ) → front ≡ before ++ front_of version → second ≡ front ++ decimal m → m ≡ n → third ≡ second ++ 10 ∷ [] → third ≡ before ++ text (head_lines version n)
+head_written front second third before version n m wrote_front wrote_second same wrote_third =
+    wrote_third
+    ∙ ap (λ w. w ++ 10 ∷ []) (wrote_second ∙ ap (λ w. w ++ decimal m) wrote_front ∙ ap (λ k. (before ++ front_of version) ++ decimal k) same)
+    ∙ ap (λ w. w ++ 10 ∷ []) (append_assoc before (front_of version) (decimal n))
+    ∙ append_assoc before (front_of version ++ decimal n) (10 ∷ [])
+    ∙ ap (λ t. before ++ t) (front_joined version (decimal n))
 
 -- no action binds more than one name
 bound_names-le : (action : Action) → bound_names action ≤ 1
 bound_names-le (Get table key) = omega arith
-bound_names-le (Set table key value) = omega arith
-bound_names-le (Add table key value) = omega arith
-bound_names-le (Sub table key value) = omega arith
+bound_names-le (Update update table key value) = omega arith
 bound_names-le (Let left operator right) = omega arith
 bound_names-le (Need left relation right) = omega arith
 

@@ -1,4 +1,5 @@
 pub mod Pieces
 pub mod Parts
+pub mod Ranges
 pub mod Reading
 pub mod inner

@@ -10,10 +10,12 @@ use Rattle.lynx_words.specs.Lines.{◌>>=◌, is_feed, only_if}
 use Rattle.lynx_text.specs.Pieces.{one_after, after_version, ends, next_words, begins}
 use Rattle.std.specs.List.{slice_split}
 use Rattle.lynx_names.specs.declared.limits.TheConstants.{MAX_ACTIONS, MAX_HOPS, MAX_PARAMETERS, MAX_PROGRAMS, MAX_SERVERS, MAX_SHARDS, MAX_TABLES, MAX_TEXT_BYTES}
+use Rattle.lynx_set.specs.declared.version.Version.{Version}
 use Rattle.lynx_set.specs.Plain.{PlainProgram, PlainSet}
 use Rattle.lynx_set.specs.Names.{place_of}
 use Rattle.lynx_set.specs.Scopes.{scope_in}
 use Rattle.lynx_text.specs.Reading.{name_of, new_name, action_of}
+use Rattle.lynx_text.specs.Ranges.{goes_range, next_range}
 
 -- servers N
 unfoldable pub servers_of : List (List ℕ) → Option ℕ
@@ -125,32 +127,39 @@ next_hop set program lines = do
 abbrev pub goes_hop : List (List ℕ) → Bool
 goes_hop lines = begins lines (codes "hop")
 
+-- a program's name and parameters with their ranges
+unfoldable pub program_head : PlainSet → List (List ℕ) → Option ((List ℕ × PlainProgram) × List (List ℕ))
+program_head set lines = do
+  words ← next_words lines
+  head ← program_line (map (λ named. named.0) set.programs) words.0
+  read ← parts (goes_range set.version) next_range MAX_PARAMETERS (record { parameters = length head.1; names = head.1; ranges = []; hops = [] }) words.1
+  Some ((head.0, read.0), read.1)
+
 -- one more program, with its hops and its end
 unfoldable pub next_program : PlainSet → List (List ℕ) → Option (PlainSet × List (List ℕ))
 next_program set lines = do
-  words ← next_words lines
-  head ← program_line (map (λ named. named.0) set.programs) words.0
-  first ← next_hop set (record { parameters = length head.1; names = head.1; hops = [] }) words.1
+  head ← program_head set lines
+  first ← next_hop set head.0.1 head.1
   read ← parts goes_hop (next_hop set) (MAX_HOPS - length first.0.hops) first.0 first.1
   last ← next_words read.1
   ok ← end_line last.0
-  Some (record set { programs = set.programs ++ (head.0, read.0) ∷ [] }, last.1)
+  Some (record set { programs = set.programs ++ (head.0.0, read.0) ∷ [] }, last.1)
 
 abbrev pub goes_program : List (List ℕ) → Bool
 goes_program lines = begins lines (codes "program")
 
--- a set after the version's line
-unfoldable pub set_at : List (List ℕ) → Option PlainSet
-set_at lines = do
+-- a set of that version, after the version's line
+unfoldable pub set_at : Version → List (List ℕ) → Option PlainSet
+set_at version lines = do
   words ← next_words lines
   servers ← servers_of words.0
-  tables ← parts goes_table next_table MAX_TABLES (record { servers = servers; tables = []; shards = []; programs = [] }) words.1
+  tables ← parts goes_table next_table MAX_TABLES (record { version = version; servers = servers; tables = []; shards = []; programs = [] }) words.1
   programs ← parts goes_program next_program MAX_PROGRAMS tables.0 tables.1
   only_if (ends programs.1) programs.0
 
 -- a set, from the version's line on
 unfoldable pub lines_at : List (List ℕ) → Option PlainSet
-lines_at lines = after_version lines >>= set_at
+lines_at lines = after_version lines >>= λ begun. set_at begun.0 begun.1
 
 -- a set, from its whole text
 abbrev pub read_text : List ℕ → Option PlainSet

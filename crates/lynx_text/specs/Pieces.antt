@@ -1,6 +1,8 @@
 -- The lines of a set's text as they are read, one after another.
-use Rattle.std.specs.Prelude.{ℕ, Bool, true, false, List, [], ◌∷◌, Option, Some, None, take, position, ◌==◌, codes}
+use Rattle.std.specs.Prelude.{ℕ, Bool, true, false, if◌then◌else◌, List, [], ◌∷◌, Option, Some, None, take, position, ◌==◌, codes}
 use Rattle.std.specs.Str.{bytes_eq}
+use Rattle.lynx_set.specs.declared.version.Version.{Version}
+use Rattle.lynx_set.specs.declared.version.Version.TheVariants.{One, Two}
 use Rattle.lynx_words.specs.Lines.{◌>>=◌, only_if, words_in}
 
 -- the bytes before that place, or all of them
@@ -35,14 +37,21 @@ abbrev pub begins : List (List ℕ) → List ℕ → Bool
 begins [] word = false
 begins (line ∷ lines) word = bytes_eq (until line 32) word
 
--- whether the first line is the version's
-abbrev pub is_version : List (List ℕ) → Bool
-is_version [] = false
-is_version (line ∷ lines) = bytes_eq line (codes "lynx 1")
+-- the version that a line tells
+abbrev pub version_of : List ℕ → Option Version
+version_of line = if bytes_eq line (codes "lynx 1") then Some One else (if bytes_eq line (codes "lynx 2") then Some Two else None)
 
--- the lines after the version's
-abbrev pub after_version : List (List ℕ) → Option (List (List ℕ))
-after_version lines = next_piece lines >>= λ next. only_if (is_version lines) next.1
+-- the version that the first line tells
+abbrev pub version_told : List (List ℕ) → Option Version
+version_told [] = None
+version_told (line ∷ lines) = version_of line
+
+-- the version, and the lines after its own
+abbrev pub after_version : List (List ℕ) → Option (Version × List (List ℕ))
+after_version lines = do
+  next ← next_piece lines
+  version ← version_told lines
+  Some (version, next.1)
 
 -- no line is left
 abbrev pub ends : List (List ℕ) → Bool

@@ -3,7 +3,11 @@ use Rattle.std.specs.Prelude.{ℕ, ◌^◌, List, [], ◌∷◌, Option, Some, N
 use Rattle.std.specs.Str.{bytes_eq}
 use Rattle.lynx_names.specs.declared.limits.TheConstants.{MAX_ACTIONS, MAX_TABLES}
 use Rattle.lynx_set.specs.declared.action.Action.{Action}
-use Rattle.lynx_set.specs.declared.action.Action.TheVariants.{Get, Set, Add, Sub, Let, Need}
+use Rattle.lynx_set.specs.declared.action.Action.TheVariants.{Get, Update, Let, Need}
+use Rattle.lynx_set.specs.declared.action.Update.{Update as TheUpdate}
+use Rattle.lynx_set.specs.declared.action.Update.TheVariants.{Set as SetTo, Add, Sub, Max}
+use Rattle.lynx_set.specs.declared.version.Version.{Version}
+use Rattle.lynx_set.specs.declared.version.Version.TheVariants.{One, Two}
 use Rattle.lynx_set.specs.declared.action.Key.{Key}
 use Rattle.lynx_set.specs.declared.action.Key.TheVariants.{Literal, Param}
 use Rattle.lynx_set.specs.declared.action.Operand.{Operand}
@@ -117,17 +121,34 @@ need_of scope (left ∷ relation ∷ right ∷ []) = do
   Some (plain (Need l o r))
 need_of scope words = None
 
+-- `max`, where the version has it
+abbrev pub max_in : Version → Option TheUpdate
+max_in One = None
+max_in Two = Some Max
+
+-- what changes a cell
+unfoldable pub update_named : Version → List ℕ → Option TheUpdate
+update_named version word =
+    if bytes_eq word (codes "set") then Some SetTo
+    else (if bytes_eq word (codes "add") then Some Add
+    else (if bytes_eq word (codes "sub") then Some Sub
+    else (if bytes_eq word (codes "max") then max_in version else None)))
+
 -- an action that changes a cell
-abbrev pub changing : (ℕ → Key → Operand → Action) → ℕ × Key × Operand → ActionLine
-changing action change = plain (action change.0 change.1 change.2)
+abbrev pub changing : TheUpdate → ℕ × Key × Operand → ActionLine
+changing update change = plain (Update update change.0 change.1 change.2)
+
+-- UPDATE TABLE KEY VALUE
+unfoldable pub update_of : PlainScope → List ℕ → List (List ℕ) → Option ActionLine
+update_of scope verb words = do
+  update ← update_named scope.version verb
+  change ← change_of scope words
+  Some (changing update change)
 
 -- the words of an action's line
 unfoldable pub action_of : PlainScope → List (List ℕ) → Option ActionLine
 action_of scope [] = None
 action_of scope (verb ∷ words) =
     if bytes_eq verb (codes "get") then get_of scope words
-    else (if bytes_eq verb (codes "set") then option_map (changing Set) (change_of scope words)
-    else (if bytes_eq verb (codes "add") then option_map (changing Add) (change_of scope words)
-    else (if bytes_eq verb (codes "sub") then option_map (changing Sub) (change_of scope words)
     else (if bytes_eq verb (codes "let") then let_of scope words
-    else (if bytes_eq verb (codes "need") then need_of scope words else None)))))
+    else (if bytes_eq verb (codes "need") then need_of scope words else update_of scope verb words))

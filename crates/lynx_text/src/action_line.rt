@@ -1,16 +1,16 @@
 //! The lines of a hop's actions.
 
-ghost use Rattle.std.specs.Prelude.{◌<◌, ◌≡◌, option_map, OnOk};
+ghost use Rattle.std.specs.Prelude.{◌<◌, ◌≡◌, OnOk};
 ghost use Rattle.lynx_names.specs.declared.limits.TheConstants.{MAX_ACTIONS};
 ghost use Rattle.lynx_words.specs.Gives.{Gives};
 ghost use Rattle.lynx_words.specs.Lines.{texts};
 ghost use Rattle.lynx_text.specs.inner.Scopes.{plain_scope};
-ghost use Rattle.lynx_text.specs.Reading.{operator_of, relation_of, binding, plain, changing, get_of, change_of, let_of, need_of, action_of};
+ghost use Rattle.lynx_text.specs.Reading.{operator_of, relation_of, binding, plain, changing, get_of, change_of, let_of, need_of, update_named, update_of, action_of};
 
 use crate::lines::{four_words, three_words};
 use crate::scope::Scope;
 use lynx_names::TableId;
-use lynx_set::{Action, Key, Operand, Operator, Relation};
+use lynx_set::{Action, Key, Operand, Operator, Relation, Update, Version};
 use lynx_words::{FaultKind, Name};
 
 /// An action, and the name that its line binds.
@@ -31,18 +31,12 @@ pub(crate) fn read_action(words: &[&[u8]], scope: &Scope) -> Result<ActionLine, 
     };
     if *verb == b"get".as_slice() {
         read_get(rest, scope)
-    } else if *verb == b"set".as_slice() {
-        read_set(rest, scope)
-    } else if *verb == b"add".as_slice() {
-        read_add(rest, scope)
-    } else if *verb == b"sub".as_slice() {
-        read_sub(rest, scope)
     } else if *verb == b"let".as_slice() {
         read_let(rest, scope)
     } else if *verb == b"need".as_slice() {
         read_need(rest, scope)
     } else {
-        Err(FaultKind::BadLine)
+        read_update(verb, rest, scope)
     }
 }
 
@@ -61,34 +55,38 @@ fn read_get(words: &[&[u8]], scope: &Scope) -> Result<ActionLine, FaultKind>
     Ok(binding(name, Action::Get { table, key }))
 }
 
-/// `set TABLE KEY VALUE`
-fn read_set(words: &[&[u8]], scope: &Scope) -> Result<ActionLine, FaultKind>
-    ensures value { Gives (λ line. line) result (option_map (changing Action.Set) (change_of
-        (plain_scope scope.now) (texts words.now))) }
+/// `set TABLE KEY VALUE`, or with `add`, `sub` or, in version 2, `max`.
+#[tactic(auto, unfolding(crate::specs::Reading::update_of))]
+fn read_update(verb: &[u8], words: &[&[u8]], scope: &Scope) -> Result<ActionLine, FaultKind>
+    ensures value { Gives (λ line. line) result (update_of (plain_scope scope.now) verb.now
+        (texts words.now)) }
     ensures room { OnOk result (scope.now.actions < MAX_ACTIONS) }
 {
+    let update = update_named(scope.set.version(), verb)?;
     let (table, key, value) = read_change(words, scope)?;
-    Ok(plain(Action::Set { table, key, value }))
+    Ok(plain(Action::Update {
+        update,
+        table,
+        key,
+        value,
+    }))
 }
 
-/// `add TABLE KEY VALUE`
-fn read_add(words: &[&[u8]], scope: &Scope) -> Result<ActionLine, FaultKind>
-    ensures value { Gives (λ line. line) result (option_map (changing Action.Add) (change_of
-        (plain_scope scope.now) (texts words.now))) }
-    ensures room { OnOk result (scope.now.actions < MAX_ACTIONS) }
+#[tactic(auto, unfolding(crate::specs::Reading::update_named))]
+fn update_named(version: Version, word: &[u8]) -> Result<Update, FaultKind>
+    ensures { Gives (λ update. update) result (update_named version word.now) }
 {
-    let (table, key, value) = read_change(words, scope)?;
-    Ok(plain(Action::Add { table, key, value }))
-}
-
-/// `sub TABLE KEY VALUE`
-fn read_sub(words: &[&[u8]], scope: &Scope) -> Result<ActionLine, FaultKind>
-    ensures value { Gives (λ line. line) result (option_map (changing Action.Sub) (change_of
-        (plain_scope scope.now) (texts words.now))) }
-    ensures room { OnOk result (scope.now.actions < MAX_ACTIONS) }
-{
-    let (table, key, value) = read_change(words, scope)?;
-    Ok(plain(Action::Sub { table, key, value }))
+    if word == b"set".as_slice() {
+        Ok(Update::Set)
+    } else if word == b"add".as_slice() {
+        Ok(Update::Add)
+    } else if word == b"sub".as_slice() {
+        Ok(Update::Sub)
+    } else if word == b"max".as_slice() && version == Version::Two {
+        Ok(Update::Max)
+    } else {
+        Err(FaultKind::BadLine)
+    }
 }
 
 /// `TABLE KEY VALUE`, what changes a cell.

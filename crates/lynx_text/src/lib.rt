@@ -11,5 +11,6 @@ pub use reading::{no_text_spells_two_sets, parse};
 mod action_line;
 mod lines;
 pub mod printing;
+mod range_line;
 pub mod reading;
 mod scope;

@@ -3,8 +3,9 @@ ghost use Rattle.std.specs.Prelude.{◌≡◌, ◌≢◌, ◌<◌, ◌==◌, ◌
 ghost use Rattle.std.specs.List.{slice_split};
 ghost use Rattle.lynx_words.specs.Gives.{Gives};
 ghost use Rattle.lynx_words.specs.Lines.{is_feed, only_if, texts};
-ghost use Rattle.lynx_text.specs.Pieces.{after_version, begins, ends, is_version, next_piece, one_after, until, next_words};
+ghost use Rattle.lynx_text.specs.Pieces.{after_version, begins, ends, next_piece, one_after, until, next_words, version_of, version_told};
 
+use lynx_set::Version;
 use lynx_words::FaultKind;
 use lynx_words::lines::{next_line, place_of_byte, words_of};
 use std::alloc::Global;
@@ -17,6 +18,19 @@ fn until(text: &[u8], end: u8) -> &[u8]
     match place_of_byte(text, end) {
         Some(length) => &text[..length],
         None => text,
+    }
+}
+
+/// The version that a line tells.
+fn version_of(line: &[u8]) -> Option<Version>
+    ensures { result ≡ version_of line.now }
+{
+    if line == b"lynx 1".as_slice() {
+        Some(Version::One)
+    } else if line == b"lynx 2".as_slice() {
+        Some(Version::Two)
+    } else {
+        None
     }
 }
 
@@ -136,29 +150,30 @@ impl<'a> Lines<'a> {
         until(until(self.rest, b'\n'), b' ') == word
     }
 
-    /// Takes the version's line. It is a bad version where the first line is another one, and else a bad line
-    /// where no LF ends it.
-    pub fn version(&mut self) -> Result<(), FaultKind>
-        ensures bad { IsErrOf result FaultKind.BadVersion ↔ (is_version self.old ≡ false) }
-        ensures ok { OnOk result (after_version self.old ≡ Some self.new) }
+    /// Takes the version's line. It is a bad version where the first line is no version's, and else a bad line where no
+    /// LF ends it.
+    pub fn version(&mut self) -> Result<Version, FaultKind>
+        ensures bad { IsErrOf result FaultKind.BadVersion ↔ (version_told self.old ≡ None) }
+        ensures ok { IfOk result (λ version. after_version self.old ≡ Some (version, self.new)) }
         ensures none { OnErr result (after_version self.old ≡ None) }
         ensures err { IfErr result (λ kind. (kind ≡ FaultKind.BadVersion)
             ⊎ (kind ≡ FaultKind.BadLine)) }
     {
-        if !self.is_version() {
+        let Some(version) = self.version_told() else {
             self.line = 1;
             return Err(FaultKind::BadVersion);
-        }
+        };
         match self.next() {
-            Some(_) => Ok(()),
+            Some(_) => Ok(version),
             None => Err(FaultKind::BadLine),
         }
     }
 
-    fn is_version(&self) -> bool
-        ensures { result ≡ is_version self.now }
+    /// The version that the next line tells.
+    fn version_told(&self) -> Option<Version>
+        ensures { result ≡ version_told self.now }
     {
-        until(self.rest, b'\n') == b"lynx 1".as_slice()
+        version_of(until(self.rest, b'\n'))
     }
 
     /// Wants that no line is left.

@@ -1,13 +1,16 @@
 //! Writing the text of a set.
 
-ghost use Rattle.std.specs.Prelude.{◌≡◌, ◌<◌, ◌^◌, ◌+◌, ◌++◌, ◌∷◌, [], List, OnOk, IfOk, decimal, sum_by, flat_map, unwrap_or, slice_get};
+ghost use Rattle.std.specs.Prelude.{◌≡◌, ◌<◌, ◌^◌, ◌+◌, ◌++◌, ◌∷◌, [], List, OnOk, IfOk, decimal, sum_by, map, flat_map, unwrap_or, slice_get};
 ghost use Rattle.lynx_names.specs.declared.limits.TheConstants.{MAX_ACTIONS};
 ghost use Rattle.lynx_words.specs.Lines.{spaced, joined, line};
-ghost use Rattle.lynx_set.specs.Text.{name_at, key_word, operand_word, operator_word, relation_word, action_words, bound_names, bound_in, action_lines, hop_lines, hops_lines, program_words, program_lines, programs_lines, shard_words, table_lines, tables_lines, head_lines, text, text_of};
+ghost use Rattle.lynx_set.specs.Text.{name_at, key_word, operand_word, operator_word, relation_word, update_word, action_words, bound_names, bound_in, action_lines, hop_lines, hops_lines, program_words, interval_word, range_words, program_lines, programs_lines, shard_words, table_lines, tables_lines, version_word, head_lines, text, text_of};
 
 use indexmap::IndexMap;
 use lynx_names::{Items, Memory, TableId};
-use lynx_set::{Action, ChainSet, Hop, Key, Operand, Operator, Program, Relation};
+use lynx_set::{
+    Action, ChainSet, Hop, Interval, Key, Operand, Operator, ParameterRange, Program, Relation,
+    Update, Version,
+};
 use lynx_shards::Shard;
 use lynx_words::Name;
 use std::alloc::Global;
@@ -18,7 +21,7 @@ pub fn print(alloc: Global, set: &ChainSet) -> Result<Vec<u8>, Memory>
     ensures { IfOk result (λ bytes. bytes.items ≡ text_of set.now) }
 {
     let mut out = Vec::new(alloc);
-    put_head(alloc, &mut out, set.servers())?;
+    put_head(alloc, &mut out, set.version(), set.servers())?;
     put_tables(
         alloc,
         &mut out,
@@ -29,16 +32,27 @@ pub fn print(alloc: Global, set: &ChainSet) -> Result<Vec<u8>, Memory>
     Ok(out)
 }
 
-fn put_head(alloc: Global, out: &mut Vec<u8>, servers: u8) -> Result<(), Memory>
-    ensures { OnOk result (out.new.items ≡ out.old.items ++ text (head_lines servers)) }
+fn put_head(alloc: Global, out: &mut Vec<u8>, version: Version, servers: u8) -> Result<(), Memory>
+    ensures { OnOk result (out.new.items ≡ out.old.items ++ text (head_lines version servers)) }
 {
-    out.extend_from_slice(b"lynx 1\nservers ".as_slice())?;
+    out.extend_from_slice(b"lynx ".as_slice())?;
+    out.extend_from_slice(version_word(version))?;
+    out.extend_from_slice(b"\nservers ".as_slice())?;
     put_number(alloc, out, u64::from(servers))?;
     end_line(out)?;
     Ok(())
 }
 
 #[tactic(auto, using(crate::proofs::Texts::text_append))]
+fn version_word(version: Version) -> &'static [u8]
+    ensures { result.now ≡ version_word version }
+{
+    match version {
+        Version::One => b"1",
+        Version::Two => b"2",
+    }
+}
+
 fn put_tables(
     alloc: Global,
     out: &mut Vec<u8>,
@@ -109,6 +123,12 @@ fn put_program(
         (name.now, program.now))) }
 {
     put_program_head(out, name, program)?;
+    put_ranges(
+        alloc,
+        out,
+        program.names.as_slice(),
+        program.ranges.as_slice(),
+    )?;
     put_hops(alloc, out, tables, program)?;
     out.extend_from_slice(b"end\n".as_slice())?;
     Ok(())
@@ -123,6 +143,45 @@ fn put_program_head(out: &mut Vec<u8>, name: &Name, program: &Program) -> Result
     let names = program.names.as_slice();
     put_words(out, &names[..program.parameters.min(names.len())])?;
     end_line(out)
+}
+
+fn put_ranges(
+    alloc: Global,
+    out: &mut Vec<u8>,
+    names: &[Name],
+    ranges: &[ParameterRange],
+) -> Result<(), Memory>
+    ensures { OnOk result (out.new.items ≡ out.old.items ++ text
+        (map (range_words names.now) ranges.now)) }
+{
+    for range in ranges {
+        put_range(alloc, out, names, range)?;
+    }
+    Ok(())
+}
+
+fn put_range(
+    alloc: Global,
+    out: &mut Vec<u8>,
+    names: &[Name],
+    range: &ParameterRange,
+) -> Result<(), Memory>
+    ensures { OnOk result (out.new.items ≡ out.old.items ++ line (range_words names.now range.now)) }
+{
+    out.extend_from_slice(b"range".as_slice())?;
+    put_name(out, names, usize::from(range.parameter))?;
+    out.push(b' ')?;
+    put_interval(alloc, out, range.interval)?;
+    end_line(out)
+}
+
+/// Writes an interval, `..` between its ends. Where memory is wanting a part of it may be written.
+pub fn put_interval(alloc: Global, out: &mut Vec<u8>, interval: Interval) -> Result<(), Memory>
+    ensures { OnOk result (out.new.items ≡ out.old.items ++ interval_word interval) }
+{
+    put_number(alloc, out, interval.low)?;
+    out.extend_from_slice(b"..".as_slice())?;
+    put_number(alloc, out, interval.high)
 }
 
 /// Writes a space before each name.
@@ -216,15 +275,12 @@ pub fn put_action_words(
 {
     match *action {
         Action::Get { table, key } => put_get(alloc, out, tables, names, place, (table, key)),
-        Action::Set { table, key, value } => {
-            put_change(alloc, out, tables, names, b"set", (table, key), value)
-        }
-        Action::Add { table, key, value } => {
-            put_change(alloc, out, tables, names, b"add", (table, key), value)
-        }
-        Action::Sub { table, key, value } => {
-            put_change(alloc, out, tables, names, b"sub", (table, key), value)
-        }
+        Action::Update {
+            update,
+            table,
+            key,
+            value,
+        } => put_update(alloc, out, tables, names, update, (table, key), value),
         Action::Let {
             left,
             operator,
@@ -256,23 +312,33 @@ fn put_get(
 }
 
 /// Writes the words of an action that changes a cell.
-fn put_change(
+fn put_update(
     alloc: Global,
     out: &mut Vec<u8>,
     tables: &[Name],
     names: &[Name],
-    verb: &[u8],
+    update: Update,
     cell: (TableId, Key),
     value: Operand,
 ) -> Result<(), Memory>
     ensures { OnOk result (out.new.items ≡ out.old.items ++ joined
-        (verb.now ∷ name_at tables.now cell.0 ∷ key_word names.now cell.1
-        ∷ operand_word names.now value ∷ [])) }
+        (action_words tables.now names.now 0 (Action.Update update cell.0 cell.1 value))) }
 {
     let (table, key) = cell;
-    out.extend_from_slice(verb)?;
+    out.extend_from_slice(verb_of(update))?;
     put_cell(alloc, out, tables, names, table, key)?;
     put_operand(alloc, out, names, value)
+}
+
+fn verb_of(update: Update) -> &'static [u8]
+    ensures { result.now ≡ update_word update }
+{
+    match update {
+        Update::Set => b"set",
+        Update::Add => b"add",
+        Update::Sub => b"sub",
+        Update::Max => b"max",
+    }
 }
 
 fn put_let(

@@ -3,24 +3,26 @@
 ghost use Rattle.std.specs.Prelude.{◌≡◌, ◌≢◌, ◌↔◌, ◌⊎◌, false, codes, IfErr, IsErrAnd, IsErrOf, ◌<◌, ◌≤◌, ◌+◌, ◌-◌, [], None, Some, length, map, OnOk, IfOk};
 ghost use Rattle.lynx_words.specs.Gives.{Gives, IsOfLine};
 ghost use Rattle.lynx_words.specs.Lines.{texts};
-ghost use Rattle.lynx_text.specs.Pieces.{is_version, until};
+ghost use Rattle.lynx_text.specs.Pieces.{until, version_of, version_told};
 ghost use Rattle.lynx_set.specs.Plain.{plain_set, plain_program};
 ghost use Rattle.lynx_set.specs.Home.{AreLiteralsHome};
 ghost use Rattle.lynx_set.specs.Rules.{IsSet};
 ghost use Rattle.lynx_set.specs.Set.{Set};
 ghost use Rattle.lynx_set.specs.Text.{text_of};
 ghost use Rattle.lynx_set.specs.Names.{place_of};
-ghost use Rattle.lynx_text.specs.Parts.{parts, goes_shard, goes_table, goes_action, goes_hop, goes_program, next_shard, next_table, next_action, next_hop, next_program, set_at, lines_at, read_text, with_name, servers_of, table_line, shard_line, program_line, parameters_of, hop_line, end_line};
+ghost use Rattle.lynx_text.specs.Parts.{parts, goes_shard, goes_table, goes_action, goes_hop, goes_program, next_shard, next_table, next_action, next_hop, program_head, next_program, set_at, lines_at, read_text, with_name, servers_of, table_line, shard_line, program_line, parameters_of, hop_line, end_line};
+ghost use Rattle.lynx_text.specs.Ranges.{goes_range, next_parameter, next_range};
 ghost use Rattle.lynx_names.specs.declared.limits.TheConstants.{MAX_ACTIONS, MAX_HOPS, MAX_PARAMETERS, MAX_PROGRAMS, MAX_SERVERS, MAX_SHARDS, MAX_TABLES, MAX_TEXT_BYTES};
 
 use crate::action_line::read_action;
 use crate::lines::{Lines, four_words, one_after, two_and_more};
+use crate::range_line::read_range_line;
 use crate::scope::{Scope, name_of, new_name, number_of};
 use lynx_names::limits::{
     MAX_HOPS, MAX_PARAMETERS, MAX_PROGRAMS, MAX_SERVERS, MAX_SHARDS, MAX_TABLES, MAX_TEXT_BYTES,
 };
 use lynx_names::{Items, ServerId};
-use lynx_set::{Action, ChainSet, Hop, Program};
+use lynx_set::{Action, ChainSet, Hop, Program, Version};
 use lynx_shards::{Range, ShardFault, TableShards};
 use lynx_words::{FaultKind, Name, TextFault};
 use std::alloc::Global;
@@ -38,7 +40,7 @@ pub fn parse(alloc: Global, text: &[u8]) -> Result<ChainSet, TextFault>
     ensures too_long { IsErrAnd result (λ fault. fault.kind ≡ FaultKind.TooLong)
         ↔ (MAX_TEXT_BYTES < length text.now) }
     ensures bad_version { IsErrAnd result (λ fault. fault.kind ≡ FaultKind.BadVersion)
-        ↔ (length text.now ≤ MAX_TEXT_BYTES) × (until text.now 10 ≢ codes "lynx 1") }
+        ↔ (length text.now ≤ MAX_TEXT_BYTES) × (version_of (until text.now 10) ≡ None) }
 {
     read_text(alloc, text)
 }
@@ -56,7 +58,7 @@ fn read_text(alloc: Global, text: &[u8]) -> Result<ChainSet, TextFault>
     ensures too_long { IsErrAnd result (λ fault. fault.kind ≡ FaultKind.TooLong)
         ↔ (MAX_TEXT_BYTES < length text.now) }
     ensures bad_version { IsErrAnd result (λ fault. fault.kind ≡ FaultKind.BadVersion)
-        ↔ (length text.now ≤ MAX_TEXT_BYTES) × (until text.now 10 ≢ codes "lynx 1") }
+        ↔ (length text.now ≤ MAX_TEXT_BYTES) × (version_of (until text.now 10) ≡ None) }
 {
     if text.len() > MAX_TEXT_BYTES {
         return Err(TextFault {
@@ -79,23 +81,23 @@ fn read_text(alloc: Global, text: &[u8]) -> Result<ChainSet, TextFault>
 fn read_lines(alloc: Global, lines: &mut Lines) -> Result<ChainSet, FaultKind>
     ensures found { IfOk result (λ set. lines_at lines.old ≡ Some (plain_set set)) }
     ensures none { IfErr result (λ kind. (kind ≡ FaultKind.Memory) ⊎ (lines_at lines.old ≡ None)) }
-    ensures version { IsErrOf result FaultKind.BadVersion ↔ (is_version lines.old ≡ false) }
+    ensures version { IsErrOf result FaultKind.BadVersion ↔ (version_told lines.old ≡ None) }
     ensures short { IfErr result (λ kind. kind ≢ FaultKind.TooLong) }
 {
-    lines.version()?;
-    let set = read_set(alloc, lines)?;
+    let version = lines.version()?;
+    let set = read_set(alloc, lines, version)?;
     Ok(set)
 }
 
 /// The lines after the version's.
 #[tactic(auto, unfolding(crate::specs::Parts::set_at))]
-fn read_set(alloc: Global, lines: &mut Lines) -> Result<ChainSet, FaultKind>
-    ensures value { Gives plain_set result (set_at lines.old) }
+fn read_set(alloc: Global, lines: &mut Lines, version: Version) -> Result<ChainSet, FaultKind>
+    ensures value { Gives plain_set result (set_at version lines.old) }
     ensures line { IfErr result IsOfLine }
 {
     let words = lines.next_words(alloc)?;
     let servers = read_servers(&words)?;
-    let mut set = ChainSet::new(alloc, servers);
+    let mut set = ChainSet::new(alloc, version, servers);
     read_tables(alloc, lines, &mut set)?;
     read_programs(alloc, lines, &mut set)?;
     lines.end()?;
@@ -235,7 +237,7 @@ fn read_shard_line(words: &[&[u8]], shards: &TableShards) -> Result<Range, Fault
     Ok(Range { low, high, server })
 }
 
-/// A program's line, its hops and its end.
+/// A program's line, those of its ranges, its hops and its end.
 #[tactic(auto, using(crate::proofs::Sets::names_plain), unfolding(crate::specs::Parts::next_program))]
 fn read_program(alloc: Global, lines: &mut Lines, set: &mut ChainSet) -> Result<(), FaultKind>
     ensures value { Gives (λ _. (plain_set set.new, lines.new)) result (next_program
@@ -244,18 +246,89 @@ fn read_program(alloc: Global, lines: &mut Lines, set: &mut ChainSet) -> Result<
     ensures count { OnOk result (length set.new.programs ≡ length set.old.programs + 1) }
     ensures few { OnOk result (length set.new.programs ≤ MAX_PROGRAMS) }
 {
-    let words = lines.next_words(alloc)?;
-    let (name, names) = read_program_line(alloc, &words, set)?;
-    let mut program = Program {
-        parameters: names.len(),
-        names,
-        hops: Items::new(alloc),
-    };
+    let (name, mut program) = read_program_head(alloc, lines, set)?;
     read_hop(alloc, lines, set, &mut program)?;
     read_hops(alloc, lines, set, &mut program)?;
     let words = lines.next_words(alloc)?;
     read_end(&words)?;
     set.add_program(name, program)?;
+    Ok(())
+}
+
+/// A program's line and those of its ranges. It has no hops yet.
+#[tactic(auto, using(crate::proofs::Sets::names_plain), unfolding(crate::specs::Parts::program_head))]
+fn read_program_head(
+    alloc: Global,
+    lines: &mut Lines,
+    set: &ChainSet,
+) -> Result<(Name, Program), FaultKind>
+    ensures value { Gives (λ head. ((head.0, plain_program head.1), lines.new)) result
+        (program_head (plain_set set.now) lines.old) }
+    ensures shrinks { OnOk result (length lines.new < length lines.old) }
+    ensures new { IfOk result (λ head. place_of (map (λ named.
+        named.0) set.now.programs) head.0 ≡ None) }
+    ensures room { OnOk result (length set.now.programs < MAX_PROGRAMS) }
+    ensures hops { IfOk result (λ head. head.1.hops ≡ []) }
+{
+    let words = lines.next_words(alloc)?;
+    let (name, names) = read_program_line(alloc, &words, set)?;
+    let mut program = Program {
+        parameters: names.len(),
+        names,
+        ranges: Items::new(alloc),
+        hops: Items::new(alloc),
+    };
+    read_ranges(alloc, lines, set.version(), &mut program)?;
+    Ok((name, program))
+}
+
+/// The ranges of a program that has none yet.
+fn read_ranges(
+    alloc: Global,
+    lines: &mut Lines,
+    version: Version,
+    program: &mut Program,
+) -> Result<(), FaultKind>
+    requires none { program.old.ranges ≡ [] }
+    requires few { length program.old.names ≤ MAX_PARAMETERS }
+    ensures value { Gives (λ _. (plain_program program.new, lines.new)) result
+        (parts (goes_range version) next_range MAX_PARAMETERS (plain_program program.old)
+        lines.old) }
+    ensures shrinks { OnOk result (length lines.new ≤ length lines.old) }
+    ensures hops { program.new.hops ≡ program.old.hops }
+{
+    'range_lines: while is_range_next(lines, version) {
+        add_range(alloc, lines, program)?;
+    }
+    Ok(())
+}
+
+/// Whether the next line is a range's. Version 1 has none.
+fn is_range_next(lines: &Lines, version: Version) -> bool
+    ensures { result ≡ goes_range version lines.now }
+{
+    match version {
+        Version::One => false,
+        Version::Two => lines.begins_with(b"range".as_slice()),
+    }
+}
+
+/// Reads the line of a program's next range, and adds the range.
+#[tactic(auto, unfolding(crate::specs::Ranges::next_range))]
+fn add_range(alloc: Global, lines: &mut Lines, program: &mut Program) -> Result<(), FaultKind>
+    ensures value { Gives (λ _. (plain_program program.new, lines.new)) result (next_range
+        (plain_program program.old) lines.old) }
+    ensures shrinks { OnOk result (length lines.new < length lines.old) }
+    ensures count { OnOk result (length program.new.ranges ≡ length program.old.ranges + 1) }
+    ensures behind { OnOk result
+        (next_parameter program.old.ranges < next_parameter program.new.ranges) }
+    ensures within { OnOk result (next_parameter program.new.ranges ≤ length program.new.names) }
+    ensures names { program.new.names ≡ program.old.names }
+    ensures hops { program.new.hops ≡ program.old.hops }
+{
+    let words = lines.next_words(alloc)?;
+    let range = read_range_line(&words, program.names.as_slice(), program.ranges.as_slice())?;
+    program.ranges.push(range)?;
     Ok(())
 }
 

@@ -68,7 +68,7 @@ impl Scope<'_> {
         if begins_with_digit(word) {
             return Ok(Key::Literal(number_of(word)?));
         }
-        let place = self.known_name(word)?;
+        let place = known_name(self.names, word)?;
         if usize::from(place) < self.parameters {
             Ok(Key::Param(place))
         } else {
@@ -83,7 +83,7 @@ impl Scope<'_> {
         if begins_with_digit(word) {
             return Ok(Operand::Number(number_of(word)?));
         }
-        Ok(Operand::Name(self.known_name(word)?))
+        Ok(Operand::Name(known_name(self.names, word)?))
     }
 
     /// A literal key is at the hop's server.
@@ -102,13 +102,14 @@ impl Scope<'_> {
             Key::Param(_) => Ok(()),
         }
     }
+}
 
-    fn known_name(&self, word: &[u8]) -> Result<u8, FaultKind>
-        ensures { Gives (λ place. place) result (known_name self.now.names.now word.now) }
-    {
-        let name = name_of(word)?;
-        place_of(self.names, &name).ok_or(FaultKind::Unknown)
-    }
+/// The place of a name that is known.
+pub(crate) fn known_name(names: &[Name], word: &[u8]) -> Result<u8, FaultKind>
+    ensures { Gives (λ place. place) result (known_name names.now word.now) }
+{
+    let name = name_of(word)?;
+    place_of(names, &name).ok_or(FaultKind::Unknown)
 }
 
 /// A name that isn't among these.

@@ -5,6 +5,7 @@ use Rattle.lynx_set.specs.Scopes.{PlainScope}
 -- what a scope says
 abbrev pub plain_scope : Scope → PlainScope
 plain_scope scope = record {
+  version = scope.set.now.version;
   tables = scope.set.now.tables;
   shards = scope.set.now.shards;
   parameters = scope.parameters;

@@ -23,6 +23,8 @@ pub enum Answer {
     WrongOrigin,
     /// The program has another count of parameters.
     ArgCount,
+    /// An argument isn't in its parameter's range.
+    OutsideRange,
     /// A key parameter's cell isn't at its hop's server.
     WrongShard,
     /// The server's history has all the entries, or all the stamps, that it may have.
@@ -86,6 +88,7 @@ impl Answer {
             Answer::UnknownProgram => Answer::UnknownProgram,
             Answer::WrongOrigin => Answer::WrongOrigin,
             Answer::ArgCount => Answer::ArgCount,
+            Answer::OutsideRange => Answer::OutsideRange,
             Answer::WrongShard => Answer::WrongShard,
             Answer::Full => Answer::Full,
             Answer::Busy => Answer::Busy,

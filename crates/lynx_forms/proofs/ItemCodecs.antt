@@ -83,7 +83,7 @@ are_answers = (
                 plain 7 answers.Busy refl tt,
                 (
                   made_choice answer IsAnswer refused_fields 8 refused_of (λ f. refl) (λ f fits. (fits.0, fits.1.0)),
-                  (plain 9 answers.Stopped refl tt, (plain 10 answers.Memory refl tt, tt)),
+                  (plain 9 answers.Stopped refl tt, (plain 10 answers.Memory refl tt, (plain 11 answers.OutsideRange refl tt, tt))),
                 ),
               ),
             ),
@@ -107,6 +107,7 @@ answer_again answers.Busy rest fits = refl
 answer_again (answers.Refused need stamp again) rest fits = made_again refused_fields refused_of (need, (stamp, again)) rest (fits.0, (fits.1, tt))
 answer_again answers.Stopped rest fits = refl
 answer_again answers.Memory rest fits = refl
+answer_again answers.OutsideRange rest fits = refl
 
 answer_short : (a : Answer) → IsAnswer a → length (answer a) ≤ 148
 answer_short (answers.Begun id stamp results again) fits = omega (arith, begun_fields.short (id, (stamp, (again, results))) (fits.0, (fits.1.0, (tt, fits.1.1))))
@@ -120,6 +121,7 @@ answer_short answers.Busy fits = omega arith
 answer_short (answers.Refused need stamp again) fits = omega (arith, refused_fields.short (need, (stamp, again)) (fits.0, (fits.1, tt)))
 answer_short answers.Stopped fits = omega arith
 answer_short answers.Memory fits = omega arith
+answer_short answers.OutsideRange fits = omega arith
 
 pub answer_codec : IsCodec answer IsAnswer 148 answer_at
 unfolding answer_at

@@ -32,6 +32,7 @@ answer_in_range answers.Busy fits = tt
 answer_in_range (answers.Refused need stamp again) fits = fits.0
 answer_in_range answers.Stopped fits = tt
 answer_in_range answers.Memory fits = tt
+answer_in_range answers.OutsideRange fits = tt
 
 looked_in_range : (l : Looked) → IsLooked l → IsLookedInRange l
 looked_in_range looks.Absent fits = tt

@@ -51,7 +51,7 @@ answer_kinds =
     (0, begun_at) ∷ (1, nothing answers.Clash) ∷ (2, nothing answers.UnknownProgram)
     ∷ (3, nothing answers.WrongOrigin) ∷ (4, nothing answers.ArgCount)
     ∷ (5, nothing answers.WrongShard) ∷ (6, nothing answers.Full) ∷ (7, nothing answers.Busy) ∷ (8, refused_at)
-    ∷ (9, nothing answers.Stopped) ∷ (10, nothing answers.Memory) ∷ []
+    ∷ (9, nothing answers.Stopped) ∷ (10, nothing answers.Memory) ∷ (11, nothing answers.OutsideRange) ∷ []
 
 unfoldable pub answer_at : Reader Answer
 answer_at = one_of answer_kinds

@@ -37,6 +37,7 @@ answer answers.Busy = 7 ∷ []
 answer (answers.Refused need stamp again) = 8 ∷ need ∷ (word stamp ++ flag again)
 answer answers.Stopped = 9 ∷ []
 answer answers.Memory = 10 ∷ []
+answer answers.OutsideRange = 11 ∷ []
 
 abbrev pub looked : Looked → List ℕ
 looked looks.Absent = 0 ∷ []

@@ -65,6 +65,7 @@ fn put_answer(out: &mut Vec<u8>, given: &Answer)
         }
         Answer::Stopped => put_byte(out, 9),
         Answer::Memory => put_byte(out, 10),
+        Answer::OutsideRange => put_byte(out, 11),
     }
 }
 

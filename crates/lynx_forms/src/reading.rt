@@ -53,6 +53,7 @@ fn read_answer(alloc: Global, body: &mut Body<'_>) -> Result<Answer, DecodeFault
         8 => read_refused(body),
         9 => Ok(Answer::Stopped),
         10 => Ok(Answer::Memory),
+        11 => Ok(Answer::OutsideRange),
         _ => Err(DecodeFault::OutOfRange),
     }
 }

@@ -5,7 +5,7 @@ use Rattle.std.specs.Fmt.{decimal}
 use Rattle.lynx_names.specs.Chain.{chain_text}
 use Rattle.lynx_names.specs.declared.chain.ChainId.{ChainId}
 use Rattle.lynx_entry.specs.declared.answer.Answer.{Answer}
-use Rattle.lynx_entry.specs.declared.answer.Answer.TheVariants.{Begun, Clash, UnknownProgram, WrongOrigin, ArgCount, WrongShard, Full, Busy, Refused, Stopped, Memory}
+use Rattle.lynx_entry.specs.declared.answer.Answer.TheVariants.{Begun, Clash, UnknownProgram, WrongOrigin, ArgCount, OutsideRange, WrongShard, Full, Busy, Refused, Stopped, Memory}
 use Rattle.lynx_entry.specs.declared.answer.Delivered.{Delivered}
 use Rattle.lynx_entry.specs.declared.answer.Delivered.TheVariants.{Done, Repeat, Held, Dropped, Malformed, Full as FullThere, Stopped as StoppedThere, Memory as MemoryThere}
 use Rattle.lynx_entry.specs.declared.message.Message.{Message}
@@ -32,6 +32,7 @@ answer_text Clash = codes "clash"
 answer_text UnknownProgram = codes "unknown-program"
 answer_text WrongOrigin = codes "wrong-origin"
 answer_text ArgCount = codes "arg-count"
+answer_text OutsideRange = codes "outside-range"
 answer_text WrongShard = codes "wrong-shard"
 answer_text Full = codes "full"
 answer_text Busy = codes "busy"

@@ -65,6 +65,7 @@ fn push_answer(text: &mut String, answer: &Answer) -> Result<(), AllocError>
         Answer::UnknownProgram => text.push_str("unknown-program"),
         Answer::WrongOrigin => text.push_str("wrong-origin"),
         Answer::ArgCount => text.push_str("arg-count"),
+        Answer::OutsideRange => text.push_str("outside-range"),
         Answer::WrongShard => text.push_str("wrong-shard"),
         Answer::Full => text.push_str("full"),
         Answer::Busy => text.push_str("busy"),

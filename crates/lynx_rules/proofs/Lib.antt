@@ -1,2 +1,2 @@
-pub mod Ranges
+mod Marks
 pub mod Steps

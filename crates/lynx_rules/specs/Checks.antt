@@ -12,7 +12,7 @@ use Rattle.lynx_set.specs.Set.{Set}
 use Rattle.lynx_shards.specs.Shards.{server_of}
 use Rattle.lynx_hops.specs.Meaning.{key_of}
 use Rattle.lynx_entry.specs.declared.answer.Answer.{Answer}
-use Rattle.lynx_entry.specs.declared.answer.Answer.TheVariants.{UnknownProgram, WrongOrigin, ArgCount, WrongShard}
+use Rattle.lynx_entry.specs.declared.answer.Answer.TheVariants.{UnknownProgram, WrongOrigin, ArgCount, OutsideRange, WrongShard}
 use Rattle.lynx_entry.specs.declared.request.Request.{Request}
 use Rattle.lynx_entry.specs.declared.message.Message.{Message}
 use Rattle.lynx_names.specs.declared.numbers.NumberAt.{NumberAt}
@@ -20,6 +20,7 @@ use Rattle.lynx_entry.specs.declared.entry.Entry.{Entry}
 use Rattle.lynx_entry.specs.declared.entry.Entry.TheVariants.{Begun, Refused, Hop as HopRan}
 use Rattle.lynx_entry.specs.Entry.{History}
 use Rattle.lynx_rules.specs.Visits.{is_origin, visited}
+use Rattle.lynx_set.specs.Intervals.{are_in_range}
 use Rattle.lynx_set.specs.Lookups.{binds, cell_of, program_at}
 
 -- a key that is a parameter names a cell of the server; a literal was judged with the set's text
@@ -38,14 +39,19 @@ is_action_at set server args action = is_cell_at set server args (cell_of action
 abbrev pub are_keys_placed : Set → List ℕ → List Hop → Bool
 are_keys_placed set args hops = list_all (λ hop. list_all (is_action_at set hop.server args) hop.actions) hops
 
+-- the arguments are in their ranges, and each hop's cells at the hop's server
+abbrev pub do_args_fit : Set → List ℕ → Program → Bool
+do_args_fit set args program = are_in_range program.ranges args && are_keys_placed set args program.hops
+
 -- what is wrong with a request at this server, in the order in which it is judged
 abbrev pub request_fault_in : Set → ℕ → Request → Option Program → Option Answer
 request_fault_in set server request None = Some UnknownProgram
 request_fault_in set server request (Some program) =
     if not (is_origin set request.program server) then Some WrongOrigin
     else (if not (length request.args == program.parameters) then Some ArgCount
+    else (if not (are_in_range program.ranges request.args) then Some OutsideRange
     else (if not (are_keys_placed set request.args program.hops) then Some WrongShard
-    else None))
+    else None)))
 
 abbrev pub request_fault : Set → ℕ → Request → Option Answer
 request_fault set server request = request_fault_in set server request (program_at set request.program)
@@ -75,7 +81,7 @@ fits set server message program hop servers =
     && (hop.server == server)
     && is_origin set message.program message.chain.origin
     && (program.parameters == length message.args)
-    && are_keys_placed set message.args program.hops
+    && do_args_fit set message.args program
     && pointwise nat_eq (map (λ number. number.server) message.numbers) servers
     && pointwise nat_eq (map length message.results) (map result_count (take message.hop program.hops))
 
@@ -92,7 +98,7 @@ abbrev pub has_begun : ℕ → History → Message → Bool
 has_begun server history message = not (message.chain.origin == server) || list_any (begins message) history
 
 -- A message that the set and this server's own begins allow: a later hop of a program of the set, at this server,
--- with that program's origin and count of arguments, keys at their servers, a number for each visited server, and
+-- with that program's origin and count of arguments, in their ranges, keys at their servers, a number for each visited server, and
 -- as many earlier results as are declared; a chain of this origin began here.
 abbrev pub is_well_formed : Set → ℕ → History → Message → Bool
 is_well_formed set server history message =

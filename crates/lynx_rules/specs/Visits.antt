@@ -1,7 +1,8 @@
 -- Which servers a program visits, and in which hops.
-use Rattle.std.specs.Prelude.{ℕ, ◌==◌, ◌&&◌, Bool, false, not, List, [], ◌∷◌, drop, filter}
+use Rattle.std.specs.Prelude.{ℕ, ◌≡◌, ◌<◌, ◌==◌, ◌&&◌, Bool, false, not, List, [], ◌∷◌, drop, filter}
 use Rattle.std.specs.List.{list_any, range_with_len}
 use Rattle.lynx_names.specs.declared.limits.TheConstants.{MAX_SERVERS}
+use Rattle.lynx_names.specs.ServerList.{is_marked}
 use Rattle.lynx_set.specs.declared.program.Hop.{Hop}
 use Rattle.lynx_set.specs.Set.{Set}
 use Rattle.lynx_set.specs.Lookups.{hops_of}
@@ -18,6 +19,10 @@ is_origin set program server = starts_at (hops_of set program) server
 -- one of these hops is at the server
 abbrev pub visits : List Hop → ℕ → Bool
 visits hops server = list_any (λ hop. hop.server == server) hops
+
+-- for each server there is a mark, whether one of these hops is there
+abbrev pub MarksVisits : List Hop → List Bool → Type 0
+MarksVisits hops marks = (server : ℕ) → server < MAX_SERVERS → is_marked marks server ≡ visits hops server
 
 -- the servers that a program visits, rising
 unfoldable pub visited : Set → ℕ → List ℕ

@@ -1,16 +1,15 @@
 //! What a request and a message are asked before they are served.
-ghost use Rattle.std.specs.Prelude.{◌≡◌, IfOk, Some, None, map, length, nat_eq, ◌≤◌};
+ghost use Rattle.std.specs.Prelude.{◌≡◌, Some, None, map, length, nat_eq, ◌≤◌};
 ghost use Rattle.std.specs.List.{list_all};
 ghost use Rattle.std.specs.Cmp.Lexicographic.{pointwise};
-ghost use Rattle.lynx_rules.specs.Checks.{is_key_at, is_action_at, are_keys_placed, request_fault, result_count, begins, fits, fits_program};
+ghost use Rattle.lynx_rules.specs.Checks.{is_key_at, is_action_at, are_keys_placed, do_args_fit, request_fault, result_count, begins, fits, fits_program};
 ghost use Rattle.lynx_set.specs.Lookups.{program_at};
 
 use crate::visits::{is_origin, visited};
 use lynx_entry::{Answer, Entry, Message, NumberAt, Request};
 use lynx_hops::value::key_of;
-use lynx_names::{Memory, ServerId, TableId, Values};
-use lynx_set::{Action, ChainSet, Hop, Key, Program};
-use std::alloc::Global;
+use lynx_names::{ServerId, TableId, Values};
+use lynx_set::{Action, ChainSet, Hop, Key, Program, are_in_range};
 
 /// A key that is a parameter names a cell of the server; a literal was judged with the set's text.
 fn is_key_at(set: &ChainSet, server: ServerId, args: &[u64], table: TableId, key: Key) -> bool
@@ -47,8 +46,16 @@ fn are_keys_placed(set: &ChainSet, args: &[u64], hops: &[Hop]) -> bool
     hops.iter().all(|hop| is_hop_placed(set, args, hop))
 }
 
-/// What is wrong with a request at this server: the first of unknown program, wrong origin, count of arguments
-/// and wrong shard.
+/// The arguments are in their ranges, and each hop's cells at the hop's server.
+fn do_args_fit(set: &ChainSet, args: &[u64], program: &Program) -> bool
+    ensures { result ≡ do_args_fit set.now args.now program.now }
+{
+    are_in_range(program.ranges.as_slice(), args)
+        && are_keys_placed(set, args, program.hops.as_slice())
+}
+
+/// What is wrong with a request at this server: the first of unknown program, wrong origin, count of arguments,
+/// outside range and wrong shard.
 pub fn request_fault(set: &ChainSet, server: ServerId, request: &Request) -> Option<Answer>
     ensures { result ≡ request_fault set.now server request.now }
 {
@@ -59,6 +66,8 @@ pub fn request_fault(set: &ChainSet, server: ServerId, request: &Request) -> Opt
         Some(Answer::WrongOrigin)
     } else if request.args.len() != program.parameters {
         Some(Answer::ArgCount)
+    } else if !are_in_range(program.ranges.as_slice(), request.args.as_slice()) {
+        Some(Answer::OutsideRange)
     } else if !are_keys_placed(set, request.args.as_slice(), program.hops.as_slice()) {
         Some(Answer::WrongShard)
     } else {
@@ -135,7 +144,7 @@ fn fits(
         && hop.server == server
         && is_origin(set, message.program, message.chain.origin)
         && program.parameters == message.args.len()
-        && are_keys_placed(set, message.args.as_slice(), hops)
+        && do_args_fit(set, message.args.as_slice(), program)
         && are_for(message.numbers.as_slice(), servers)
         && have_counts(
             message.results.as_slice(),
@@ -143,22 +152,17 @@ fn fits(
         )
 }
 
-/// The message is of a later hop of a program of the set, and is what that hop may be sent.
-pub fn fits_program(
-    alloc: Global,
-    set: &ChainSet,
-    server: ServerId,
-    message: &Message,
-) -> Result<bool, Memory>
-    ensures { IfOk result (λ answer. answer ≡ fits_program set.now server message.now
-        (program_at set.now message.now.program)) }
+/// The message is of a later hop of a program of the set, and is what that hop may be sent. Takes no memory.
+pub fn fits_program(set: &ChainSet, server: ServerId, message: &Message) -> bool
+    ensures { result ≡ fits_program set.now server message.now
+        (program_at set.now message.now.program) }
 {
     let Some(program) = set.program(message.program) else {
-        return Ok(false);
+        return false;
     };
     let Some(hop) = program.hops.as_slice().get(usize::from(message.hop)) else {
-        return Ok(false);
+        return false;
     };
-    let servers = visited(alloc, set, message.program)?;
-    Ok(fits(set, server, message, program, hop, servers.as_slice()))
+    let servers = visited(set, message.program);
+    fits(set, server, message, program, hop, servers.as_slice())
 }

@@ -1,12 +1,12 @@
 //! Which servers a program visits, and in which hops.
-ghost use Rattle.std.specs.Prelude.{◌≡◌, ◌≤◌, filter, IfOk};
-ghost use Rattle.std.specs.List.{range_with_len};
-ghost use Rattle.lynx_rules.specs.Visits.{is_origin, visits, visited, is_last_at};
+ghost use Rattle.std.specs.Prelude.{◌≡◌};
+ghost use Rattle.lynx_rules.specs.Visits.{MarksVisits, is_origin, visits, visited, is_last_at};
 
 use lynx_names::limits::MAX_SERVERS;
-use lynx_names::{Memory, ProgramId, ServerId};
+use lynx_names::{ProgramId, ServerId, ServerList};
 use lynx_set::{ChainSet, Hop};
-use std::alloc::Global;
+
+const SERVERS: usize = MAX_SERVERS as usize;
 
 /// The server is the program's origin: that of its first hop.
 pub(crate) fn is_origin(set: &ChainSet, program: ProgramId, server: ServerId) -> bool
@@ -35,25 +35,20 @@ pub fn is_last_at(set: &ChainSet, server: ServerId, program: ProgramId, hop: usi
     }
 }
 
-/// Those of the first servers that the hops visit, rising.
-fn visited_below(alloc: Global, hops: &[Hop], end: u8) -> Result<Vec<ServerId>, Memory>
-    requires { end ≤ MAX_SERVERS }
-    ensures { IfOk result (λ servers. servers.items ≡ filter (λ server.
-        visits hops.now server) (range_with_len 0 end)) }
+/// For each server whether one of these hops is there.
+fn visit_marks(hops: &[Hop]) -> [bool; SERVERS]
+    ensures { MarksVisits hops.now result }
 {
-    let mut servers = Vec::new(alloc);
-    for number in 0..end {
-        let server = ServerId::at(number);
-        if visits(hops, server) {
-            servers.push(server)?;
-        }
+    let mut marks = [false; SERVERS];
+    for hop in hops {
+        marks[hop.server.index()] = true;
     }
-    Ok(servers)
+    marks
 }
 
-/// The servers that the program visits, rising.
-pub fn visited(alloc: Global, set: &ChainSet, program: ProgramId) -> Result<Vec<ServerId>, Memory>
-    ensures { IfOk result (λ servers. servers.items ≡ visited set.now program) }
+/// The servers that the program visits, rising. One look at each hop; takes no memory.
+pub fn visited(set: &ChainSet, program: ProgramId) -> ServerList
+    ensures { result ≡ visited set.now program }
 {
-    visited_below(alloc, set.hops(program), MAX_SERVERS)
+    ServerList::marked(&visit_marks(set.hops(program)))
 }

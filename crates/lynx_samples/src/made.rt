@@ -147,6 +147,7 @@ pub fn answer(alloc: Global, parts: AnswerParts) -> Result<Answer, Memory> {
         AnswerParts::UnknownProgram => Ok(Answer::UnknownProgram),
         AnswerParts::WrongOrigin => Ok(Answer::WrongOrigin),
         AnswerParts::ArgCount => Ok(Answer::ArgCount),
+        AnswerParts::OutsideRange => Ok(Answer::OutsideRange),
         AnswerParts::WrongShard => Ok(Answer::WrongShard),
         AnswerParts::Full => Ok(Answer::Full),
         AnswerParts::Busy => Ok(Answer::Busy),

@@ -78,6 +78,7 @@ pub enum AnswerParts {
     UnknownProgram,
     WrongOrigin,
     ArgCount,
+    OutsideRange,
     WrongShard,
     Full,
     Busy,

@@ -14,6 +14,7 @@ use Rattle.lynx_entry.specs.declared.request.Request.{Request}
 use Rattle.lynx_entry.specs.Answers.{HasFewResults}
 use Rattle.lynx_entry.specs.Entry.{History}
 use Rattle.lynx_rules.specs.Answers.{answer, answer_new, answer_recorded, begun_by, is_busy, is_full, only, recorded_answer, same_call}
+use Rattle.lynx_set.specs.Intervals.{are_in_range}
 use Rattle.lynx_rules.specs.Checks.{are_keys_placed, request_fault, request_fault_in}
 use Rattle.lynx_rules.specs.Lawful.{is_record_of, record_of}
 use Rattle.lynx_rules.specs.Tables.{tables_of}
@@ -54,14 +55,15 @@ no_fault_begins set server request None fault chain stamp results again found is
     let unknown : answers.UnknownProgram ≡ fault = cc in
     let told = unknown ∙ is in cc
 no_fault_begins set server request (Some program) fault chain stamp results again found is =
-    by (is_origin set request.program server) (nat_eq (length request.args) program.parameters) (are_keys_placed set request.args program.hops) found
+    by (is_origin set request.program server) (nat_eq (length request.args) program.parameters) (are_in_range program.ranges request.args) (are_keys_placed set request.args program.hops) found
   where
-    by : (a b c : Bool) →
-        (if not a then Some answers.WrongOrigin else (if not b then Some answers.ArgCount else (if not c then Some answers.WrongShard else None))) ≡ Some fault → ⊥
-    by false b c told = let same : answers.WrongOrigin ≡ fault = cc in let both = same ∙ is in cc
-    by true false c told = let same : answers.ArgCount ≡ fault = cc in let both = same ∙ is in cc
-    by true true false told = let same : answers.WrongShard ≡ fault = cc in let both = same ∙ is in cc
-    by true true true told = cc
+    by : (a b c d : Bool) →
+        (if not a then Some answers.WrongOrigin else (if not b then Some answers.ArgCount else (if not c then Some answers.OutsideRange else (if not d then Some answers.WrongShard else None)))) ≡ Some fault → ⊥
+    by false b c d told = let same : answers.WrongOrigin ≡ fault = cc in let both = same ∙ is in cc
+    by true false c d told = let same : answers.ArgCount ≡ fault = cc in let both = same ∙ is in cc
+    by true true false d told = let same : answers.OutsideRange ≡ fault = cc in let both = same ∙ is in cc
+    by true true true false told = let same : answers.WrongShard ≡ fault = cc in let both = same ∙ is in cc
+    by true true true true told = cc
 
 few_new : (set : Set) (server : ℕ) (history : History) (request : Request) (seen : ℕ) (fault : Option Answer) (chain : ChainId) (stamp : ℕ) (results : List ℕ) (again : Bool) →
     request_fault set server request ≡ fault → (answer_new set server history request seen fault).answer ≡ answers.Begun chain stamp results again → length results ≤ MAX_ACTIONS
@@ -104,6 +106,7 @@ few-given set server history request seen answers.Clash lawful is = omega arith
 few-given set server history request seen answers.UnknownProgram lawful is = omega arith
 few-given set server history request seen answers.WrongOrigin lawful is = omega arith
 few-given set server history request seen answers.ArgCount lawful is = omega arith
+few-given set server history request seen answers.OutsideRange lawful is = omega arith
 few-given set server history request seen answers.WrongShard lawful is = omega arith
 few-given set server history request seen answers.Full lawful is = omega arith
 few-given set server history request seen answers.Busy lawful is = omega arith

@@ -21,7 +21,7 @@ use Rattle.lynx_entry.specs.Entry.{History}
 use Rattle.lynx_rules.specs.Visits.{is_origin, starts_at, visits, visited}
 use Rattle.lynx_rules.specs.Turns.{numbered}
 use Rattle.lynx_rules.specs.Tables.{tables_of}
-use Rattle.lynx_rules.specs.Checks.{are_keys_placed, fits_hop, fits_program, request_fault_in, result_count, is_well_formed}
+use Rattle.lynx_rules.specs.Checks.{do_args_fit, fits_hop, fits_program, request_fault_in, result_count, is_well_formed}
 use Rattle.lynx_rules.specs.Lawful.{IsLawful}
 use Rattle.lynx_rules.specs.Messages.{next_message}
 use Rattle.lynx_forms.specs.Ranges.{IsMessageInRange}
@@ -94,7 +94,7 @@ formed_by_hop set server message program (Some hop) found at fit =
     let at_home = hop.server == server in
     let from_origin = is_origin set message.program message.chain.origin in
     let counted = program.parameters == length message.args in
-    let placed = are_keys_placed set message.args program.hops in
+    let placed = do_args_fit set message.args program in
     let numbered_so = pointwise nat_eq (servers message.numbers) (visited set message.program) in
     let given_so = pointwise nat_eq (map length message.results) (map result_count (take message.hop program.hops)) in
     let results = both (later && at_home && from_origin && counted && placed && numbered_so) given_so fit in

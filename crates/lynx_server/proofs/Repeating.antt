@@ -203,6 +203,7 @@ begun_again terms never old request seen answers.Clash new runs served is = goes
 begun_again terms never old request seen answers.UnknownProgram new runs served is = goes_on is.becomes runs
 begun_again terms never old request seen answers.WrongOrigin new runs served is = goes_on is.becomes runs
 begun_again terms never old request seen answers.ArgCount new runs served is = goes_on is.becomes runs
+begun_again terms never old request seen answers.OutsideRange new runs served is = goes_on is.becomes runs
 begun_again terms never old request seen answers.WrongShard new runs served is = goes_on is.becomes runs
 begun_again terms never old request seen answers.Full new runs served is = goes_on is.becomes runs
 begun_again terms never old request seen answers.Busy new runs served is = goes_on is.becomes runs

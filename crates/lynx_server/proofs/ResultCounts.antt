@@ -6,11 +6,11 @@ use Rattle.std.proofs.lemmas.List.Sums.{sum_by-cons, count_by-le-length}
 use Rattle.lynx_names.specs.declared.limits.TheConstants.{MAX_ACTIONS}
 use Rattle.lynx_cells.specs.Database.{Database, value_at, with_value}
 use Rattle.lynx_set.specs.declared.action.Action.{Action}
-use Rattle.lynx_set.specs.declared.action.Action.TheVariants.{Get, Set as SetCell, Add, Sub, Let, Need}
+use Rattle.lynx_set.specs.declared.action.Action.TheVariants.{Get, Update, Let, Need}
 use Rattle.lynx_set.specs.declared.program.Hop.{Hop}
 use Rattle.lynx_set.specs.Set.{Set}
 use Rattle.lynx_set.specs.Lookups.{actions_at, hop_at}
-use Rattle.lynx_hops.specs.Meaning.{HopOutcome, after_results, run, meaning, key_of, value_of, sum_of, difference_of, result_of, is_met}
+use Rattle.lynx_hops.specs.Meaning.{HopOutcome, after_results, run, meaning, key_of, value_of, updated, result_of, is_met}
 use Rattle.lynx_set.specs.Lookups.{binds}
 
 ok_is : (one other : List ℕ × Database) → ◌≡◌ {A = HopOutcome} (Ok one) (Ok other) → one ≡ other
@@ -46,15 +46,9 @@ run-counted args needs (Get table key ∷ actions) names before after results e 
     let rest = behind_bound value (run args needs actions (names ++ value ∷ []) before) results after e in
     let count = run-counted args needs actions (names ++ value ∷ []) before after rest.0 rest.1 in
     counted_on (Get table key) actions results 1 refl (ap length rest.2 ∙ omega arith)
-run-counted args needs (SetCell table key value ∷ actions) names before after results e =
-    counted_on (SetCell table key value) actions results 0 refl
-    (run-counted args needs actions names (with_value before table (key_of args key) (value_of names value)) after results e ∙ omega arith)
-run-counted args needs (Add table key value ∷ actions) names before after results e =
-    counted_on (Add table key value) actions results 0 refl
-    (run-counted args needs actions names (with_value before table (key_of args key) (sum_of (value_at before table (key_of args key)) (value_of names value))) after results e ∙ omega arith)
-run-counted args needs (Sub table key value ∷ actions) names before after results e =
-    counted_on (Sub table key value) actions results 0 refl
-    (run-counted args needs actions names (with_value before table (key_of args key) (difference_of (value_at before table (key_of args key)) (value_of names value))) after results e ∙ omega arith)
+run-counted args needs (Update update table key value ∷ actions) names before after results e =
+    counted_on (Update update table key value) actions results 0 refl
+    (run-counted args needs actions names (with_value before table (key_of args key) (updated update (value_at before table (key_of args key)) (value_of names value))) after results e ∙ omega arith)
 run-counted args needs (Let left operator right ∷ actions) names before after results e =
     let value = result_of operator (value_of names left) (value_of names right) in
     let rest = behind_bound value (run args needs actions (names ++ value ∷ []) before) results after e in
@@ -87,12 +81,8 @@ run-need args needs (Get table key ∷ actions) names before need e =
     let value = value_at before table (key_of args key) in
     let rest = err_behind (value ∷ []) (run args needs actions (names ++ value ∷ []) before) need e in
     omega (arith, run-need args needs actions (names ++ value ∷ []) before need rest)
-run-need args needs (SetCell table key value ∷ actions) names before need e =
-    omega (arith, run-need args needs actions names (with_value before table (key_of args key) (value_of names value)) need e)
-run-need args needs (Add table key value ∷ actions) names before need e =
-    omega (arith, run-need args needs actions names (with_value before table (key_of args key) (sum_of (value_at before table (key_of args key)) (value_of names value))) need e)
-run-need args needs (Sub table key value ∷ actions) names before need e =
-    omega (arith, run-need args needs actions names (with_value before table (key_of args key) (difference_of (value_at before table (key_of args key)) (value_of names value))) need e)
+run-need args needs (Update update table key value ∷ actions) names before need e =
+    omega (arith, run-need args needs actions names (with_value before table (key_of args key) (updated update (value_at before table (key_of args key)) (value_of names value))) need e)
 run-need args needs (Let left operator right ∷ actions) names before need e =
     let value = result_of operator (value_of names left) (value_of names right) in
     let rest = err_behind (value ∷ []) (run args needs actions (names ++ value ∷ []) before) need e in

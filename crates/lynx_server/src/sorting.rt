@@ -94,7 +94,7 @@ impl Register {
     ) -> Result<Sorted, Memory>
         ensures { IfOk result (IsSorted self.now held.now message.now) }
     {
-        if !(fits_program(alloc, self.books.set(), self.books.server(), message)?
+        if !(fits_program(self.books.set(), self.books.server(), message)
             && self.books.has_begun(message))
         {
             return Ok(Sorted::Answered(Delivered::Malformed));

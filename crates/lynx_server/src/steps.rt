@@ -69,8 +69,8 @@ impl Books {
         ensures alike { AreAlike self.old self.new }
         ensures err { OnErr result (self.new ≡ self.old) }
     {
-        let visits = visited(alloc, &self.set, request.program)?;
-        let draw = self.sequencer.draw(alloc, visits.as_slice())?;
+        let visits = visited(&self.set, request.program);
+        let draw = self.sequencer.draw(alloc, visits)?;
         Ok(Taken {
             request,
             seen,

@@ -68,6 +68,7 @@ const ANSWERS: &[AnswerParts] = &[
     AnswerParts::UnknownProgram,
     AnswerParts::WrongOrigin,
     AnswerParts::ArgCount,
+    AnswerParts::OutsideRange,
     AnswerParts::WrongShard,
     AnswerParts::Full,
     AnswerParts::Busy,

@@ -6,7 +6,7 @@ use Rattle.std.specs.Cmp.Lexicographic.{pointwise}
 use Rattle.std.proofs.lemmas.Bool.Decides.{eqb_tells}
 use Rattle.std.proofs.lemmas.Option.{slice_get-map}
 use Rattle.lynx_set.specs.Set.{Set}
-use Rattle.lynx_entry.specs.declared.answer.Answer.TheVariants.{Begun as BegunAnswer, Refused as RefusedAnswer, Clash, UnknownProgram, WrongOrigin, ArgCount, WrongShard, Full, Busy, Stopped, Memory}
+use Rattle.lynx_entry.specs.declared.answer.Answer.TheVariants.{Begun as BegunAnswer, Refused as RefusedAnswer, Clash, UnknownProgram, WrongOrigin, ArgCount, OutsideRange, WrongShard, Full, Busy, Stopped, Memory}
 use Rattle.lynx_entry.specs.declared.entry.Entry.{Entry}
 use Rattle.lynx_entry.specs.declared.entry.Entry.TheVariants.{Begun, Refused, Hop}
 use Rattle.lynx_entry.specs.declared.request.Request.{Request}
@@ -51,6 +51,7 @@ sought (Answered server request Clash) (Hop ran) is = cc
 sought (Answered server request UnknownProgram) entry is = cc
 sought (Answered server request WrongOrigin) entry is = cc
 sought (Answered server request ArgCount) entry is = cc
+sought (Answered server request OutsideRange) entry is = cc
 sought (Answered server request WrongShard) entry is = cc
 sought (Answered server request Full) entry is = cc
 sought (Answered server request Busy) entry is = cc

@@ -9,7 +9,7 @@ use Rattle.std.proofs.lemmas.List.Concat.{flat_map-append}
 use Rattle.std.proofs.lemmas.List.Sums.{sum_by-append}
 use Rattle.std.proofs.lemmas.Option.{slice_get_within}
 use Rattle.lynx_cells.specs.Database.{cell_cmp}
-use Rattle.lynx_entry.specs.declared.answer.Answer.TheVariants.{Begun as BegunAnswer, Refused as RefusedAnswer, Clash, UnknownProgram, WrongOrigin, ArgCount, WrongShard, Full, Busy, Stopped, Memory}
+use Rattle.lynx_entry.specs.declared.answer.Answer.TheVariants.{Begun as BegunAnswer, Refused as RefusedAnswer, Clash, UnknownProgram, WrongOrigin, ArgCount, OutsideRange, WrongShard, Full, Busy, Stopped, Memory}
 use Rattle.lynx_entry.specs.Entry.{History}
 use Rattle.lynx_server.proofs.Indexing.{tied_pairs}
 use Rattle.lynx_world.proofs.Once.{both}
@@ -93,6 +93,7 @@ full_stale (Answered server request Clash) is = cc
 full_stale (Answered server request UnknownProgram) is = cc
 full_stale (Answered server request WrongOrigin) is = cc
 full_stale (Answered server request ArgCount) is = cc
+full_stale (Answered server request OutsideRange) is = cc
 full_stale (Answered server request WrongShard) is = cc
 full_stale (Answered server request Full) is = refl
 full_stale (Answered server request Busy) is = cc

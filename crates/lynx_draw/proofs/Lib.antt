@@ -1,3 +1,4 @@
 pub mod Conflicts
+pub mod EdgesFrom
 pub mod Ranges
 pub mod Written

@@ -1,10 +1,13 @@
 -- Programs as clusters of nodes.
-use Rattle.std.specs.Prelude.{Bool, true, false, ℕ, List, [], ◌++◌, codes, take, length, if◌then◌else◌}
+use Rattle.std.specs.Prelude.{Bool, true, false, ℕ, ◌+◌, List, [], ◌∷◌, ◌++◌, Option, Some, None, codes, take, length, if◌then◌else◌}
 use Rattle.std.specs.List.{flat_map, range_with_len}
 use Rattle.std.specs.Option.{option_map_or}
-use Rattle.lynx_words.specs.Lines.{spaced}
+use Rattle.lynx_set.specs.declared.interval.Interval.{Interval}
+use Rattle.lynx_set.specs.declared.program.ParameterRange.{ParameterRange}
+use Rattle.lynx_set.specs.Intervals.{range_of}
+use Rattle.lynx_set.specs.Text.{interval_word}
 use Rattle.lynx_set.specs.Set.{Set}
-use Rattle.lynx_set.specs.Lookups.{program_at, program_name}
+use Rattle.lynx_set.specs.Lookups.{program_at, program_name, ranges_of}
 use Rattle.lynx_draw.specs.declared.edges.Edge.{Edge}
 use Rattle.lynx_draw.specs.Spots.{again_word, is_drawn_twice}
 use Rattle.lynx_draw.specs.Nodes.{drawn_hops}
@@ -13,9 +16,20 @@ use Rattle.lynx_draw.specs.Nodes.{drawn_hops}
 abbrev pub parameters_of : Set → ℕ → List (List ℕ)
 parameters_of set program = option_map_or (λ found. take found.parameters found.names) (program_at set program) []
 
+-- the range of a parameter, if it has one
+abbrev pub range_text : Option Interval → List ℕ
+range_text None = []
+range_text (Some interval) = codes ":" ++ interval_word interval
+
+-- parameters from a place on, each with its range
+abbrev pub parameters_text : List ParameterRange → ℕ → List (List ℕ) → List ℕ
+parameters_text ranges place [] = []
+parameters_text ranges place (name ∷ names) = 32 ∷ name ++ range_text (range_of ranges place) ++ parameters_text ranges (place + 1) names
+
 -- what stands over it: its name and its parameters, or that it is drawn again
 abbrev pub first_label : Set → ℕ → List ℕ
-first_label set program = codes "    label=\"" ++ program_name set program ++ spaced (parameters_of set program) ++ codes "\";\n"
+first_label set program =
+    codes "    label=\"" ++ program_name set program ++ parameters_text (ranges_of set program) 0 (parameters_of set program) ++ codes "\";\n"
 
 abbrev pub second_label : Set → ℕ → List ℕ
 second_label set program = codes "    style=\"dashed,rounded\"; label=\"" ++ program_name set program ++ codes " (again)\";\n"

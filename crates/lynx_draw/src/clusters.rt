@@ -1,40 +1,66 @@
 //! Programs as clusters of nodes.
 
-ghost use Rattle.std.specs.Prelude.{◌≡◌, ◌++◌, OnOk};
-ghost use Rattle.lynx_words.specs.Lines.{spaced};
-ghost use Rattle.lynx_set.specs.Lookups.{program_name};
-ghost use Rattle.lynx_draw.specs.Clusters.{cluster_label, cluster_name, cluster_text, clusters_text, first_label, parameters_of, program_text, second_label};
+ghost use Rattle.std.specs.Prelude.{◌≡◌, ◌≤◌, ◌++◌, OnOk, length};
+ghost use Rattle.lynx_names.specs.declared.limits.TheConstants.{MAX_PARAMETERS};
+ghost use Rattle.lynx_set.specs.Lookups.{program_name, ranges_of};
+ghost use Rattle.lynx_draw.specs.Clusters.{cluster_label, cluster_name, cluster_text, clusters_text, first_label, parameters_of, parameters_text, program_text, range_text, second_label};
 
 use crate::edges::Edge;
 use crate::nodes::put_hops;
 use crate::spot::is_drawn_twice;
 use lynx_graph::program_of;
 use lynx_names::{Memory, ProgramId};
-use lynx_set::ChainSet;
-use lynx_text::printing::put_word;
+use lynx_set::{ChainSet, Interval, ParameterRange, range_of};
+use lynx_text::printing::{put_interval, put_word};
 use lynx_words::Name;
 use std::alloc::Global;
 
-/// Writes a space before each name.
-fn put_words(out: &mut Vec<u8>, words: &[Name]) -> Result<(), Memory>
-    ensures { OnOk result (out.new.items ≡ out.old.items ++ spaced words.now) }
+fn put_range(alloc: Global, out: &mut Vec<u8>, range: Option<Interval>) -> Result<(), Memory>
+    ensures { OnOk result (out.new.items ≡ out.old.items ++ range_text range) }
 {
-    for word in words {
-        put_word(out, word.as_bytes())?;
+    let Some(interval) = range else {
+        return Ok(());
+    };
+    out.push(b':')?;
+    put_interval(alloc, out, interval)
+}
+
+/// Writes a space before each name, and its range behind it.
+fn put_names(
+    alloc: Global,
+    out: &mut Vec<u8>,
+    ranges: &[ParameterRange],
+    names: &[Name],
+) -> Result<(), Memory>
+    requires { length names.now ≤ MAX_PARAMETERS }
+    ensures { OnOk result (out.new.items ≡ out.old.items
+        ++ parameters_text ranges.now 0 names.now) }
+{
+    let mut place: u8 = 0;
+    for name in names {
+        put_word(out, name.as_bytes())?;
+        put_range(alloc, out, range_of(ranges, place))?;
+        place += 1;
     }
     Ok(())
 }
 
-/// Writes the names of the program's parameters.
-fn put_parameters(out: &mut Vec<u8>, set: &ChainSet, program: ProgramId) -> Result<(), Memory>
+/// Writes the names of the program's parameters, each with its range.
+fn put_parameters(
+    alloc: Global,
+    out: &mut Vec<u8>,
+    set: &ChainSet,
+    program: ProgramId,
+) -> Result<(), Memory>
     ensures { OnOk result (out.new.items ≡ out.old.items
-        ++ spaced (parameters_of set.now program)) }
+        ++ parameters_text (ranges_of set.now program) 0 (parameters_of set.now program)) }
 {
     let Some(found) = set.program(program) else {
         return Ok(());
     };
     let names = found.names.as_slice();
-    put_words(out, &names[..found.parameters.min(names.len())])
+    let parameters = &names[..found.parameters.min(names.len())];
+    put_names(alloc, out, set.ranges(program), parameters)
 }
 
 fn put_program_name(out: &mut Vec<u8>, set: &ChainSet, program: ProgramId) -> Result<(), Memory>
@@ -45,12 +71,17 @@ fn put_program_name(out: &mut Vec<u8>, set: &ChainSet, program: ProgramId) -> Re
 }
 
 /// Writes what stands over a program: its name and its parameters.
-fn put_first_label(out: &mut Vec<u8>, set: &ChainSet, program: ProgramId) -> Result<(), Memory>
+fn put_first_label(
+    alloc: Global,
+    out: &mut Vec<u8>,
+    set: &ChainSet,
+    program: ProgramId,
+) -> Result<(), Memory>
     ensures { OnOk result (out.new.items ≡ out.old.items ++ first_label set.now program) }
 {
     out.extend_from_slice(b"    label=\"".as_slice())?;
     put_program_name(out, set, program)?;
-    put_parameters(out, set, program)?;
+    put_parameters(alloc, out, set, program)?;
     out.extend_from_slice(b"\";\n".as_slice())?;
     Ok(())
 }
@@ -66,6 +97,7 @@ fn put_second_label(out: &mut Vec<u8>, set: &ChainSet, program: ProgramId) -> Re
 }
 
 fn put_cluster_label(
+    alloc: Global,
     out: &mut Vec<u8>,
     set: &ChainSet,
     program: ProgramId,
@@ -77,7 +109,7 @@ fn put_cluster_label(
     if again {
         put_second_label(out, set, program)
     } else {
-        put_first_label(out, set, program)
+        put_first_label(alloc, out, set, program)
     }
 }
 
@@ -111,7 +143,7 @@ fn put_cluster(
         ++ cluster_text set.now program again) }
 {
     put_cluster_name(out, set, program, again)?;
-    put_cluster_label(out, set, program, again)?;
+    put_cluster_label(alloc, out, set, program, again)?;
     put_hops(alloc, out, set, program, again)?;
     out.extend_from_slice(b"  }\n".as_slice())?;
     Ok(())

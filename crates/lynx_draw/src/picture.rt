@@ -7,9 +7,9 @@ use crate::clusters::put_clusters;
 use crate::edges::{Edge, conflict_edges};
 use crate::lines::{put_conflicts, put_steps};
 use crate::steps::{Step, steps_of};
-use lynx_graph::Verdict;
 use lynx_names::{Items, Memory};
 use lynx_set::ChainSet;
+use lynx_verdict::Verdict;
 use std::alloc::Global;
 
 /// How all of it is drawn.

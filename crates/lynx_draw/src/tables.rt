@@ -5,28 +5,28 @@ ghost use Rattle.std.specs.List.{list_any};
 ghost use Rattle.lynx_foot.specs.Tests.{may_collide};
 ghost use Rattle.lynx_draw.specs.Tables.{listed, met_at, listed_after, tables_met};
 
-use lynx_foot::{Foot, feet_may_collide, footprint};
+use lynx_foot::{Reach, reaches, reaches_may_collide};
 use lynx_graph::Place;
 use lynx_names::Memory;
 use lynx_set::{ChainSet, Name};
 use std::alloc::Global;
 
-/// Whether the foot may collide with one of the others.
-fn collides_with_any(left: Foot, rights: &[Foot]) -> bool
+/// Whether the reach may collide with one of the others.
+fn collides_with_any(left: Reach, rights: &[Reach]) -> bool
     ensures { result ≡ list_any (may_collide left) rights.now }
 {
-    rights.iter().any(|right| feet_may_collide(left, *right))
+    rights.iter().any(|right| reaches_may_collide(left, *right))
 }
 
-/// Whether the foot is of the table of that number, and may collide with one of the others.
-fn collides_at(left: Foot, rights: &[Foot], table: usize) -> bool
+/// Whether the reach is of the table of that number, and may collide with one of the others.
+fn collides_at(left: Reach, rights: &[Reach], table: usize) -> bool
     ensures { result ≡ (left.table == table && list_any (may_collide left) rights.now) }
 {
     left.table.index() == table && collides_with_any(left, rights)
 }
 
-/// Whether two feet may collide in the table of that number.
-fn met_at(lefts: &[Foot], rights: &[Foot], table: usize) -> bool
+/// Whether two reaches may collide in the table of that number.
+fn met_at(lefts: &[Reach], rights: &[Reach], table: usize) -> bool
     ensures { result ≡ met_at lefts.now rights.now table }
 {
     lefts.iter().any(|left| collides_at(*left, rights, table))
@@ -41,8 +41,8 @@ pub(crate) fn tables_met(
 ) -> Result<Vec<Name>, Memory>
     ensures { IfOk result (λ names. names.items ≡ tables_met set.now left.now right.now) }
 {
-    let lefts = footprint(alloc, set, left.program, left.hop)?;
-    let rights = footprint(alloc, set, right.program, right.hop)?;
+    let lefts = reaches(alloc, set, left.program, left.hop)?;
+    let rights = reaches(alloc, set, right.program, right.hop)?;
     let names = set
         .tables()
         .as_slice()

@@ -3,11 +3,11 @@ use Rattle.std.proofs.Common.{◌≡◌, List, ◌++◌, refl}
 use Rattle.std.specs.Prelude.{codes}
 use Rattle.lynx_set.specs.Set.{Set}
 use Rattle.lynx_graph.specs.declared.block.Block.{Block}
-use Rattle.lynx_graph.specs.declared.verdict.Verdict.TheVariants.{Accepted as AcceptedVerdict, Offending as OffendingVerdict}
+use Rattle.lynx_verdict.specs.declared.verdict.Verdict.TheVariants.{Accepted as AcceptedVerdict, Offending as OffendingVerdict}
 use Rattle.lynx_graph.specs.declared.visit.Visit.{Visit}
-use Rattle.lynx_graph.specs.Acceptance.{Accepted, reason_of}
-use Rattle.lynx_graph.specs.Verdicts.{Judges}
-use Rattle.lynx_graph.proofs.Accepting.{reason_from_excuse}
+use Rattle.lynx_verdict.specs.Reasons.{Accepted, reason_of}
+use Rattle.lynx_verdict.specs.Verdicts.{Judges}
+use Rattle.lynx_verdict.proofs.Accepting.{reason_from_excuse}
 use Rattle.lynx_words.specs.Lines.{with_feed}
 use Rattle.lynx_run.specs.declared.verdict.Finding.TheVariants.{Accepted as AcceptedFinding, Offending}
 use Rattle.lynx_run.specs.Checks.{accepted_line, edge_lines, IsVerdict}

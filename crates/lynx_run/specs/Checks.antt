@@ -3,10 +3,10 @@ use Rattle.std.specs.Prelude.{◌≡◌, ◌≢◌, ◌⊎◌, ℕ, Option, List
 use Rattle.std.specs.List.{flat_map, zip}
 use Rattle.std.specs.Fmt.{decimal}
 use Rattle.lynx_graph.specs.declared.visit.Visit.{Visit}
-use Rattle.lynx_graph.specs.declared.accepted.Reason.{Reason}
-use Rattle.lynx_graph.specs.declared.accepted.Reason.TheVariants.{Walks, Blocks}
+use Rattle.lynx_verdict.specs.declared.accepted.Reason.{Reason}
+use Rattle.lynx_verdict.specs.declared.accepted.Reason.TheVariants.{Walks, Blocks}
 use Rattle.lynx_graph.specs.declared.block.Block.{Block}
-use Rattle.lynx_graph.specs.Acceptance.{IsReason}
+use Rattle.lynx_verdict.specs.Reasons.{IsReason}
 use Rattle.lynx_graph.specs.Blocks.{IsOffendingBlockWalk}
 use Rattle.lynx_graph.specs.Walks.{IsOffending}
 use Rattle.lynx_set.specs.Rules.{IsSet}

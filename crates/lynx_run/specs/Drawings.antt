@@ -1,9 +1,9 @@
 -- What the picture of a set is, as it is written.
 use Rattle.std.specs.Prelude.{◌≡◌, ◌≢◌, ◌⊎◌, ℕ, Option, List}
-use Rattle.lynx_graph.specs.declared.verdict.Verdict.{Verdict}
-use Rattle.lynx_graph.specs.declared.verdict.Verdict.TheVariants.{Accepted as AcceptedVerdict, Offending as OffendingVerdict}
-use Rattle.lynx_graph.specs.Acceptance.{reason_of}
-use Rattle.lynx_graph.specs.Verdicts.{Judges}
+use Rattle.lynx_verdict.specs.declared.verdict.Verdict.{Verdict}
+use Rattle.lynx_verdict.specs.declared.verdict.Verdict.TheVariants.{Accepted as AcceptedVerdict, Offending as OffendingVerdict}
+use Rattle.lynx_verdict.specs.Reasons.{reason_of}
+use Rattle.lynx_verdict.specs.Verdicts.{Judges}
 use Rattle.lynx_set.specs.Rules.{IsSet}
 use Rattle.lynx_set.specs.Set.{Set}
 use Rattle.lynx_set.specs.Text.{text_of}

@@ -7,9 +7,9 @@ use crate::run::{RunFault, read_set};
 use crate::verdict::Finding;
 use crate::writing::write_bytes;
 use lynx_draw::draw;
-use lynx_graph::{Verdict, check};
 use lynx_names::Memory;
 use lynx_set::ChainSet;
+use lynx_verdict::{Verdict, check};
 use std::alloc::Global;
 use std::io::Write;
 

@@ -2,8 +2,8 @@
 ghost use Rattle.std.specs.Prelude.{◌≡◌, ◌⊎◌, ℕ, List, [], ◌++◌, OnErr, OnOk, IfOk, IfErr, codes, take};
 ghost use Rattle.std.specs.List.{flat_map};
 ghost use Rattle.std.specs.Io.KnownBytes.{Appends, Keeps};
-ghost use Rattle.lynx_graph.specs.Verdicts.{Judges};
-ghost use Rattle.lynx_graph.specs.Acceptance.{reason_of};
+ghost use Rattle.lynx_verdict.specs.Verdicts.{Judges};
+ghost use Rattle.lynx_verdict.specs.Reasons.{reason_of};
 ghost use Rattle.lynx_graph.specs.Walks.{IsOffending};
 ghost use Rattle.lynx_set.specs.Rules.{IsSet};
 ghost use Rattle.lynx_words.specs.Lines.{with_feed};
@@ -13,9 +13,10 @@ ghost use Rattle.lynx_run.specs.Written.{AppendsPart};
 
 use crate::run::{RunFault, read_set};
 use crate::writing::write_bytes;
-use lynx_graph::{AcceptedSet, Reason, Verdict, Visit, check};
+use lynx_graph::Visit;
 use lynx_print::conflict_line;
 use lynx_set::ChainSet;
+use lynx_verdict::{AcceptedSet, Reason, Verdict, check};
 use std::alloc::{AllocError, Global};
 use std::io::Write;
 

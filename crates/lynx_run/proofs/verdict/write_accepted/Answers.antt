@@ -1,6 +1,6 @@
 use Rattle.std.proofs.Common.{OnOk, sym, ◌∙◌, subst}
 use Rattle.std.specs.Io.KnownBytes.{Appends}
-use Rattle.lynx_graph.specs.declared.accepted.Reason.{Reason}
+use Rattle.lynx_verdict.specs.declared.accepted.Reason.{Reason}
 use Rattle.lynx_run.specs.Checks.{accepted_line}
 use Rattle.lynx_run.proofs.verdict.write_accepted.Goals as goal
 

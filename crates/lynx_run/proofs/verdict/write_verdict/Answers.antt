@@ -1,8 +1,8 @@
 use Rattle.std.proofs.Common.{List, inr, sym, subst}
-use Rattle.lynx_graph.specs.declared.verdict.Verdict.TheVariants.{Offending as OffendingVerdict}
+use Rattle.lynx_verdict.specs.declared.verdict.Verdict.TheVariants.{Offending as OffendingVerdict}
 use Rattle.lynx_graph.specs.declared.visit.Visit.{Visit}
-use Rattle.lynx_graph.specs.Acceptance.{reason_of}
-use Rattle.lynx_graph.specs.Verdicts.{Judges}
+use Rattle.lynx_verdict.specs.Reasons.{reason_of}
+use Rattle.lynx_verdict.specs.Verdicts.{Judges}
 use Rattle.lynx_io.proofs.Parts.{on_err}
 use Rattle.lynx_run.specs.declared.verdict.Finding.TheVariants.{Accepted, Offending}
 use Rattle.lynx_run.proofs.Printed.{accepted_printed, offending_printed}

@@ -33,7 +33,7 @@ const FAULTS: &[(&str, DecodeFault)] = &[
     ("11 00000002 01 00", DecodeFault::BadLength),
     // The first byte of what a look is answered, and a kind.
     ("12 00000001 02", DecodeFault::OutOfRange),
-    ("11 00000001 0b", DecodeFault::OutOfRange),
+    ("11 00000001 0c", DecodeFault::OutOfRange),
     // An origin, and a stamp.
     (
         "02 0000000a 10 0000000000000000 00",

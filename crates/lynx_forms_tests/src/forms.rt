@@ -83,6 +83,10 @@ pub const FORMS: &[(&str, ItemParts)] = &[
     ("11 00000001 07", ItemParts::Answer(AnswerParts::Busy)),
     ("11 00000001 09", ItemParts::Answer(AnswerParts::Stopped)),
     ("11 00000001 0a", ItemParts::Answer(AnswerParts::Memory)),
+    (
+        "11 00000001 0b",
+        ItemParts::Answer(AnswerParts::OutsideRange),
+    ),
     ("12 00000001 00", ItemParts::Absent),
     (
         "12 0000000a 01 0000000000000001 00",

@@ -158,7 +158,7 @@ fn fields_of(tag: u8, bytes: &mut Iter<'_, u8>) -> Result<&'static [Field], Deco
         0x11 => match read_byte(bytes)? {
             0 => Ok(BEGUN),
             8 => Ok(REFUSED),
-            1..=10 => Ok(NOTHING),
+            1..=11 => Ok(NOTHING),
             _ => Err(DecodeFault::OutOfRange),
         },
         0x12 => match read_byte(bytes)? {

@@ -10,7 +10,7 @@ import random
 import sys
 
 MASK = (1 << 64) - 1
-GETTING, SETTING, ADDING = "getting", "setting", "adding"
+GETTING, SETTING, ADDING, RAISING = "getting", "setting", "adding", "raising"
 HELD_ROOM = 64
 
 
@@ -29,8 +29,10 @@ class Set:
             elif words[0] == "shard":
                 shards.append(tuple(map(int, words[1:])))
             elif words[0] == "program":
-                program = {"parameters": words[2:], "hops": []}
+                program = {"parameters": words[2:], "ranges": {}, "hops": []}
                 self.programs[words[1]] = program
+            elif words[0] == "range":
+                program["ranges"][words[1]] = tuple(map(int, words[2].split("..")))
             elif words[0] == "hop":
                 program["hops"].append((int(words[1]), []))
             elif words[0] != "end":
@@ -48,6 +50,18 @@ class Set:
     def visited(self, program):
         return sorted({server for server, _ in self.hops(program)})
 
+    def range(self, program, parameter):
+        """The least and the greatest argument of a parameter."""
+        return self.programs[program]["ranges"].get(parameter, (0, MASK))
+
+    def keys(self, program, word):
+        """The least and the greatest key that a key word of the program may stand for."""
+        return (int(word), int(word)) if word[0].isdigit() else self.range(program, word)
+
+    def are_in_range(self, program, args):
+        pairs = zip(self.programs[program]["parameters"], args)
+        return all(low <= arg <= high for (low, high), arg in ((self.range(program, name), arg) for name, arg in pairs))
+
 
 def touch_of(action):
     """The table, the key word and the kind of an action, if it touches a cell."""
@@ -57,6 +71,8 @@ def touch_of(action):
         return action[1], action[2], SETTING
     if action[0] in ("add", "sub"):
         return action[1], action[2], ADDING
+    if action[0] == "max":
+        return action[1], action[2], RAISING
     return None
 
 
@@ -85,8 +101,8 @@ def may_conflict(chains, left, right):
         return False
     for a in filter(None, map(touch_of, left_actions)):
         for b in filter(None, map(touch_of, right_actions)):
-            literal = a[1][0].isdigit() and b[1][0].isdigit()
-            if a[0] == b[0] and not commute(a[2], b[2]) and not (literal and a[1] != b[1]):
+            (low, high), (other_low, other_high) = chains.keys(left[0], a[1]), chains.keys(right[0], b[1])
+            if a[0] == b[0] and not commute(a[2], b[2]) and low <= other_high and other_low <= high:
                 return True
     return False
 
@@ -117,7 +133,8 @@ def run_hop(chains, program, hop, args, earlier, cells):
         else:
             cell = (action[1], of(action[2]))
             old, value = cells.get(cell, 0), of(action[3])
-            cells[cell] = {"set": value, "add": old + value, "sub": old - value}[action[0]] & MASK
+            changed = {"set": value, "add": old + value, "sub": old - value, "max": max(old, value)}
+            cells[cell] = changed[action[0]] & MASK
     return results, {cell: value for cell, value in cells.items() if value}
 
 
@@ -164,6 +181,8 @@ class World:
             return "wrong-origin"
         if len(chains.programs[program]["parameters"]) != len(args):
             return "arg-count"
+        if not chains.are_in_range(program, args):
+            return "outside-range"
         for hop, (place, _) in enumerate(chains.hops(program)):
             if any(chains.server_of(table, key) != place for table, key, _ in touches(chains, program, hop, args)):
                 return "wrong-shard"
@@ -414,19 +433,23 @@ def short_block_walk_offends(chains, most=6):
 
 
 def small_set(rng):
-    """A set text of a few hops. Each touches one of two cells of its server, or the one that a parameter names. In half
-    of the sets programs of more hops begin at server 0 and others elsewhere, so that two of one origin are common."""
+    """A set text of a few hops. Each touches one of two cells of its server, or one of those that a parameter's range
+    allows. In half of the sets programs of more hops begin at server 0 and others elsewhere, so that two of one origin
+    are common."""
     servers, left, number, low = rng.randint(2, 4), rng.randint(4, 8), 0, rng.choice([0, 1])
-    lines = ["lynx 1", f"servers {servers}", "table t"]
+    lines = ["lynx 2", f"servers {servers}", "table t"]
     for server in range(servers):
         lines.append(f"shard {10 * server} {10 * server + 9 if server + 1 < servers else MASK} {server}")
     while left:
         lines.append(f"program p{number} k")
+        if rng.random() < 0.5:
+            bounds = sorted([rng.randrange(10 * servers), rng.randrange(10 * servers)])
+            lines.append(f"range k {bounds[0]}..{bounds[1]}")
         count = min(left, rng.randint(1, 3))
         for hop in range(count):
             server = 0 if low and count > 1 and not hop else rng.randrange(low, servers)
             key = "k" if rng.random() < 0.1 else str(10 * server + rng.choice([0, 0, 0, 0, 1]))
-            lines += [f"hop {server}", rng.choice([f"get y{hop} t {key}", f"set t {key} 1", f"add t {key} 1"])]
+            lines += [f"hop {server}", rng.choice([f"get y{hop} t {key}", f"set t {key} 1", f"add t {key} 1", f"max t {key} 1"])]
         lines.append("end")
         left, number = left - count, number + 1
     return "".join(line + "\n" for line in lines)

@@ -39,14 +39,21 @@ def places(chains):
 
 
 def touches_of(chains, place):
-    """The table, the key word and the kind of each touch of a hop."""
-    return list(filter(None, (reference.touch_of(action) for action in chains.hops(place[0])[place[1]][1])))
+    """The table, the least and the greatest key, and the kind of each touch of a hop."""
+    touches = filter(None, (reference.touch_of(action) for action in chains.hops(place[0])[place[1]][1]))
+    return [(table, chains.keys(place[0], key), kind) for table, key, kind in touches]
 
 
 def may_meet(left, right):
     """Whether two touches may be of one cell, and don't commute."""
-    are_apart = left[1][0].isdigit() and right[1][0].isdigit() and left[1] != right[1]
+    are_apart = left[1][1] < right[1][0] or right[1][1] < left[1][0]
     return left[0] == right[0] and not are_apart and not reference.commute(left[2], right[2])
+
+
+def parameter(chains, program, name):
+    """A parameter of a program, with its range if it has one."""
+    bounds = chains.programs[program]["ranges"].get(name)
+    return f"{name}:{bounds[0]}..{bounds[1]}" if bounds else name
 
 
 def tables_met(chains, left, right):
@@ -71,7 +78,7 @@ def node(place, again):
 def cluster(chains, program, again):
     """A program, or the program drawn again."""
     label = f'style="dashed,rounded"; label="{program} (again)"' if again else \
-        f'label="{" ".join([program] + chains.programs[program]["parameters"])}"'
+        f'label="{" ".join([program] + [parameter(chains, program, name) for name in chains.programs[program]["parameters"]])}"'
     lines = [f'  subgraph "cluster {program}{" again" if again else ""}" {{', f"    {label};"]
     for hop, (server, actions) in enumerate(chains.hops(program)):
         words = "".join(" ".join(action) + "\\l" for action in actions)

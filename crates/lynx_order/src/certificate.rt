@@ -1,4 +1,4 @@
-//! Whether an order of chains that was foundis one.
+//! Whether an order of chains that was found is one.
 ghost use Rattle.std.specs.Prelude.{IsTrue, IfOk};
 ghost use Rattle.lynx_order.specs.inner.Certificates.{HoldsOrder};
 

@@ -1,5 +1,5 @@
 //! The ranks of chains in an order.
-ghost use Rattle.std.specs.Prelude.{◌≡◌, IsTrue, IfOk, length};
+ghost use Rattle.std.specs.Prelude.{◌≡◌, ◌↔◌, IsTrue, IfOk, length, slice_get};
 ghost use Rattle.lynx_order.specs.inner.Certificates.{Inverts};
 
 use lynx_names::Memory;
@@ -18,12 +18,22 @@ pub(crate) fn ranks_of(alloc: Global, order: &[usize], count: usize) -> Result<V
     Ok(ranks)
 }
 
+/// Whether that place stands in the list at the place of that number.
+fn leads_to(inverse: &[usize], number: usize, place: usize) -> bool
+    ensures { IsTrue result ↔ (slice_get inverse.now number ≡ Some place) }
+{
+    match inverse.get(number) {
+        Some(found) => *found == place,
+        None => false,
+    }
+}
+
 /// Whether each number of the one list stands in the other at the place to which it leads.
 pub(crate) fn inverts(numbers: &[usize], inverse: &[usize]) -> bool
-    ensures { IsTrue result → Inverts numbers.now inverse.now }
+    ensures { IsTrue result ↔ Inverts numbers.now inverse.now }
 {
     for (place, number) in numbers.iter().enumerate() {
-        if inverse.get(*number) != Some(&place) {
+        if !leads_to(inverse, *number, place) {
             return false;
         }
     }

@@ -73,7 +73,7 @@ fn is_of_cell(one: &ChainTouch, other: &ChainTouch) -> bool
 
 /// Whether the one touch is not behind the other by table, then key, then place in the list.
 fn is_no_later(one: &ChainTouch, other: &ChainTouch) -> bool
-    ensures { IsTrue result → IsNoLater one.now other.now }
+    ensures { IsTrue result ↔ IsNoLater one.now other.now }
 {
     let (table, next_table) = (one.touch.table.number(), other.touch.table.number());
     let (key, next_key) = (one.touch.key, other.touch.key);

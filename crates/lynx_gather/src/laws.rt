@@ -11,7 +11,7 @@ ghost use Rattle.lynx_weave.specs.declared.told.ToldItem.{ToldItem};
 ghost use Rattle.lynx_weave.specs.Weaving.{IsMismatch, IsWoven};
 ghost use Rattle.lynx_gather.specs.Parts.{ArePartsOf};
 
-/// What servers keep always weaves, however often they stopped and were opened again: a stopped call adds its lawful
+/// What servers keep never mismatches, however often they stopped and were opened again: a stopped call adds its lawful
 /// entry or nothing, so that what is kept are the parts of a legal list, and of such no entry is a mismatch.
 pub fn kept_parts_weave()
     ensures { (set : Set) (list : List Placed) (histories : List History) (server place : ℕ)

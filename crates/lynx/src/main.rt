@@ -1,4 +1,4 @@
-//! `lynx`: judges and draws sets of chain programs, and runs scripts over them.
+//! `lynx`: judges and draws sets of chain programs, runs scripts over them, and lists stores.
 #![tactic(auto)]
 
 use clap::error::ErrorKind;
@@ -9,7 +9,7 @@ use lynx_run::RunFault;
 use std::env;
 use std::io::{self, IsTerminal};
 use std::process::ExitCode;
-use std::rt::{Env, Files};
+use std::rt::Env;
 
 /// The status of faulty words.
 const BAD_WORDS: u8 = 2;
@@ -59,7 +59,7 @@ fn prompt<R: Eprint>(rt: &R) {
 }
 
 /// Does what the matched words ask for, and gives the status.
-fn do_matches<R: Input + Files + Print + Eprint + AllocGlobal>(rt: &R, matches: &ArgMatches) -> u8 {
+fn do_matches(rt: &HostRuntime, matches: &ArgMatches) -> u8 {
     let done = match job_of(matches) {
         Ok(job) => do_job(rt, job),
         Err(fault) => Err(Fault::Command(fault)),
@@ -71,7 +71,7 @@ fn do_matches<R: Input + Files + Print + Eprint + AllocGlobal>(rt: &R, matches: 
 }
 
 /// Does what the words ask for, and gives the status.
-fn obey<R: Input + Files + Print + Eprint + AllocGlobal>(rt: &R, words: &[String]) -> u8 {
+fn obey(rt: &HostRuntime, words: &[String]) -> u8 {
     let Ok(command) = command(rt.alloc()) else {
         return report(rt, &Fault::Run(RunFault::Memory));
     };

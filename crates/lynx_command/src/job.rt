@@ -15,6 +15,8 @@ pub enum Job<'a> {
     Run { set: &'a str, script: &'a str },
     /// Run the script of standard input over the set that stands before it.
     RunInput,
+    /// List what a store holds.
+    Show { store: &'a str },
 }
 
 /// Words that ask for nothing, though the parser takes them or never sees them.

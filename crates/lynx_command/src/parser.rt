@@ -51,11 +51,23 @@ fn run_command<'a>(alloc: Global) -> Result<Command<'a>, AllocError> {
         .arg(script)
 }
 
+fn show_command<'a>(alloc: Global) -> Result<Command<'a>, AllocError> {
+    let store = Arg::new(alloc, "STORE")
+        .required(true)
+        .help("The file of the store; its log NAME-wal is read with it");
+    Command::new(alloc, "show")
+        .about("List what a store holds: its server, its entries and its cells")
+        .after_help(
+            "The store is only read. A fault of it is told as other-version, damaged or store.\nExample: lynx show server-0.lynx",
+        )
+        .arg(store)
+}
+
 /// The program without its commands.
 fn bare_command<'a>(alloc: Global) -> Command<'a> {
     Command::new(alloc, "lynx")
         .version("0.1.0")
-        .about("Judges and draws sets of chain programs, and runs scripts over them")
+        .about("Judges and draws sets of chain programs, runs scripts over them, and lists stores")
         .before_help(FAULTS)
         .after_help(STATUSES)
 }
@@ -72,10 +84,15 @@ fn with_run<'a>(alloc: Global, command: Command<'a>) -> Result<Command<'a>, Allo
     command.subcommand(run_command(alloc)?)
 }
 
+fn with_show<'a>(alloc: Global, command: Command<'a>) -> Result<Command<'a>, AllocError> {
+    command.subcommand(show_command(alloc)?)
+}
+
 /// The program's command line. No words at all are read as `run -`.
 pub fn command<'a>(alloc: Global) -> Result<Command<'a>, AllocError> {
     let command = with_check(alloc, bare_command(alloc))?;
-    with_run(alloc, with_draw(alloc, command)?)
+    let command = with_run(alloc, with_draw(alloc, command)?)?;
+    with_show(alloc, command)
 }
 
 /// What the words ask for.
@@ -91,6 +108,9 @@ pub fn job_of<'a>(matches: &ArgMatches<'a>) -> Result<Job<'a>, CommandFault>
         "check" => Ok(Job::Check { set }),
         "draw" => Ok(Job::Draw { set }),
         "run" => job_of_run(set, words.get_str("SCRIPT")),
+        "show" => Ok(Job::Show {
+            store: words.get_str("STORE").unwrap_or(INPUT),
+        }),
         _ => Err(CommandFault::NoCommand),
     }
 }

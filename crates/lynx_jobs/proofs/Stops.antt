@@ -11,7 +11,7 @@ use Rattle.lynx_run.specs.Checks.{BeginsFinding, NoVerdictFor}
 use Rattle.lynx_run.specs.Drawings.{BeginsPicture, NoPictureFor}
 use Rattle.lynx_run.specs.Runs.{StopsFor}
 use Rattle.lynx_jobs.specs.declared.fault.Fault.{Fault}
-use Rattle.lynx_jobs.specs.declared.fault.Fault.TheVariants.{Command, NoSeparator, Unread, Run}
+use Rattle.lynx_jobs.specs.declared.fault.Fault.TheVariants.{Command, NoSeparator, Unread, Run, Store}
 use Rattle.lynx_jobs.specs.Stopped.{IsFront, StopsChecking, StopsDrawing, StopsReading, StopsRun, StopsRunTexts}
 
 -- every source has a front
@@ -29,6 +29,7 @@ check_unread (Err (Run fault)) source name old wanting =
     (front.0, front.1, subst (NoVerdictFor front.0 (Keeps old old)) (sym wanting) tt, inl (Keeps-refl old))
 check_unread (Err NoSeparator) source name old never = absurd never
 check_unread (Err (Command fault)) source name old never = absurd never
+check_unread (Err (Store fault)) source name old never = absurd never
 
 pub drawing_unread : (result : Result ℕ Fault) (source : Option (List ℕ)) (name : List ℕ) (old : Option (List ℕ)) → IfErr result (StopsReading name) →
     IfErr result (StopsDrawing source name old old)
@@ -39,6 +40,7 @@ drawing_unread (Err (Run fault)) source name old wanting =
     (front.0, front.1, subst (NoPictureFor front.0 (Keeps old old)) (sym wanting) (Keeps-refl old), inl (Keeps-refl old))
 drawing_unread (Err NoSeparator) source name old never = absurd never
 drawing_unread (Err (Command fault)) source name old never = absurd never
+drawing_unread (Err (Store fault)) source name old never = absurd never
 
 -- two sources, one of which wasn't read
 run_wanting : (set script : Option (List ℕ)) (old : Option (List ℕ)) (fault : RunFault) → fault ≡ Memory →
@@ -56,6 +58,7 @@ run_without_set (Err (Unread shown)) set set_name script script_name old same = 
 run_without_set (Err (Run fault)) set set_name script script_name old wanting = run_wanting set script old fault wanting
 run_without_set (Err NoSeparator) set set_name script script_name old never = absurd never
 run_without_set (Err (Command fault)) set set_name script script_name old never = absurd never
+run_without_set (Err (Store fault)) set set_name script script_name old never = absurd never
 
 pub run_without_script : (result : Result ℕ Fault) (set : Option (List ℕ)) (set_name : List ℕ) (script : Option (List ℕ)) (script_name : List ℕ) (old : Option (List ℕ)) →
     IfErr result (StopsReading script_name) → IfErr result (StopsRun set set_name script script_name old old)
@@ -64,6 +67,7 @@ run_without_script (Err (Unread shown)) set set_name script script_name old same
 run_without_script (Err (Run fault)) set set_name script script_name old wanting = run_wanting set script old fault wanting
 run_without_script (Err NoSeparator) set set_name script script_name old never = absurd never
 run_without_script (Err (Command fault)) set set_name script script_name old never = absurd never
+run_without_script (Err (Store fault)) set set_name script script_name old never = absurd never
 
 -- a source that was read
 read_front : (limit : ℕ) (source : Option (List ℕ)) (read slice : List ℕ) → IsFront limit source read → slice ≡ read → IsFront limit source slice
@@ -93,6 +97,7 @@ run_stops (Err (Run fault)) set set_name script script_name set_read script_read
 run_stops (Err (Unread shown)) set set_name script script_name set_read script_read set_slice script_slice old new set_is script_is s t stops = absurd stops
 run_stops (Err NoSeparator) set set_name script script_name set_read script_read set_slice script_slice old new set_is script_is s t stops = absurd stops
 run_stops (Err (Command fault)) set set_name script script_name set_read script_read set_slice script_slice old new set_is script_is s t stops = absurd stops
+run_stops (Err (Store fault)) set set_name script script_name set_read script_read set_slice script_slice old new set_is script_is s t stops = absurd stops
 
 -- an input without a separator
 pub input_uncut : (source : Option (List ℕ)) (read slice : List ℕ) (old : Option (List ℕ)) → IsFront MAX_INPUT_BYTES source read → slice ≡ read → HasNoCut slice →

@@ -1,7 +1,7 @@
 -- The exit statuses.
 use Rattle.std.specs.Prelude.{ℕ, Bool, false, Result, Ok, Err}
 use Rattle.lynx_jobs.specs.declared.fault.Fault.{Fault}
-use Rattle.lynx_jobs.specs.declared.fault.Fault.TheVariants.{Command, NoSeparator, Unread, Run}
+use Rattle.lynx_jobs.specs.declared.fault.Fault.TheVariants.{Command, NoSeparator, Unread, Run, Store}
 use Rattle.lynx_run.specs.declared.run.RunFault.TheVariants.{Set as SetFault, Script as ScriptFault, Write, Memory}
 use Rattle.lynx_run.specs.declared.run.Ending.{Ending}
 use Rattle.lynx_run.specs.declared.run.Ending.TheVariants.{Ordered, Cyclic}
@@ -17,6 +17,7 @@ status_of (Run (SetFault fault)) = 2
 status_of (Run (ScriptFault fault)) = 2
 status_of (Run Write) = 4
 status_of (Run Memory) = 3
+status_of (Store fault) = 4
 
 -- of a check and of a picture: 0 where the set is accepted, 1 where it offends
 abbrev pub status_of_finding : Finding → ℕ

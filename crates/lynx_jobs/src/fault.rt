@@ -6,6 +6,7 @@ use crate::shown::Shown;
 use lynx_command::CommandFault;
 use lynx_input::InputFault;
 use lynx_run::RunFault;
+use lynx_show::ShowFault;
 use thiserror::Error;
 
 /// Why the program did not end with status 0 or 1.
@@ -22,6 +23,9 @@ pub enum Fault<'a> {
     Unread(Shown<'a>),
     #[error("{0}")]
     Run(RunFault),
+    /// A store that can't be listed.
+    #[error("store: {0}")]
+    Store(ShowFault),
 }
 
 impl<'a> Fault<'a> {
@@ -37,6 +41,18 @@ impl<'a> Fault<'a> {
         }
     }
 
+    /// The fault of listing a store.
+    pub fn of_showing(fault: ShowFault) -> Fault<'a>
+        ensures write { fault ≡ ShowFault.Write → result ≡ Fault.Run RunFault.Write }
+        ensures memory { fault ≡ ShowFault.Memory → result ≡ Fault.Run RunFault.Memory }
+    {
+        match fault {
+            ShowFault::Write => Fault::Run(RunFault::Write),
+            ShowFault::Memory => Fault::Run(RunFault::Memory),
+            fault => Fault::Store(fault),
+        }
+    }
+
     /// The exit status: 2 for faulty words or texts, 3 for want of memory, 4 for what can't be read or written.
     pub fn status(&self) -> u8
         ensures { result ≡ status_of self.now }
@@ -45,7 +61,7 @@ impl<'a> Fault<'a> {
             Fault::Command(_) | Fault::NoSeparator => 2,
             Fault::Run(RunFault::Set(_) | RunFault::Script(_)) => 2,
             Fault::Run(RunFault::Memory) => 3,
-            Fault::Unread(_) | Fault::Run(RunFault::Write) => 4,
+            Fault::Unread(_) | Fault::Run(RunFault::Write) | Fault::Store(_) => 4,
         }
     }
 }

@@ -3,20 +3,20 @@ ghost use Rattle.std.specs.Prelude.{◌≡◌, Ok, Err};
 ghost use Rattle.lynx_jobs.specs.Statuses.{finished_as};
 
 use crate::fault::Fault;
-use crate::texts::{check_source, draw_source, read_text, run_input, run_sources};
+use crate::texts::{DONE, check_source, draw_source, read_text, run_input, run_sources};
 use lynx_command::{INPUT, Job};
 use lynx_input::InputFault;
 use lynx_run::RunFault;
-use std::io::{BufWriter, Write};
+use lynx_show::{ShowFault, show_store};
+use sqlite::Connection;
+use std::alloc::Global;
+use std::io::{BufWriter, Read, Write};
 use std::rt::Files;
 use std::{fs, io};
 
 /// Does what the words ask for, and gives the status. Files are read in the order of the words. Output is
 /// written as it fills a buffer, and at the end, also where a fault stops the job.
-pub fn do_job<'a, R: Input + Files + Print + AllocGlobal>(
-    rt: &R,
-    job: Job<'a>,
-) -> Result<u8, Fault<'a>> {
+pub fn do_job<'a>(rt: &HostRuntime, job: Job<'a>) -> Result<u8, Fault<'a>> {
     let Ok(mut writer) = BufWriter::new(rt.alloc(), io::writer(rt)) else {
         return Err(Fault::Run(RunFault::Memory));
     };
@@ -25,6 +25,7 @@ pub fn do_job<'a, R: Input + Files + Print + AllocGlobal>(
         Job::Draw { set } => draw_file(rt, set, &mut writer),
         Job::Run { set, script } => run_files(rt, set, script, &mut writer),
         Job::RunInput => run_input(rt.alloc(), INPUT, &mut rt.reader(), &mut writer),
+        Job::Show { store } => show_file(rt, store, &mut writer),
     };
     let flushed = writer.flush().is_ok();
     finished(done, flushed)
@@ -87,4 +88,43 @@ fn run_files<'a, R: Files + AllocGlobal, W: Write>(
         &mut script_file,
         writer,
     )
+}
+
+/// Whether a file has a byte. None where it can't be read.
+fn has_bytes<R: Files>(rt: &R, name: &str) -> Option<bool> {
+    let mut file = fs::open(rt, name).ok()?;
+    match file.read(&mut [0u8]) {
+        Ok(count) => Some(count > 0),
+        Err(_) => None,
+    }
+}
+
+/// Whether the log beside a store has a byte.
+fn has_log<'a, R: Files>(rt: &R, alloc: Global, store: &'a str) -> Result<bool, Fault<'a>> {
+    match format!(in alloc; "{store}-wal") {
+        Ok(log) => Ok(has_bytes(rt, log.as_str()) == Some(true)),
+        Err(_) => Err(Fault::Run(RunFault::Memory)),
+    }
+}
+
+/// Lists the store of a file. A file without a byte, and without a log beside it, is no store: it isn't opened, which
+/// would make it one.
+fn show_file<'a, W: Write>(
+    rt: &HostRuntime,
+    store: &'a str,
+    writer: &mut W,
+) -> Result<u8, Fault<'a>> {
+    let Some(begun) = has_bytes(rt, store) else {
+        return Err(Fault::of_reading(store, InputFault::Read));
+    };
+    if !begun && !has_log(rt, rt.alloc(), store)? {
+        return Err(Fault::Store(ShowFault::Damaged));
+    }
+    let Ok(mut conn) = Connection::open(rt, store) else {
+        return Err(Fault::Store(ShowFault::Store));
+    };
+    match show_store(rt.alloc(), &mut conn, writer) {
+        Ok(()) => Ok(DONE),
+        Err(fault) => Err(Fault::of_showing(fault)),
+    }
 }

@@ -11,8 +11,8 @@ use lynx_run::{Ending, Finding, check_text, draw_text, run_texts};
 use std::alloc::Global;
 use std::io::{Read, Write};
 
-/// The status of an accepted set, and of a run that an order explains.
-const DONE: u8 = 0;
+/// The status of an accepted set, of a run that an order explains, and of a listing.
+pub(crate) const DONE: u8 = 0;
 
 /// The status of an offending set, and of a run that ends with a cycle.
 const OFFENDING: u8 = 1;

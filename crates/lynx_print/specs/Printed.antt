@@ -9,6 +9,8 @@ use Rattle.lynx_entry.specs.declared.answer.Answer.TheVariants.{Begun, Clash, Un
 use Rattle.lynx_entry.specs.declared.answer.Delivered.{Delivered}
 use Rattle.lynx_entry.specs.declared.answer.Delivered.TheVariants.{Done, Repeat, Held, Dropped, Malformed, Full as FullThere, Stopped as StoppedThere, Memory as MemoryThere}
 use Rattle.lynx_entry.specs.declared.message.Message.{Message}
+use Rattle.lynx_entry.specs.declared.entry.Entry.{Entry}
+use Rattle.lynx_entry.specs.declared.entry.Entry.TheVariants.{Begun as BegunOnce, Refused as RefusedOnce, Hop}
 use Rattle.lynx_entry.specs.declared.event.Outcome.{Outcome}
 use Rattle.lynx_entry.specs.declared.event.Outcome.TheVariants.{Answered, Delivered as DeliveredNow, Woken, NotSent, LostNow, Idle, Restarted, NoServer, Memory as NoMemory}
 
@@ -81,3 +83,11 @@ outcome_text NoMemory = []
 abbrev pub chains_text : List ChainId → List ℕ
 chains_text [] = codes " -"
 chains_text (chain ∷ chains) = flat_map (λ one. 32 ∷ chain_text one) (chain ∷ chains)
+
+-- what a server kept
+abbrev pub entry_text : Entry → List ℕ
+entry_text (BegunOnce begun) =
+    codes "begun " ++ chain_text begun.chain ++ codes " stamp " ++ decimal begun.stamp ++ codes " results " ++ values_text begun.results
+entry_text (RefusedOnce refused) = codes "refused " ++ decimal refused.need ++ codes " stamp " ++ decimal refused.stamp
+entry_text (Hop ran) =
+    hop_text (codes "hop") ran.message.chain ran.message.hop ++ codes " stamp " ++ decimal ran.stamp ++ codes " results " ++ values_text ran.results

@@ -4,10 +4,10 @@ ghost use Rattle.std.specs.String.{string_bytes};
 ghost use Rattle.std.specs.Fmt.{decimal};
 ghost use Rattle.std.specs.List.{flat_map};
 ghost use Rattle.lynx_names.specs.Chain.{chain_text};
-ghost use Rattle.lynx_print.specs.Printed.{spaced, values_text, again_text, answer_text, chains_text, next_text, hop_text, ran_text, delivered_text, outcome_text};
+ghost use Rattle.lynx_print.specs.Printed.{spaced, values_text, again_text, answer_text, chains_text, next_text, hop_text, ran_text, delivered_text, outcome_text, entry_text};
 ghost use Rattle.lynx_words.specs.Lines.{with_feed};
 
-use lynx_entry::{Answer, Delivered, Message, Outcome};
+use lynx_entry::{Answer, Delivered, Entry, Message, Outcome};
 use lynx_names::ChainId;
 use std::alloc::{AllocError, Global};
 use std::fmt::Write;
@@ -171,6 +171,39 @@ pub fn outcome_line(alloc: Global, outcome: &Outcome) -> Result<String, AllocErr
 {
     let mut text = String::new(alloc);
     push_outcome(&mut text, outcome)?;
+    text.push_str("\n")?;
+    Ok(text)
+}
+
+/// What a server kept, without its LF.
+fn push_entry(text: &mut String, entry: &Entry) -> Result<(), AllocError>
+    ensures { OnOk result (string_bytes text.new ≡ string_bytes text.old ++ entry_text entry.now) }
+{
+    match entry {
+        Entry::Begun(begun) => {
+            let (chain, stamp) = (&begun.chain, begun.stamp);
+            write!(text, "begun {chain} stamp {stamp} results ")?;
+            push_values(text, begun.results.as_slice())
+        }
+        Entry::Refused(refused) => {
+            let (need, stamp) = (refused.need, refused.stamp);
+            write!(text, "refused {need} stamp {stamp}")
+        }
+        Entry::Hop(ran) => {
+            push_hop(text, "hop", &ran.message.chain, ran.message.hop)?;
+            let stamp = ran.stamp;
+            write!(text, " stamp {stamp} results ")?;
+            push_values(text, ran.results.as_slice())
+        }
+    }
+}
+
+/// The line of an entry that a server kept.
+pub fn entry_line(alloc: Global, entry: &Entry) -> Result<String, AllocError>
+    ensures { IfOk result (λ text. string_bytes text ≡ with_feed (entry_text entry.now)) }
+{
+    let mut text = String::new(alloc);
+    push_entry(&mut text, entry)?;
     text.push_str("\n")?;
     Ok(text)
 }

@@ -1,0 +1,59 @@
+-- What the listing of a store is, as it is written.
+use Rattle.std.specs.Prelude.{ℕ, ◌<◌, List, ◌∷◌, ◌++◌, codes, length, All, Option}
+use Rattle.std.specs.List.{flat_map}
+use Rattle.std.specs.Fmt.{decimal}
+use Rattle.std.specs.FinMap as finite
+use Rattle.std.specs.Io.KnownBytes.{Appends}
+use Rattle.sqlite.specs.State.{State}
+use Rattle.lynx_cells.specs.Database.{Database}
+use Rattle.lynx_cells.specs.Triples.{triples_of}
+use Rattle.lynx_entry.specs.Entry.{History}
+use Rattle.lynx_keep.specs.Kept.{KeptState}
+use Rattle.lynx_set.specs.Lookups.{table_name}
+use Rattle.lynx_set.specs.Set.{Set}
+use Rattle.lynx_set.specs.Text.{text_of}
+use Rattle.lynx_io.specs.Written.{AppendsPart}
+use Rattle.lynx_print.specs.Printed.{entry_text}
+use Rattle.lynx_words.specs.Lines.{with_feed}
+use Rattle.lynx_store.specs.Stored.{IsKept, server_title}
+
+-- the server's line, and that of how many entries it has
+abbrev pub head_lines : ℕ → ℕ → List ℕ
+head_lines server count = with_feed (codes "server " ++ decimal server) ++ with_feed (codes "entries " ++ decimal count)
+
+-- a line for each entry
+abbrev pub entry_lines : History → List ℕ
+entry_lines entries = flat_map (λ entry. with_feed (entry_text entry)) entries
+
+-- the line of a cell: the name of its table, its key and its value
+abbrev pub cell_line : Set → ℕ × ℕ × ℕ → List ℕ
+cell_line chains cell =
+    with_feed (codes "cell " ++ table_name chains cell.0 ++ 32 ∷ decimal cell.1 ++ 32 ∷ decimal cell.2)
+
+-- a line for each cell
+abbrev pub cell_lines : Set → List (ℕ × ℕ × ℕ) → List ℕ
+cell_lines chains cells = flat_map (cell_line chains) cells
+
+-- all lines: cells by table, then key
+abbrev pub listing_of : Set → ℕ → KeptState → List ℕ
+listing_of chains server kept =
+    head_lines server (length kept.entries) ++ entry_lines kept.entries
+    ++ cell_lines chains (triples_of (finite.entries kept.cells))
+
+-- each cell is of a table that the set has
+abbrev pub AreInTables : Set → Database → Type 0
+AreInTables chains cells = All (λ cell. cell.0 < length chains.tables) (triples_of (finite.entries cells))
+
+-- the listing of what the store holds was written
+abbrev pub Lists : State → Option (List ℕ) → Option (List ℕ) → Type 0
+Lists s old new = (chains : Set) × (server : ℕ) × (kept : KeptState)
+    × IsKept s (server_title server (text_of chains)) (length kept.entries) kept
+    × AreInTables chains kept.cells
+    × Appends old new (listing_of chains server kept)
+
+-- a beginning of it was written
+abbrev pub BeginsListing : State → Option (List ℕ) → Option (List ℕ) → Type 0
+BeginsListing s old new = (chains : Set) × (server : ℕ) × (kept : KeptState)
+    × IsKept s (server_title server (text_of chains)) (length kept.entries) kept
+    × AreInTables chains kept.cells
+    × AppendsPart old new (listing_of chains server kept)

@@ -1,0 +1,78 @@
+//! The lines of a store.
+ghost use Rattle.std.specs.Prelude.{◌≡◌, ◌++◌, ◌<◌, length, All, IfOk, IsTrue, OnOk};
+ghost use Rattle.lynx_show.specs.Listing.{cell_lines, entry_lines, head_lines, listing_of};
+ghost use Rattle.lynx_cells.specs.Triples.{triples_of};
+ghost use Rattle.lynx_keep.specs.Kept.{kept_in};
+ghost use Rattle.std.specs.FinMap as map;
+
+use lynx_entry::Entry;
+use lynx_names::{Memory, ServerId, TableId};
+use lynx_print::{cell_line, entry_line};
+use lynx_set::ChainSet;
+use lynx_store::Inspected;
+use std::alloc::Global;
+
+/// The server's line, and that of how many entries it has.
+fn put_head(alloc: Global, text: &mut Vec<u8>, server: ServerId, count: usize) -> Result<(), Memory>
+    ensures { OnOk result (text.new.items ≡ text.old.items ++ head_lines server count) }
+{
+    let number = server.number();
+    let first = format!(in alloc; "server {number}\n")?;
+    text.extend_from_slice(first.as_bytes())?;
+    let second = format!(in alloc; "entries {count}\n")?;
+    text.extend_from_slice(second.as_bytes())?;
+    Ok(())
+}
+
+/// A line for each entry.
+fn put_entries(alloc: Global, text: &mut Vec<u8>, entries: &[Entry]) -> Result<(), Memory>
+    ensures { OnOk result (text.new.items ≡ text.old.items ++ entry_lines entries.now) }
+{
+    for entry in entries {
+        let line = entry_line(alloc, entry)?;
+        text.extend_from_slice(line.as_bytes())?;
+    }
+    Ok(())
+}
+
+/// A line for each cell.
+fn put_cells(
+    alloc: Global,
+    text: &mut Vec<u8>,
+    set: &ChainSet,
+    cells: &[(TableId, u64, u64)],
+) -> Result<(), Memory>
+    ensures { OnOk result (text.new.items ≡ text.old.items ++ cell_lines set.now cells.now) }
+{
+    for (table, key, value) in cells {
+        let line = cell_line(alloc, set.table_name(*table), *key, *value)?;
+        text.extend_from_slice(line.as_slice())?;
+    }
+    Ok(())
+}
+
+/// Whether each cell is of a table that the set has.
+pub(crate) fn are_in_tables(set: &ChainSet, cells: &[(TableId, u64, u64)]) -> bool
+    ensures { IsTrue result → All (λ cell. cell.0 < length set.now.tables) cells.now }
+{
+    let count = set.tables().len();
+    cells.iter().all(|cell| cell.0.index() < count)
+}
+
+/// All lines of a store.
+pub(crate) fn listing(
+    alloc: Global,
+    held: &Inspected,
+    cells: &[(TableId, u64, u64)],
+) -> Result<Vec<u8>, Memory>
+    requires { cells.now ≡ triples_of (map.entries held.now.loaded.cells.database) }
+    ensures { IfOk result (λ text. text.items
+        ≡ listing_of held.now.set held.now.server (kept_in held.now.loaded)) }
+{
+    let mut text = Vec::new(alloc);
+    let entries = held.loaded.entries.as_slice();
+    put_head(alloc, &mut text, held.server, entries.len())?;
+    put_entries(alloc, &mut text, entries)?;
+    put_cells(alloc, &mut text, &held.set, cells)?;
+    Ok(text)
+}

@@ -1,0 +1,103 @@
+-- Rows that were read, one after another.
+use Rattle.std.proofs.Common.{◌≡◌, ℕ, zero, suc, ◌+◌, ◌<◌, ◌≤◌, pos, List, [], ◌∷◌, ◌++◌, length, map, take, get_or, refl, sym, ap, ◌∙◌, arith}
+use Rattle.std.proofs.lemmas.List.{take_more}
+use Rattle.std.proofs.lemmas.Nat.{from_be_bytes-to_be_bytes_8}
+use Rattle.std.specs.Int.{w64, from_be_bytes, to_be_bytes}
+use Rattle.std.specs.List.{AllByRecursion}
+use Rattle.sqlite_value.specs.declared.value.Value.TheVariants.{Int, Blob}
+use Rattle.sqlite.specs.Order.{Row}
+use Rattle.lynx_entry.specs.declared.entry.Entry.{Entry}
+use Rattle.lynx_entry.specs.Entry.{History}
+use Rattle.lynx_forms.specs.declared.item.Item.TheVariants as items
+use Rattle.lynx_forms.proofs.Feeds.{no_form_begins_another}
+use Rattle.lynx_keep.specs.Kept.{KeptState}
+use Rattle.lynx_keep.specs.Stored.{form_of, HasForm}
+use Rattle.lynx_keep.proofs.Keeping.{same_kept}
+use Rattle.lynx_tables.specs.Contents.{Title}
+use Rattle.lynx_tables.specs.declared.reading.StoredRows.{StoredRows}
+use Rattle.lynx_tables.specs.Rows.{shown_entries}
+use Rattle.lynx_tables.specs.Reading.{ShowRows}
+use Rattle.lynx_tables.specs.Shown.{AreCells, FitsRow, row_of, entry_in}
+use Rattle.lynx_store.specs.Stored.{bodies_of, contents_of, Tells}
+use Rattle.lynx_store.proofs.Kept.{bodies-append, length-bodies}
+
+pub take_whole : {A : Type 0} (xs : List A) (i : ℕ) → length xs ≤ i → take i xs ≡ xs
+take_whole [] zero h = refl
+take_whole [] (suc i) h = refl
+take_whole (x ∷ xs) zero h = absurd (omega arith)
+take_whole (x ∷ xs) (suc i) h = ap (λ ys. x ∷ ys) (take_whole xs i (omega arith))
+
+-- one more row
+pub take_next : {A : Type 0} (xs : List A) (i : ℕ) (x : A) → i < length xs → x ≡ get_or xs i x → take (i + 1) xs ≡ take i xs ++ x ∷ []
+take_next xs i x low is = take_more xs i x low ∙ ap (λ y. take i xs ++ y ∷ []) (sym is)
+
+shown-append : (place : ℕ) (bodies : List (List ℕ)) (body : List ℕ) (at : ℕ) → at ≡ place + length bodies
+    → shown_entries place bodies ++ (Int (pos at) ∷ Blob body ∷ []) ∷ [] ≡ shown_entries place (bodies ++ body ∷ [])
+shown-append place [] body at is = ap (λ n. (Int (pos n) ∷ Blob body ∷ []) ∷ []) (omega arith)
+shown-append place (b ∷ bodies) body at is = ap (λ rows. (Int (pos place) ∷ Blob b ∷ []) ∷ rows) (shown-append (place + 1) bodies body at (omega arith))
+
+-- one more entry
+pub shown_more : (entries : History) (entry : Entry) (row : Row) (at : ℕ) → at ≡ length entries → row ≡ Int (pos at) ∷ Blob (form_of entry) ∷ []
+    → shown_entries 0 (bodies_of entries) ++ row ∷ [] ≡ shown_entries 0 (bodies_of (entries ++ entry ∷ []))
+shown_more entries entry row at is same =
+    ap (λ r. shown_entries 0 (bodies_of entries) ++ r ∷ []) same
+    ∙ shown-append 0 (bodies_of entries) (form_of entry) at (omega (arith, is, length-bodies entries))
+    ∙ ap (shown_entries 0) (bodies-append entries entry)
+
+rows-append : (cells : List (ℕ × ℕ × ℕ)) (cell : ℕ × ℕ × ℕ) → map row_of cells ++ row_of cell ∷ [] ≡ map row_of (cells ++ cell ∷ [])
+rows-append [] cell = refl
+rows-append (c ∷ cells) cell = ap (λ rows. row_of c ∷ rows) (rows-append cells cell)
+
+fits-append : (cells : List (ℕ × ℕ × ℕ)) (cell : ℕ × ℕ × ℕ) → AllByRecursion FitsRow cells → FitsRow cell → AllByRecursion FitsRow (cells ++ cell ∷ [])
+fits-append [] cell all fits = (fits, tt)
+fits-append (c ∷ cells) cell all fits = (all.0, fits-append cells cell all.1 fits)
+
+pub no_cells : AreCells []
+no_cells = record { cells = []; rows_are = refl; fit = tt }
+
+-- one more cell
+pub cells_more : (rows : List Row) (row : Row) (cell : ℕ × ℕ × ℕ) → AreCells rows → row ≡ row_of cell → FitsRow cell → AreCells (rows ++ row ∷ [])
+cells_more rows row cell are is fits = record {
+  cells = are.cells ++ cell ∷ [];
+  rows_are = ap (λ rs. rs ++ row ∷ []) are.rows_are ∙ ap (λ r. map row_of are.cells ++ r ∷ []) is ∙ rows-append are.cells cell;
+  fit = fits-append are.cells cell are.fit fits;
+}
+
+pub told_by : (row : Row) (cell : ℕ × ℕ × ℕ) → row ≡ row_of cell → FitsRow cell → ◌≡◌ {A = (ℕ × ℕ) × ℕ} ((cell.0, cell.1), cell.2) (entry_in row)
+told_by row cell is fits =
+    let first : ◌≡◌ {A = (ℕ × ℕ) × ℕ} (entry_in (row_of cell)) ((cell.0, cell.1), cell.2) =
+    ap (λ k. let e : (ℕ × ℕ) × ℕ = ((cell.0, k), from_be_bytes w64 (to_be_bytes w64 cell.2)) in e) (from_be_bytes-to_be_bytes_8 cell.1 fits.key)
+    ∙ ap (λ v. let e : (ℕ × ℕ) × ℕ = ((cell.0, cell.1), v) in e) (from_be_bytes-to_be_bytes_8 cell.2 fits.value) in
+    sym (ap entry_in is ∙ first)
+
+-- ---- rows that show two states
+
+same_bodies : (place : ℕ) (ours theirs : List (List ℕ)) → shown_entries place ours ≡ shown_entries place theirs → ours ≡ theirs
+same_bodies place [] [] same = refl
+same_bodies place [] (b ∷ others) same = absurd (let e = same in cc)
+same_bodies place (a ∷ more) [] same = absurd (let e = same in cc)
+same_bodies place (a ∷ more) (b ∷ others) same =
+    let here : a ≡ b = cc in
+    let rest : shown_entries (place + 1) more ≡ shown_entries (place + 1) others = cc in
+    ap (λ x. x ∷ more) here ∙ ap (λ xs. b ∷ xs) (same_bodies (place + 1) more others rest)
+
+same_entry : (a b : Entry) → HasForm a → HasForm b → form_of a ≡ form_of b → a ≡ b
+same_entry a b formed other same =
+    let both = (no_form_begins_another (items.Entry a) (items.Entry b) [] [] formed other (ap (λ bytes. bytes ++ []) same)).0 in cc
+
+same_entries : (ours theirs : History) → AllByRecursion HasForm ours → AllByRecursion HasForm theirs → bodies_of ours ≡ bodies_of theirs → ours ≡ theirs
+same_entries [] [] formed others same = refl
+same_entries [] (b ∷ theirs) formed others same = absurd (let e = same in cc)
+same_entries (a ∷ ours) [] formed others same = absurd (let e = same in cc)
+same_entries (a ∷ ours) (b ∷ theirs) formed others same =
+    let here : form_of a ≡ form_of b = cc in
+    let rest : bodies_of ours ≡ bodies_of theirs = cc in
+    ap (λ x. x ∷ ours) (same_entry a b formed.0 others.0 here) ∙ ap (λ xs. b ∷ xs) (same_entries ours theirs formed.1 others.1 rest)
+
+-- rows tell one state
+pub one_state : (rows : StoredRows) (title : Title) (ours theirs : KeptState) → AllByRecursion HasForm ours.entries → ShowRows rows (contents_of title ours)
+    → Tells rows title theirs → ours ≡ theirs
+one_state rows title ours theirs formed shown tells =
+    let entries : ours.entries ≡ theirs.entries =
+    same_entries ours.entries theirs.entries formed tells.formed (same_bodies 0 _ _ (sym shown.entries ∙ tells.shown.entries)) in
+    same_kept ours.entries theirs.entries ours.cells theirs.cells entries (sym shown.cells ∙ tells.shown.cells)

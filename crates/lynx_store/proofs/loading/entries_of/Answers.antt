@@ -1,0 +1,30 @@
+use Rattle.std.proofs.Common.{◌≡◌, ◌∷◌, [], ◌++◌, length, ap, subst, sym, ◌∙◌, arith, length-append}
+use Rattle.std.specs.List.{AllByRecursion}
+use Rattle.lynx_keep.specs.Stored.{HasForm}
+use Rattle.lynx_tables.specs.Rows.{shown_entries}
+use Rattle.lynx_store.specs.Stored.{bodies_of}
+use Rattle.lynx_store.proofs.Kept.{formed-append}
+use Rattle.lynx_store.proofs.RowsRead.{take_next, take_whole, shown_more}
+use Rattle.lynx_store.proofs.loading.entries_of.Goals as goal
+
+pub loop-row-preserved : goal.loop-row-preserved
+loop-row-preserved c =
+    let so_far = c.loop-row.invariant in
+    let entry = c.in-Some.entry in
+    let told = rw c.in-Some.is at c.in_ok-entry.ensures in
+    let next = take_next c.args.rows.now c.loop-row.row-index c.row-item.result c.loop-row-test.true c.row-item.is in
+    let at : c.loop-row.place ≡ length c.loop-row.entries.items = so_far.place ∙ sym so_far.counted in
+    let more = shown_more c.loop-row.entries.items entry c.row-item.result c.loop-row.place at told.0 in
+    let pushed = c.in_ok-push.ensures.items in
+    record {
+      place = omega (arith, so_far.place);
+      counted = omega (arith, ap length pushed, so_far.counted, length-append c.loop-row.entries.items (entry ∷ []));
+      shown = next ∙ ap (λ rows. rows ++ c.row-item.result ∷ []) so_far.shown ∙ more
+          ∙ ap (λ es. shown_entries 0 (bodies_of es)) (sym pushed);
+      formed = subst (AllByRecursion HasForm) (sym pushed) (formed-append c.loop-row.entries.items entry so_far.formed told.1);
+    }
+
+pub returns : goal.returns
+returns c =
+    let past = c.loop-row-test.false in
+    (sym (take_whole c.args.rows.now c.loop-row.row-index (omega arith)) ∙ c.loop-row.invariant.shown, c.loop-row.invariant.formed)

@@ -1,0 +1,4 @@
+pub mod Premise
+pub mod Stored
+pub mod Heading
+pub mod Laws

@@ -1,0 +1,48 @@
+//! The bodies of entries.
+ghost use Rattle.std.specs.Prelude.{◌≡◌, IfOk, IfSome, OnOk};
+ghost use Rattle.lynx_forms.specs.Entries.{IsEntryInRange};
+ghost use Rattle.lynx_keep.specs.Stored.{form_of, HasForm};
+
+use lynx_entry::Entry;
+use lynx_forms::limits::MAX_FORM_BYTES;
+use lynx_forms::{DecodeFault, Feed, Item, append_entry};
+use lynx_names::Memory;
+use std::alloc::Global;
+
+/// The form of an entry.
+pub fn body_of(alloc: Global, entry: &Entry) -> Result<Vec<u8>, Memory>
+    requires { IsEntryInRange entry.now }
+    ensures form { IfOk result (λ body. body.items ≡ form_of entry.now) }
+    ensures formed { OnOk result (HasForm entry.now) }
+{
+    let mut body = Vec::with_capacity(alloc, MAX_FORM_BYTES)?;
+    append_entry(entry, &mut body);
+    Ok(body)
+}
+
+/// The entry whose form these bytes begin with.
+fn first_entry(alloc: Global, bytes: &[u8]) -> Result<Option<Entry>, Memory>
+    ensures { IfOk result (λ found. IfSome found IsEntryInRange) }
+{
+    let mut feed = Feed::new(alloc);
+    feed.push(bytes)?;
+    match feed.next(alloc) {
+        Ok(Some(Item::Entry(entry))) => Ok(Some(entry)),
+        Err(DecodeFault::Memory) => Err(Memory),
+        _ => Ok(None),
+    }
+}
+
+/// The entry whose form this body is, and nothing behind it.
+pub fn entry_of(alloc: Global, body: &[u8]) -> Result<Option<Entry>, Memory>
+    ensures { IfOk result (λ found. IfSome found (λ entry. (body.now ≡ form_of entry) × HasForm entry)) }
+{
+    let Some(entry) = first_entry(alloc, body)? else {
+        return Ok(None);
+    };
+    if body_of(alloc, &entry)?.as_slice() == body {
+        Ok(Some(entry))
+    } else {
+        Ok(None)
+    }
+}

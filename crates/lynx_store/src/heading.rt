@@ -1,0 +1,72 @@
+ghost use Rattle.std.specs.Prelude.{◌≡◌, ◌↔◌, ◌∷◌, [], pos, IfOk, IsTrue};
+ghost use Rattle.std.specs.Fmt.{decimal};
+ghost use Rattle.sqlite_value.specs.declared.value.Value.TheVariants.{Int, Text};
+ghost use Rattle.lynx_set.specs.Text.{text_of};
+ghost use Rattle.lynx_tables.specs.Rows.{shown_meta};
+ghost use Rattle.lynx_store.specs.Heading.{title_in};
+
+use crate::columns::{is_number, is_text};
+use lynx_names::{Memory, ServerId};
+use lynx_set::ChainSet;
+use lynx_text::print;
+use lynx_text::printing::put_number;
+use sqlite::Row;
+use std::alloc::Global;
+
+/// The first text of `meta`.
+pub const VERSION: &[u8] = b"lynx store 1";
+
+/// The server and the set of a store, as `meta` has them.
+#[derive(Debug, Drop)]
+pub struct Heading {
+    /// The server's number in decimal.
+    pub server: Vec<u8>,
+    /// The text of the set.
+    pub set: Vec<u8>,
+}
+
+impl Heading {
+    /// That of a server of a set.
+    pub fn new(alloc: Global, set: &ChainSet, server: ServerId) -> Result<Heading, Memory>
+        ensures server { IfOk result (λ heading. heading.server.items ≡ decimal server) }
+        ensures set { IfOk result (λ heading. heading.set.items ≡ text_of set.now) }
+    {
+        let mut number = Vec::new(alloc);
+        put_number(alloc, &mut number, u64::from(server.number()))?;
+        let set = print(alloc, set)?;
+        Ok(Heading {
+            server: number,
+            set,
+        })
+    }
+
+    /// That of these texts.
+    pub(crate) fn copied(alloc: Global, server: &[u8], set: &[u8]) -> Result<Heading, Memory>
+        ensures server { IfOk result (λ heading. heading.server.items ≡ server.now) }
+        ensures set { IfOk result (λ heading. heading.set.items ≡ set.now) }
+    {
+        Ok(Heading {
+            server: Vec::from_slice(alloc, server)?,
+            set: Vec::from_slice(alloc, set)?,
+        })
+    }
+
+    /// Whether the rows of `meta` are its texts.
+    pub(crate) fn is_shown(&self, rows: &[Row]) -> bool
+        ensures { IsTrue result ↔ (rows.now ≡ shown_meta (title_in self.now)) }
+    {
+        let [version, server, set] = rows else {
+            return false;
+        };
+        is_meta_row(version, 1, VERSION)
+            && is_meta_row(server, 2, self.server.as_slice())
+            && is_meta_row(set, 3, self.set.as_slice())
+    }
+}
+
+/// Whether a row of `meta` has that number and that text.
+pub(crate) fn is_meta_row(row: &Row, id: u32, text: &[u8]) -> bool
+    ensures { IsTrue result ↔ (row.now ≡ Int (pos id) ∷ Text text.now ∷ []) }
+{
+    row.column_count() == 2 && is_number(row, 0, id) && is_text(row, 1, text)
+}

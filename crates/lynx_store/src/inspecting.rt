@@ -1,0 +1,111 @@
+//! What a store holds, whatever server and set it is of.
+ghost use Rattle.std.specs.Prelude.{◌≡◌, ◌≤◌, ℕ, length, IfOk, IfSome};
+ghost use Rattle.sqlite_trees.specs.View.{doubt};
+ghost use Rattle.sqlite_value.specs.declared.value.Value.TheVariants.{Text};
+ghost use Rattle.sqlite_value.specs.Order.{column};
+ghost use Rattle.sqlite_value.specs.Value.{owned};
+ghost use Rattle.std.specs.Fmt.{decimal};
+ghost use Rattle.sqlite.specs.Tree.{Trees};
+ghost use Rattle.sqlite.specs.Held.{state};
+ghost use Rattle.lynx_keep.specs.Kept.{kept_in};
+ghost use Rattle.lynx_set.specs.Text.{text_of};
+ghost use Rattle.lynx_store.specs.Heading.{title_in};
+ghost use Rattle.lynx_store.specs.Premise.{IsUndisturbed};
+ghost use Rattle.lynx_store.specs.Stored.{IsKept, server_title};
+
+use crate::columns::{is_number, text_in};
+use crate::fault::StoreFault;
+use crate::heading::{Heading, VERSION, is_meta_row};
+use crate::keeper::loaded_of;
+use lynx_keep::{KeepFault, Loaded};
+use lynx_names::{Memory, ServerId};
+use lynx_set::ChainSet;
+use lynx_tables::schema::is_store;
+use lynx_tables::{Rising, read_rows};
+use lynx_text::{FaultKind, parse};
+use lynx_words::number::number;
+use sqlite::{Connection, Row};
+use std::alloc::Global;
+
+/// What a store holds.
+#[derive(Debug, Drop)]
+pub struct Inspected {
+    pub set: ChainSet,
+    pub server: ServerId,
+    pub loaded: Loaded,
+}
+
+/// The heading that the rows of `meta` tell.
+fn heading_in(alloc: Global, rows: &[Row]) -> Result<Heading, StoreFault> {
+    let [version, server, set] = rows else {
+        return Err(StoreFault::Damaged);
+    };
+    if !is_number(version, 0, 1) || !is_number(server, 0, 2) || !is_number(set, 0, 3) {
+        return Err(StoreFault::Damaged);
+    }
+    if !is_meta_row(version, 1, VERSION) {
+        return Err(StoreFault::OtherVersion);
+    }
+    let (Some(server), Some(set)) = (text_in(server, 1), text_in(set, 1)) else {
+        return Err(StoreFault::Damaged);
+    };
+    Ok(Heading::copied(alloc, server, set)?)
+}
+
+/// The server that a text is the number of.
+fn server_in(text: &[u8]) -> Option<ServerId>
+    ensures { IfSome result (λ server. text.now ≡ decimal server) }
+{
+    let number = number(text)?;
+    ServerId::new(u8::try_from(number).ok()?)
+}
+
+/// The set that a text spells.
+fn set_in(alloc: Global, text: &[u8]) -> Result<ChainSet, StoreFault>
+    ensures { IfOk result (λ set. text.now ≡ text_of set) }
+{
+    match parse(alloc, text) {
+        Ok(set) => Ok(set),
+        Err(fault) if fault.kind == FaultKind::Memory => Err(StoreFault::Memory),
+        Err(_) => Err(StoreFault::Damaged),
+    }
+}
+
+/// The set and the server of a heading, which is one of the set's.
+fn owner_of(alloc: Global, heading: &Heading) -> Result<(ChainSet, ServerId), StoreFault>
+    ensures { IfOk result (λ owner. title_in heading.now ≡ server_title owner.1 (text_of owner.0)) }
+{
+    let set = set_in(alloc, heading.set.as_slice())?;
+    match server_in(heading.server.as_slice()) {
+        Some(server) if set.has_server(server) => Ok((set, server)),
+        _ => Err(StoreFault::Damaged),
+    }
+}
+
+/// What a store holds, and of which server and set it is. Nothing is written. Takes the memory of all of it.
+pub fn inspect<S: Rising>(alloc: Global, conn: &mut Connection<S>) -> Result<Inspected, StoreFault>
+    ensures clean { doubt (state S.Store conn.old).is_clean ≤ doubt (state S.Store conn.new).is_clean }
+    ensures ok { IsUndisturbed (state S.Store conn.new) → IfOk result (λ held.
+        IsKept (state S.Store conn.new) (server_title held.server (text_of held.set))
+        (length held.loaded.entries.items) (kept_in held.loaded)) }
+    ensures stop { IsUndisturbed (state S.Store conn.new) → (db : Trees)
+        → (state S.Store conn.new).may_leave db → (state S.Store conn.old).may_leave db }
+{
+    if !is_store(conn.schema()) {
+        return Err(StoreFault::Damaged);
+    }
+    let Ok(rows) = read_rows(conn) else {
+        return Err(StoreFault::Store);
+    };
+    let heading = heading_in(alloc, rows.title.as_slice())?;
+    let (set, server) = owner_of(alloc, &heading)?;
+    match loaded_of(alloc, &heading, &rows) {
+        Ok(loaded) => Ok(Inspected {
+            set,
+            server,
+            loaded,
+        }),
+        Err(KeepFault::Memory) => Err(StoreFault::Memory),
+        Err(KeepFault::Failed) => Err(StoreFault::Damaged),
+    }
+}

@@ -1,0 +1,158 @@
+ghost use Rattle.std.specs.Prelude.{◌≡◌, ◌≤◌, ℕ, IsErrOf, IfOk, length};
+ghost use Rattle.sqlite_trees.specs.View.{doubt};
+ghost use Rattle.sqlite.specs.Tree.{Trees};
+ghost use Rattle.sqlite.specs.Held.{state};
+ghost use Rattle.lynx_keep.specs.Kept.{KeptState, kept_in};
+ghost use Rattle.lynx_store.specs.Heading.{title_in};
+ghost use Rattle.lynx_store.specs.Premise.{IsUndisturbed};
+ghost use Rattle.lynx_store.specs.Stored.{IsKept, Tells};
+
+use crate::body::body_of;
+use crate::heading::Heading;
+use crate::loading::{cells_of, entries_of};
+use lynx_cells::Changes;
+use lynx_entry::Entry;
+use lynx_keep::{KeepFault, Keeper, Loaded};
+use lynx_tables::commit::write_entry;
+use lynx_tables::{Rising, StoredRows, read_rows};
+use sqlite::Connection;
+use std::alloc::Global;
+
+/// Keeps a server's entries and cells in a database. Each commit is one transaction.
+///
+/// What it says of what is kept rests on a premise: nobody else writes the file, and the disk has given back what was
+/// written to it, so far.
+#[derive(Drop)]
+pub struct SqlKeeper<S: Rising> {
+    conn: Connection<S>,
+    heading: Heading,
+    /// How many entries are kept: the place of the next one.
+    count: u32,
+    faults: u64,
+}
+
+/// What the rows tell, Failed where a row hasn't its form.
+pub(crate) fn loaded_of(
+    alloc: Global,
+    heading: &Heading,
+    rows: &StoredRows,
+) -> Result<Loaded, KeepFault>
+    ensures { IfOk result (λ loaded. Tells rows.now (title_in heading.now) (kept_in loaded)) }
+{
+    if !heading.is_shown(rows.title.as_slice()) {
+        return Err(KeepFault::Failed);
+    }
+    let Some(entries) = entries_of(alloc, rows.entries.as_slice())? else {
+        return Err(KeepFault::Failed);
+    };
+    let Some(cells) = cells_of(alloc, rows.cells.as_slice())? else {
+        return Err(KeepFault::Failed);
+    };
+    Ok(Loaded { entries, cells })
+}
+
+/// What the tables under this heading hold.
+fn read<S: Rising>(
+    alloc: Global,
+    conn: &mut Connection<S>,
+    heading: &Heading,
+) -> Result<Loaded, KeepFault>
+    ensures clean { doubt (state S.Store conn.old).is_clean ≤ doubt (state S.Store conn.new).is_clean }
+    ensures ok { IsUndisturbed (state S.Store conn.new) → IfOk result (λ loaded.
+        IsKept (state S.Store conn.new) (title_in heading.now) (length loaded.entries.items) (kept_in loaded)) }
+    ensures all { IsUndisturbed (state S.Store conn.new) → IfOk result (λ loaded. (count : ℕ) (kept : KeptState)
+        → IsKept (state S.Store conn.old) (title_in heading.now) count kept → kept ≡ kept_in loaded) }
+    ensures memory { IsUndisturbed (state S.Store conn.new) → IsErrOf result KeepFault.Memory
+        → (count : ℕ) (kept : KeptState) → IsKept (state S.Store conn.old) (title_in heading.now) count kept
+        → IsKept (state S.Store conn.new) (title_in heading.now) count kept }
+    ensures stop { IsUndisturbed (state S.Store conn.new) → (db : Trees)
+        → (state S.Store conn.new).may_leave db → (state S.Store conn.old).may_leave db }
+{
+    match read_rows(conn) {
+        Ok(rows) => loaded_of(alloc, heading, &rows),
+        Err(_) => Err(KeepFault::Failed),
+    }
+}
+
+impl<S: Rising> SqlKeeper<S> {
+    /// A keeper over a store that holds so many entries.
+    pub(crate) fn over(conn: Connection<S>, heading: Heading, count: u32) -> SqlKeeper<S>
+        ensures { result ≡ record { conn = conn; heading = heading; count = count; faults = 0 } }
+    {
+        SqlKeeper {
+            conn,
+            heading,
+            count,
+            faults: 0,
+        }
+    }
+
+    /// Gives the connection back.
+    pub fn into_connection(self) -> Connection<S>
+        ensures { result ≡ self.conn }
+    {
+        self.conn
+    }
+}
+
+impl<S: Rising> Keeper for SqlKeeper<S> {
+    ghost use Rattle.sqlite.specs.Held.{state};
+    ghost use Rattle.lynx_store.specs.Heading.{title_in};
+    ghost use Rattle.lynx_store.specs.Premise.{IsUndisturbed};
+    ghost use Rattle.lynx_store.specs.Stored.{IsKept, LeavesOneOf};
+    ghost use Rattle.lynx_store.specs.Laws.{leaves_kept, leaves_either};
+
+    ghost terms = { record {
+      sound = λ keeper. IsUndisturbed (state S.Store keeper.conn);
+      keeps = λ keeper kept. IsKept (state S.Store keeper.conn) (title_in keeper.heading) keeper.count kept;
+      leaves = λ keeper one other. LeavesOneOf (state S.Store keeper.conn).may_leave (title_in keeper.heading) one other;
+      counted = λ keeper. keeper.faults;
+    } };
+
+    fn commit(&mut self, alloc: Global, entry: &Entry, changes: &Changes) -> Result<(), KeepFault> {
+        let body = body_of(alloc, entry)?;
+        if self.count == u32::MAX {
+            self.faults = self.faults.saturating_add(1);
+            return Err(KeepFault::Failed);
+        }
+        match write_entry(&mut self.conn, self.count, body.as_slice(), changes) {
+            Ok(()) => {
+                self.count += 1;
+                Ok(())
+            }
+            Err(_) => {
+                self.faults = self.faults.saturating_add(1);
+                Err(KeepFault::Failed)
+            }
+        }
+    }
+
+    fn load(&mut self, alloc: Global) -> Result<Loaded, KeepFault> {
+        match read(alloc, &mut self.conn, &self.heading) {
+            Ok(loaded) => {
+                let Ok(count) = u32::try_from(loaded.entries.len()) else {
+                    self.faults = self.faults.saturating_add(1);
+                    return Err(KeepFault::Failed);
+                };
+                self.count = count;
+                Ok(loaded)
+            }
+            Err(KeepFault::Memory) => Err(KeepFault::Memory),
+            Err(KeepFault::Failed) => {
+                self.faults = self.faults.saturating_add(1);
+                Err(KeepFault::Failed)
+            }
+        }
+    }
+
+    fn faults(&self) -> u64 {
+        self.faults
+    }
+
+    ghost settled = { λ keeper kept sound keeps. leaves_kept (S.Store.recovers keeper.conn.store)
+        (S.Store.view keeper.conn.store).committed (title_in keeper.heading) kept kept
+        (λ db may. S.Store.settled keeper.conn.store db keeps.tables.is_open may) keeps.tables.tables };
+
+    ghost weaker = { λ keeper kept other left. leaves_either (S.Store.recovers keeper.conn.store)
+        (title_in keeper.heading) kept other left };
+}

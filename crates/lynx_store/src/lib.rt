@@ -1,0 +1,16 @@
+//! A keeper of entries and cells in an SQLite database.
+#![tactic(auto)]
+
+pub use fault::StoreFault;
+pub use heading::Heading;
+pub use inspecting::{Inspected, inspect};
+pub use keeper::SqlKeeper;
+
+mod body;
+mod columns;
+pub mod fault;
+pub mod heading;
+pub mod inspecting;
+pub mod keeper;
+mod loading;
+pub mod opening;

@@ -1,0 +1,92 @@
+//! Rows as entries and cells.
+ghost use Rattle.std.specs.Prelude.{◌≡◌, ◌∷◌, [], pos, IfOk, IfSome};
+ghost use Rattle.std.specs.List.{AllByRecursion};
+ghost use Rattle.sqlite_value.specs.declared.value.Value.TheVariants.{Int, Blob};
+ghost use Rattle.lynx_keep.specs.Stored.{form_of, HasForm};
+ghost use Rattle.lynx_tables.specs.Rows.{shown_entries};
+ghost use Rattle.lynx_tables.specs.Shown.{AreCells, FitsRow, cells_in, row_of, with_rows};
+ghost use Rattle.std.specs.FinMap as finite;
+ghost use Rattle.lynx_store.specs.Stored.{bodies_of};
+
+use crate::body::entry_of;
+use crate::columns::{is_number, number_in, table_in};
+use lynx_cells::{Cells, Changes};
+use lynx_entry::Entry;
+use lynx_names::{Memory, TableId};
+use sqlite::Row;
+use sqlite::types::ValueRef;
+use std::alloc::Global;
+
+/// The entry of a row, if the row is that of the place.
+fn entry_at(alloc: Global, row: &Row, place: u32) -> Result<Option<Entry>, Memory>
+    ensures { IfOk result (λ found. IfSome found (λ entry.
+        (row.now ≡ Int (pos place) ∷ Blob (form_of entry) ∷ []) × HasForm entry)) }
+{
+    if row.column_count() != 2 || !is_number(row, 0, place) {
+        return Ok(None);
+    }
+    match row.get_ref(1) {
+        Ok(ValueRef::Blob(body)) => entry_of(alloc, body),
+        _ => Ok(None),
+    }
+}
+
+/// The entries of the rows, None where a row isn't that of its place.
+pub fn entries_of(alloc: Global, rows: &[Row]) -> Result<Option<Vec<Entry>>, Memory>
+    ensures { IfOk result (λ found. IfSome found (λ entries.
+        (rows.now ≡ shown_entries 0 (bodies_of entries.items)) × AllByRecursion HasForm entries.items)) }
+{
+    let mut entries = Vec::new(alloc);
+    let mut place = 0u32;
+    for row in rows {
+        let Some(entry) = entry_at(alloc, row, place)? else {
+            return Ok(None);
+        };
+        if place == u32::MAX {
+            return Ok(None);
+        }
+        entries.push(entry)?;
+        place += 1;
+    }
+    Ok(Some(entries))
+}
+
+/// The cell of a row, if the row is that of a cell that isn't 0.
+fn cell_of(row: &Row) -> Option<(TableId, u64, u64)>
+    ensures { IfSome result (λ cell. (row.now ≡ row_of cell) × FitsRow cell) }
+{
+    if row.column_count() != 3 {
+        return None;
+    }
+    let cell = (table_in(row, 0)?, number_in(row, 1)?, number_in(row, 2)?);
+    if cell.2 == 0 { None } else { Some(cell) }
+}
+
+/// The values of the rows, None where a row isn't that of a cell that isn't 0.
+fn changes_of(alloc: Global, rows: &[Row]) -> Result<Option<Changes>, Memory>
+    ensures { IfOk result (λ found. IfSome found (λ changes. AreCells rows.now
+        × (changes ≡ with_rows rows.now finite.empty))) }
+{
+    let mut changes = Changes::new(alloc);
+    for row in rows {
+        let Some(cell) = cell_of(row) else {
+            return Ok(None);
+        };
+        changes.put(cell.0, cell.1, cell.2)?;
+    }
+    Ok(Some(changes))
+}
+
+/// The cells of the rows, None where a row isn't that of a cell that isn't 0.
+pub fn cells_of(alloc: Global, rows: &[Row]) -> Result<Option<Cells>, Memory>
+    ensures { IfOk result (λ found. IfSome found (λ cells. AreCells rows.now
+        × (cells.database ≡ cells_in rows.now))) }
+{
+    let Some(changes) = changes_of(alloc, rows)? else {
+        return Ok(None);
+    };
+    let mut cells = Cells::new(alloc);
+    cells.stage(&changes)?;
+    cells.apply(&changes);
+    Ok(Some(cells))
+}

@@ -1,0 +1,15 @@
+//! Tests of stores, with ample memory: made, kept, opened again, damaged by hand, and stopped.
+#![tactic(auto)]
+
+#[cfg(test)]
+mod damaged;
+#[cfg(test)]
+mod made;
+#[cfg(test)]
+mod shown;
+#[cfg(test)]
+mod stops;
+#[cfg(test)]
+mod stores;
+#[cfg(test)]
+mod worked;

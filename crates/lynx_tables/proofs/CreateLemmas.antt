@@ -1,0 +1,105 @@
+-- What making the tables does.
+use Rattle.std.proofs.Common.{◌≡◌, ◌⊎◌, inl, inr, ℕ, List, [], ◌∷◌, true, false, Some, None, Ok, Err, Result, OnOk, IsTrue, refl, sym, ap, subst, ◌∙◌, arith}
+use Rattle.sqlite.specs.Table.{Table}
+use Rattle.sqlite.specs.Schema.{Schema}
+use Rattle.sqlite.specs.Compile.{table_defined_by}
+use Rattle.sqlite.specs.Command.TheVariants.{CreateTable}
+use Rattle.sqlite.specs.Change.{created, next_tree, KeepsRows}
+use Rattle.sqlite.specs.Does.{Tally, Does, lacks_sequence}
+use Rattle.sqlite.specs.Tree.{Trees}
+use Rattle.sqlite.specs.declared.error.Error.{Error}
+use Rattle.sqlite.specs.Listing.{understood}
+use Rattle.sqlite.specs.Effect.{Database}
+use Rattle.sqlite.specs.State.{State, Shows, mode_of, Writes, ExecutesInside}
+use Rattle.sqlite.specs.Store.{Ghosts}
+use Rattle.sqlite.specs.Held.{Held, state}
+use Rattle.sqlite.proofs.Callers.{IsPlain, command_of, statement_of, runs_as}
+use Rattle.lynx_cells.specs.Database.{cell_cmp, empty_database}
+use Rattle.std.specs.FinMap as finite
+use Rattle.lynx_tables.specs.Tables.{meta_text, entry_text, cell_text, meta, entry, cell, store_schema, no_schema, meta_schema, entry_schema}
+use Rattle.sqlite_catalog.specs.Listing.{Lists}
+use Rattle.sqlite_trees.specs.Objects.{catalog_tree}
+use Rattle.lynx_tables.specs.Contents.{Title, titled}
+use Rattle.lynx_tables.specs.Cells.{HoldsCells}
+use Rattle.lynx_tables.specs.Steps.{Makes, MakesTables, WritesTitle, Holds}
+use Rattle.lynx_tables.proofs.Parts.{went, same_value}
+use Rattle.lynx_tables.proofs.Understood.{meta_is, entry_is, cell_is, meta_command, entry_command, cell_command, meta_statement, entry_statement, cell_statement, meta_plain, entry_plain, cell_plain, meta_created, entry_created, cell_created}
+
+creates : (old new : State) (text : List ℕ) (schema : Schema) (table : Table) (count : ℕ) → old.now.schema ≡ schema → command_of (understood schema text) ≡ CreateTable
+    → statement_of text (understood schema text) ≡ text → IsPlain (understood schema text) → table_defined_by text ≡ Ok table → lacks_sequence (created schema table) ≡ false
+    → ExecutesInside 0 text [] old new (Ok count) → Makes old new schema (created schema table) (next_tree schema)
+creates old new text schema table count has command statement plain is none h =
+    let w = subst (λ t. Writes old new None CreateTable t [] count) statement (runs_as text [] old new schema has CreateTable command plain count h.0) in
+    let all = went w.changed in
+    let first = went all.1 in
+    let made = first.1 in
+    let both : Ok made.table ≡ Ok table = sym made.defined ∙ is in
+    let same : made.table ≡ table = cc in
+    let after : first.0.schema ≡ created schema table = made.is ∙ ap (λ s. created s made.table) has ∙ ap (created schema) same in
+    let counted : lacks_sequence first.0.schema ≡ false = ap lacks_sequence after ∙ none in
+    let now : new.now ≡ first.0 = ap (λ (p : Tally × Database). p.1) (same_value all.2) ∙ same_value (rw counted at first.2) in
+    record {
+      shown = h.1;
+      schema = ap (λ (d : Database). d.schema) now ∙ after;
+      empty = ap (λ (d : Database). d.trees (next_tree schema)) now ∙ subst (λ s. first.0.trees (next_tree s) ≡ []) has made.empty;
+      sound = w.sound;
+      others = subst (λ (d : Database). KeepsRows schema.tables old.now.trees d.trees) (sym now) (subst (λ s. KeepsRows s.tables old.now.trees first.0.trees) has made.others);
+    }
+
+pub makes_meta : (old new : State) (r : Result ℕ Error) → old.now.schema ≡ no_schema → ExecutesInside 0 meta_text [] old new r → OnOk r (Makes old new no_schema meta_schema 0)
+makes_meta old new (Err e) has h = tt
+makes_meta old new (Ok count) has h = creates old new meta_text no_schema meta count has meta_command meta_statement meta_plain meta_is refl h
+
+pub makes_entry : (old new : State) (r : Result ℕ Error) → old.now.schema ≡ meta_schema → ExecutesInside 0 entry_text [] old new r → OnOk r (Makes old new meta_schema entry_schema 1)
+makes_entry old new (Err e) has h = tt
+makes_entry old new (Ok count) has h = creates old new entry_text meta_schema (record entry { tree = 0 }) count has entry_command entry_statement entry_plain entry_is refl h
+
+pub makes_cell : (old new : State) (r : Result ℕ Error) → old.now.schema ≡ entry_schema → ExecutesInside 0 cell_text [] old new r → OnOk r (Makes old new entry_schema store_schema 2)
+makes_cell old new (Err e) has h = tt
+makes_cell old new (Ok count) has h =
+    let m = creates old new cell_text entry_schema (record cell { tree = 0 }) count has cell_command cell_statement cell_plain cell_is refl h in
+    record { shown = m.shown; schema = m.schema ∙ cell_created; empty = m.empty; sound = m.sound; others = m.others }
+
+pub no_cells : (rows : _) → rows ≡ [] → HoldsCells rows empty_database
+no_cells rows none = record { stored = []; rows_are = none; fit = tt; apart = tt; found = λ cell. finite.get-empty cell_cmp cell }
+
+-- the three tables, one after another
+pub all_made : (old one two last : State) → IsTrue old.in_transaction → old.now.schema ≡ no_schema
+    → (IsTrue old.in_transaction → old.now.schema ≡ no_schema → Makes old one no_schema meta_schema 0)
+    → (IsTrue one.in_transaction → one.now.schema ≡ meta_schema → Makes one two meta_schema entry_schema 1)
+    → (IsTrue two.in_transaction → two.now.schema ≡ entry_schema → Makes two last entry_schema store_schema 2)
+    → MakesTables old last
+all_made old one two last inside has first second third =
+    let a = first inside has in
+    let b = second a.shown.mode a.schema in
+    let c = third b.shown.mode b.schema in
+    record {
+      shown = record {
+        was_open = a.shown.was_open;
+        is_open = c.shown.is_open;
+        now_is = refl;
+        committed_is = c.shown.committed_is ∙ b.shown.committed_is ∙ a.shown.committed_is;
+        mode = c.shown.mode;
+      };
+      schema = c.schema;
+      catalog = subst (Lists (last.now.trees catalog_tree)) c.schema c.sound.lists;
+      empty = (c.others.0 ∙ b.others.0 ∙ a.empty, c.others.1.0 ∙ b.empty, c.empty);
+    }
+
+-- tables with no row but the title's are a new store
+pub new_store : (old one last : State) (title : Title) → MakesTables old one → WritesTitle one last title → Holds last.now.trees (titled title)
+new_store old one last title made titles = record {
+  catalog = subst (λ rows. Lists rows store_schema) (sym titles.on.catalog) made.catalog;
+  meta = titles.meta;
+  entries = titles.entries ∙ made.empty.1;
+  cells = no_cells _ (titles.cells ∙ made.empty.2);
+}
+
+module _ {S : Type 0} (g : Ghosts S) (old tx one last : Held S) (title : Title) (begun : tx ≡ record old { in_transaction = true })
+    (first : IsTrue tx.in_transaction → tx.schema ≡ no_schema → MakesTables (state g tx) (state g one))
+    (second : IsTrue one.in_transaction → one.schema ≡ store_schema → (state g one).now.trees 0 ≡ [] → WritesTitle (state g one) (state g last) title) where
+  pub store_made : old.schema ≡ no_schema → Holds (state g last).now.trees (titled title) × ((state g last).now.schema ≡ store_schema)
+  store_made has =
+      let a = first (ap (λ h. h.in_transaction) begun) (ap (λ h. h.schema) begun ∙ has) in
+      let b = second a.shown.mode a.schema a.empty.0 in
+      (new_store (state g tx) (state g one) (state g last) title a b, b.on.schema)

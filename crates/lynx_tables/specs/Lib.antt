@@ -1,0 +1,10 @@
+pub mod Contents
+pub mod Tables
+pub mod Texts
+pub mod Rows
+pub mod Cells
+pub mod Shown
+pub mod Steps
+pub mod Reading
+pub mod Rising
+pub mod RisingLaws

@@ -1,0 +1,193 @@
+//! Whether the schema of a database is that of a store.
+ghost use Rattle.std.specs.Prelude.{◌≡◌, ◌↔◌, ◌∷◌, [], Some, None, true, codes, IsTrue};
+ghost use Rattle.sqlite_value.specs.Keys.{plain};
+ghost use Rattle.lynx_tables.specs.Tables.{key_column, column_of, numbered_table, store_schema, no_schema, cell, cell_index, IsNamed, IsKeyed, IsPlainTable};
+
+use sqlite_items::Items;
+use sqlite_schema::schema::{Column, Index, Kind, Schema, Table};
+use sqlite_value::keys::{Collation, Order};
+use sqlite_value::value::Value;
+
+/// Whether a database has no table, index or view.
+pub fn is_empty(schema: &Schema) -> bool
+    ensures { IsTrue result ↔ (schema.now ≡ no_schema) }
+{
+    schema.tables.is_empty() && schema.indexes.is_empty() && schema.views.is_empty()
+}
+
+/// Whether a column is an INTEGER PRIMARY KEY of that name.
+fn is_key_column(column: &Column, name: &[u8]) -> bool
+    ensures { IsTrue result → column.now ≡ key_column name.now }
+{
+    column.name.as_slice() == name
+        && column.kind == Kind::Integer
+        && column.is_strict
+        && !column.not_null
+        && matches!(&column.default, Value::Null)
+        && column.collation == Collation::Binary
+}
+
+/// Whether a column is a NOT NULL column of that name and type.
+fn is_column(column: &Column, name: &[u8], kind: Kind) -> bool
+    ensures { IsTrue result → column.now ≡ column_of name.now kind }
+{
+    column.name.as_slice() == name
+        && column.kind == kind
+        && column.is_strict
+        && column.not_null
+        && matches!(&column.default, Value::Null)
+        && column.collation == Collation::Binary
+}
+
+/// Whether a table has no rule but those of its columns and its keys.
+fn is_plain(table: &Table) -> bool
+    ensures { IsTrue result → IsPlainTable table.now }
+{
+    table.checks.roots.is_empty()
+        && table.references.is_empty()
+        && table.computed.is_empty()
+        && table.stamps.places.is_empty()
+        && table.stamps.terms.roots.is_empty()
+        && table.stamps.formats.is_empty()
+        && !table.is_counted
+}
+
+/// Whether a table has that tree and that name.
+fn is_named(table: &Table, tree: u32, name: &[u8]) -> bool
+    ensures { IsTrue result → IsNamed table.now tree name.now }
+{
+    table.tree == tree && table.name.as_slice() == name
+}
+
+/// Whether a table's first column is its key, and it has no other.
+fn is_keyed_by_number(table: &Table) -> bool
+    ensures { IsTrue result → IsKeyed table.now (Some 0) (0 ∷ []) [] [] }
+{
+    table.key == Some(0)
+        && table.primary.as_slice() == [0usize].as_slice()
+        && table.uniques.is_empty()
+        && table.orders.is_empty()
+}
+
+/// Whether the columns are a number, and one more.
+fn are_numbered_columns(columns: &[Column], key: &[u8], other: &[u8], kind: Kind) -> bool
+    ensures { IsTrue result → columns.now ≡ key_column key.now ∷ column_of other.now kind ∷ [] }
+{
+    let [first, second] = columns else {
+        return false;
+    };
+    is_key_column(first, key) && is_column(second, other, kind)
+}
+
+/// Whether a table is one of rows under a number, with one more column.
+#[tactic(auto, using(crate::proofs::SameTable::same_numbered))]
+fn is_numbered(table: &Table, tree: u32, name: &[u8], key: &[u8], other: &[u8], kind: Kind) -> bool
+    ensures { IsTrue result → table.now ≡ numbered_table tree name.now key.now other.now kind }
+{
+    is_named(table, tree, name)
+        && are_numbered_columns(table.columns.as_slice(), key, other, kind)
+        && is_keyed_by_number(table)
+        && is_plain(table)
+}
+
+/// Whether the columns are those of the table of cells.
+fn are_cell_columns(columns: &[Column]) -> bool
+    ensures { IsTrue result → columns.now ≡ cell.columns }
+{
+    let [table, key, value] = columns else {
+        return false;
+    };
+    is_column(table, b"tab", Kind::Integer)
+        && is_column(key, b"k", Kind::Blob)
+        && is_column(value, b"v", Kind::Blob)
+}
+
+/// Whether some places are those of the cells' key.
+fn is_cell_key(places: &Items<usize>) -> bool
+    ensures { IsTrue result → places.now ≡ 1 ∷ 2 ∷ [] }
+{
+    places.as_slice() == [1usize, 2].as_slice()
+}
+
+/// Whether there is one order, and it is the plain one.
+fn are_plain(orders: &[Order]) -> bool
+    ensures { IsTrue result → orders.now ≡ plain ∷ [] }
+{
+    let [order] = orders else {
+        return false;
+    };
+    *order == Order::PLAIN
+}
+
+/// Whether there is one list of places, and it is that of the cells' key.
+fn are_cell_uniques(uniques: &[Items<usize>]) -> bool
+    ensures { IsTrue result → uniques.now ≡ cell.uniques }
+{
+    let [unique] = uniques else {
+        return false;
+    };
+    is_cell_key(unique)
+}
+
+/// Whether a table's key is that of the cells.
+fn is_keyed_by_cell(table: &Table) -> bool
+    ensures { IsTrue result → IsKeyed table.now None (1 ∷ 2 ∷ []) cell.uniques cell.orders }
+{
+    table.key.is_none()
+        && is_cell_key(&table.primary)
+        && are_cell_uniques(table.uniques.as_slice())
+        && are_plain(table.orders.as_slice())
+}
+
+/// Whether a table is that of the cells.
+#[tactic(auto, using(crate::proofs::SameTable::same_cell))]
+fn is_cell(table: &Table) -> bool
+    ensures { IsTrue result → table.now ≡ cell }
+{
+    is_named(table, 2, b"cell")
+        && are_cell_columns(table.columns.as_slice())
+        && is_keyed_by_cell(table)
+        && is_plain(table)
+}
+
+/// Whether an index has that tree, table and name.
+fn is_index_named(index: &Index) -> bool
+    ensures { IsTrue result → (index.now.name ≡ codes "sqlite_autoindex_cell_1")
+        × (index.now.tree ≡ 3) × (index.now.table ≡ 2) }
+{
+    index.tree == 3
+        && index.table == 2
+        && index.name.as_slice() == b"sqlite_autoindex_cell_1".as_slice()
+}
+
+/// Whether an index is over the columns of the cells' key.
+fn is_over_cells(index: &Index) -> bool
+    ensures { IsTrue result → (index.now.columns ≡ 1 ∷ 2 ∷ []) × (index.now.order ≡ plain)
+        × (index.now.is_unique ≡ true) }
+{
+    index.is_unique && index.order == Order::PLAIN && is_cell_key(&index.columns)
+}
+
+/// Whether an index is that of the cells' primary key.
+fn is_cell_index(index: &Index) -> bool
+    ensures { IsTrue result → index.now ≡ cell_index }
+{
+    is_index_named(index) && is_over_cells(index)
+}
+
+/// Whether a database has the tables of a store, and nothing else.
+pub fn is_store(schema: &Schema) -> bool
+    ensures { IsTrue result → schema.now ≡ store_schema }
+{
+    let [meta, entry, cell] = schema.tables.as_slice() else {
+        return false;
+    };
+    let [index] = schema.indexes.as_slice() else {
+        return false;
+    };
+    schema.views.is_empty()
+        && is_numbered(meta, 0, b"meta", b"id", b"txt", Kind::Text)
+        && is_numbered(entry, 1, b"entry", b"place", b"body", Kind::Blob)
+        && is_cell(cell)
+        && is_cell_index(index)
+}

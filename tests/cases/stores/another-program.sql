@@ -1,0 +1,1 @@
+DROP TABLE meta; DROP TABLE entry; DROP TABLE cell; CREATE TABLE note(a); INSERT INTO note VALUES(1);

@@ -1,0 +1,1 @@
+UPDATE cell SET tab = 1;

@@ -1,0 +1,1 @@
+UPDATE cell SET v = x'0000000000000000';

@@ -1,0 +1,1 @@
+DELETE FROM entry; DELETE FROM cell;

@@ -1,0 +1,1 @@
+UPDATE meta SET txt = '2' WHERE id = 2;

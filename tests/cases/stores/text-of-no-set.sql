@@ -1,0 +1,1 @@
+UPDATE meta SET txt = 'lynx 1' WHERE id = 3;

@@ -1,5 +1,6 @@
 //! `lynx_bench WORK COUNT`: does some work so many times, to be timed from outside. `encode` and `feed PIECE` write and
-//! read so many bytes of forms, `weave SHAPE` weaves so many entries of two servers (`2`), of sixteen (`16`), or of one
+//! read so many bytes of forms, `store FOLDER` pays so many times over two stores there (`:memory:`: in memory),
+//! `open-store FOLDER` opens the first of them so many times, `weave SHAPE` weaves so many entries of two servers (`2`), of sixteen (`16`), or of one
 //! (`adds`, `alternating`, `cells`, `cycle`), and `explain SHAPE` then explains the world.
 #![tactic(auto)]
 
@@ -7,16 +8,18 @@ use std::env;
 use std::process::ExitCode;
 use std::rt::Env;
 
+mod fault;
 mod forms;
 mod measure;
 mod ring;
 mod shape;
+mod stores;
 
 use measure::{Work, measure};
 use shape::Shape;
 
 /// The work that a word names.
-fn work_of(word: &str) -> Option<Work> {
+fn work_of(word: &str) -> Option<Work<'_>> {
     match word {
         "encode" => Some(Work::Encode),
         "begin" => Some(Work::Begin),
@@ -26,9 +29,11 @@ fn work_of(word: &str) -> Option<Work> {
     }
 }
 
-/// Feeding in pieces of that size, or weaving or explaining a world of that shape.
-fn sized_work_of(work: &str, size: &str) -> Option<Work> {
+/// Feeding in pieces of that size, weaving or explaining a world of that shape, or work over stores in that folder.
+fn sized_work_of<'a>(work: &str, size: &'a str) -> Option<Work<'a>> {
     match work {
+        "store" => Some(Work::Store { folder: size }),
+        "open-store" => Some(Work::OpenStore { folder: size }),
         "feed" => Some(Work::Feed {
             piece: size.parse().ok()?,
         }),
@@ -43,7 +48,7 @@ fn sized_work_of(work: &str, size: &str) -> Option<Work> {
 }
 
 /// The work and the count that the words ask for.
-fn asked(words: &[String]) -> Option<(Work, u64)> {
+fn asked(words: &[String]) -> Option<(Work<'_>, u64)> {
     match words {
         [_, work, count] => Some((work_of(work.as_str())?, count.as_str().parse().ok()?)),
         [_, work, size, count] => Some((
@@ -55,21 +60,21 @@ fn asked(words: &[String]) -> Option<(Work, u64)> {
 }
 
 /// Does what the words ask for, and gives the status.
-fn obey<R: Print + Eprint + AllocGlobal>(rt: &R, words: &[String]) -> u8 {
+fn obey(rt: &HostRuntime, words: &[String]) -> u8 {
     let Some((work, count)) = asked(words) else {
         let _ = eprintln!(rt;
-            "lynx_bench: begin, deliver, open, encode, feed and the size of a piece, or weave or explain and 2, 16, adds, alternating, cells or cycle; and a count"
+            "lynx_bench: begin, deliver, open, encode, feed and the size of a piece, store or open-store and a folder, or weave or explain and 2, 16, adds, alternating, cells or cycle; and a count"
         );
         return 2;
     };
-    match measure(rt.alloc(), work, count) {
+    match measure(rt, work, count) {
         Ok(done) => {
             let _ = println!(rt; "{done}");
             0
         }
-        Err(_) => {
-            let _ = eprintln!(rt; "lynx_bench: out of memory");
-            3
+        Err(fault) => {
+            let _ = eprintln!(rt; "lynx_bench: {fault}");
+            fault.status()
         }
     }
 }

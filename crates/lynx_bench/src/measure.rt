@@ -1,7 +1,9 @@
 //! The work that is measured: payments from one server to another, and their forms.
+use crate::fault::Fault;
 use crate::forms::{encode_all, feed_all};
 use crate::ring::{explain_all, weave_all};
 use crate::shape::Shape;
+use crate::stores::{open_all, pay_all};
 use lynx_entry::{Answer, Delivered, Request};
 use lynx_keep::MemoryKeeper;
 use lynx_names::{ClientId, Memory, ProgramId, ServerId, Stamp, Values};
@@ -17,7 +19,7 @@ const SET: &str =
 
 /// What is measured.
 #[derive(Clone, Copy, Debug)]
-pub enum Work {
+pub enum Work<'a> {
     /// So many bytes of forms are written.
     Encode,
     /// About so many bytes of forms are read, in pieces of that size.
@@ -32,6 +34,10 @@ pub enum Work {
     Deliver,
     /// They begin, and then the first server is opened again.
     Open,
+    /// So many payments from server to server over stores in that folder, or in memory.
+    Store { folder: &'a str },
+    /// The first server's store in that folder is opened so many times.
+    OpenStore { folder: &'a str },
 }
 
 fn set(alloc: Global) -> Result<ChainSet, Memory> {
@@ -113,14 +119,17 @@ fn open(alloc: Global, count: u64) -> Result<u64, Memory> {
 }
 
 /// Does the work so many times, and counts what was done.
-pub fn measure(alloc: Global, work: Work, count: u64) -> Result<u64, Memory> {
+pub fn measure(rt: &HostRuntime, work: Work<'_>, count: u64) -> Result<u64, Fault> {
+    let alloc = rt.alloc();
     match work {
-        Work::Encode => encode_all(alloc, count),
-        Work::Feed { piece } => feed_all(alloc, piece, count).map_err(|_| Memory),
-        Work::Weave { shape } => weave_all(alloc, shape, count),
-        Work::Explain { shape } => explain_all(alloc, shape, count),
-        Work::Begin => begin(alloc, count),
-        Work::Deliver => deliver(alloc, count),
-        Work::Open => open(alloc, count),
+        Work::Encode => Ok(encode_all(alloc, count)?),
+        Work::Feed { piece } => feed_all(alloc, piece, count).map_err(|_| Fault::Memory),
+        Work::Weave { shape } => Ok(weave_all(alloc, shape, count)?),
+        Work::Explain { shape } => Ok(explain_all(alloc, shape, count)?),
+        Work::Begin => Ok(begin(alloc, count)?),
+        Work::Deliver => Ok(deliver(alloc, count)?),
+        Work::Open => Ok(open(alloc, count)?),
+        Work::Store { folder } => pay_all(rt, folder, count),
+        Work::OpenStore { folder } => open_all(rt, folder, count),
     }
 }

@@ -1,7 +1,7 @@
 //! Servers in a ring and the chains that run there: their histories, woven to a world.
 use crate::shape::Shape;
 use lynx_entry::{Entry, Message, Request};
-use lynx_keep::MemoryKeeper;
+use lynx_keep::{Keeper, MemoryKeeper};
 use lynx_names::{ClientId, Memory, ProgramId, ServerId, Stamp, TryCopy, Values};
 use lynx_order::{Explained, explain_by_search};
 use lynx_rules::next_of;
@@ -11,12 +11,12 @@ use lynx_weave::weave;
 use lynx_world::World;
 use std::alloc::Global;
 
-/// A chain that is to begin: at which server, by which program, and the key that it is given, if it wants one.
+/// A chain that is to begin: at which server, by which program, and the argument that it is given, if it wants one.
 #[derive(Clone, Copy, Debug)]
-struct Start {
-    server: usize,
-    program: u8,
-    key: Option<u64>,
+pub struct Start {
+    pub server: usize,
+    pub program: u8,
+    pub argument: Option<u64>,
 }
 
 /// The servers of the set.
@@ -30,10 +30,10 @@ fn servers_of(alloc: Global, set: &ChainSet) -> Result<Vec<Server<MemoryKeeper>>
 }
 
 /// The request of that number.
-fn request(alloc: Global, start: Start, number: u64) -> Result<Request, Memory> {
+pub fn request(alloc: Global, start: Start, number: u64) -> Result<Request, Memory> {
     let mut args = Values::new(alloc);
-    if let Some(key) = start.key {
-        args.push(key)?;
+    if let Some(argument) = start.argument {
+        args.push(argument)?;
     }
     Ok(Request {
         client: ClientId::new(1),
@@ -44,7 +44,7 @@ fn request(alloc: Global, start: Start, number: u64) -> Result<Request, Memory> 
 }
 
 /// The message that the server's last entry sends.
-fn last_sent(alloc: Global, server: &Server<MemoryKeeper>) -> Result<Option<Message>, Memory> {
+pub fn last_sent<K: Keeper>(alloc: Global, server: &Server<K>) -> Result<Option<Message>, Memory> {
     match server.history().last() {
         Some(entry) => next_of(alloc, server.set(), entry),
         None => Ok(None),
@@ -93,7 +93,7 @@ fn pay_all(alloc: Global, ring: &mut [Server<MemoryKeeper>], count: u64) -> Resu
         let start = Start {
             server,
             program: u8::try_from(server).map_err(|_| Memory)?,
-            key: None,
+            argument: None,
         };
         let next = next_of_ring(ring.len(), server);
         let message = begin(alloc, ring, start, number)?;
@@ -108,12 +108,12 @@ fn cross(alloc: Global, ring: &mut [Server<MemoryKeeper>], number: u64) -> Resul
     let right = Start {
         server: 0,
         program: 0,
-        key: None,
+        argument: None,
     };
     let left = Start {
         server: 1,
         program: 1,
-        key: None,
+        argument: None,
     };
     let to_right = begin(alloc, ring, right, number)?;
     let to_left = begin(alloc, ring, left, number)?;
@@ -137,7 +137,7 @@ fn touch_all(
             } else {
                 0
             },
-            key: Some(if shape == Shape::Cells { number } else { 0 }),
+            argument: Some(if shape == Shape::Cells { number } else { 0 }),
         };
         begin(alloc, ring, start, number)?;
     }

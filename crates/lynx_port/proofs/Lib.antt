@@ -1,0 +1,4 @@
+pub mod WriteLemmas
+pub mod TalkLemmas
+pub mod StopLemmas
+pub mod GoingLemmas

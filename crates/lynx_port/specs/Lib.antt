@@ -1,0 +1,4 @@
+pub mod Faults
+pub mod Talks
+pub mod Exits
+pub mod inner

@@ -1,0 +1,92 @@
+//! Answers the frames of a feed in order.
+ghost use Rattle.std.specs.Prelude.{◌≡◌, ◌≤◌, ◌<◌, ◌+◌, ◌^◌, ◌++◌, ℕ, List, [], length, Some, None, Ok, IfOk, IfErr, OnOk, IfSome, IfNone};
+ghost use Rattle.lynx_forms.specs.Form.{form};
+ghost use Rattle.lynx_forms.specs.Front.{front};
+ghost use Rattle.lynx_forms.specs.Ranges.{IsItem};
+ghost use Rattle.lynx_forms.specs.Feeding.{Gives};
+ghost use Rattle.lynx_port.specs.Talks.{Replies, Answered, ended_by};
+ghost use Rattle.lynx_port.specs.Exits.{Stopped};
+ghost use Rattle.lynx_port.specs.inner.Steps.{NoFrame, WritesReply};
+
+use crate::desk::Desk;
+use crate::fault::PortFault;
+use crate::replying::form_for;
+use crate::writing::write_form;
+use lynx_forms::{Feed, Item};
+use std::alloc::Global;
+use std::io::Write;
+
+/// Whether the frame ends the talk, and whether all is to shut then.
+fn ended_by(frame: &Item) -> Option<bool>
+    ensures { result ≡ ended_by frame.now }
+{
+    match frame {
+        Item::Quit => Some(false),
+        Item::Shut => Some(true),
+        _ => None,
+    }
+}
+
+/// The next frame, if a whole one has come.
+fn next_frame(alloc: Global, feed: &mut Feed) -> Result<Option<Item>, PortFault>
+    requires { feed.old.failed ≡ None }
+    ensures given { IfOk result (λ given. IfSome given (λ frame. Gives feed.old frame feed.new)) }
+    ensures waits { IfOk result (λ given. IfNone given ((feed.new ≡ feed.old)
+        × (front feed.old.rest ≡ Ok None))) }
+    ensures fault { IfErr result (NoFrame feed.old.rest) }
+{
+    Ok(feed.next(alloc)?)
+}
+
+/// Asks the desk of one frame, and writes the answer.
+fn answer_frame<W: Write, D: Desk>(
+    alloc: Global,
+    frame: Item,
+    writer: &mut W,
+    desk: &mut D,
+    turns: &mut u32,
+) -> Result<(), PortFault>
+    requires { IsItem frame }
+    ensures turns { turns.new ≤ turns.old }
+    ensures answered { OnOk result (WritesReply (Replies D.begins D.looks) desk.old desk.new
+        (W.contents writer.old) (W.contents writer.new) frame) }
+    ensures fault { IfErr result (λ fault. (more : List ℕ) →
+        Stopped D.begins D.looks desk.old desk.new (W.contents writer.old) (W.contents writer.new)
+        (form frame ++ more) ⊥ fault) }
+{
+    let form = form_for(alloc, frame, desk)?;
+    write_form(writer, form.as_slice(), turns)
+}
+
+/// Answers the whole frames of the feed in order, up to one that ends the talk: whether all is to shut then.
+pub fn answer_all<W: Write, D: Desk>(
+    alloc: Global,
+    feed: &mut Feed,
+    writer: &mut W,
+    desk: &mut D,
+    turns: &mut u32,
+    answers: &mut u64,
+) -> Result<Option<bool>, PortFault>
+    requires open { feed.old.failed ≡ None }
+    requires few { answers.old + length feed.old.rest < 2 ^ 63 }
+    ensures turns { turns.new ≤ turns.old }
+    ensures room { OnOk result
+        (answers.new + length feed.new.rest ≤ answers.old + length feed.old.rest) }
+    ensures answered { IfOk result (Answered (Replies D.begins D.looks) desk.old desk.new
+        (W.contents writer.old) (W.contents writer.new) feed.old.rest feed.new.rest answers.old
+        answers.new) }
+    ensures waits { IfOk result (λ ended. IfNone ended ((feed.new.failed ≡ None)
+        × (front feed.new.rest ≡ Ok None))) }
+    ensures fault { IfErr result (Stopped D.begins D.looks desk.old desk.new
+        (W.contents writer.old) (W.contents writer.new) feed.old.rest ⊥) }
+{
+    while let Some(frame) = next_frame(alloc, feed)? {
+        let ended = ended_by(&frame);
+        answer_frame(alloc, frame, writer, desk, turns)?;
+        *answers += 1;
+        if ended.is_some() {
+            return Ok(ended);
+        }
+    }
+    Ok(None)
+}

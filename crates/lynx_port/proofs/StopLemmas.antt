@@ -3,19 +3,15 @@ use Rattle.std.proofs.Common.{◌≡◌, ℕ, List, [], ◌++◌, Option, None, 
 use Rattle.std.specs.Prelude.{Result, IfErr}
 use Rattle.std.specs.Io.KnownBytes.{Appends}
 use Rattle.std.proofs.KnownBytes.{Appends-nil}
-use Rattle.lynx_names.specs.declared.chain.ChainId.{ChainId}
-use Rattle.lynx_names.specs.declared.memory.Memory.{Memory}
-use Rattle.lynx_entry.specs.declared.request.Request.{Request}
-use Rattle.lynx_entry.specs.declared.answer.Answer.{Answer}
 use Rattle.lynx_forms.specs.declared.fault.DecodeFault.{DecodeFault}
 use Rattle.lynx_forms.specs.declared.fault.DecodeFault.TheVariants as decoding
-use Rattle.lynx_forms.specs.declared.item.Looked.{Looked}
 use Rattle.lynx_forms.specs.declared.item.Item.{Item}
 use Rattle.lynx_forms.specs.Form.{form}
 use Rattle.lynx_forms.specs.Ranges.{IsItem}
 use Rattle.lynx_port.specs.declared.fault.PortFault.{PortFault}
 use Rattle.lynx_port.specs.declared.fault.PortFault.TheVariants as faults
-use Rattle.lynx_port.specs.Talks.{Replies, Answered}
+use Rattle.lynx_port.specs.Desks.{Begins, Looks, Replies}
+use Rattle.lynx_port.specs.Talks.{Answered}
 use Rattle.lynx_port.specs.Exits.{IsBad, BrokeOff, Stops, Stopped}
 use Rattle.lynx_port.specs.inner.Steps.{CutsShort, NoFrame, Refuses, IsReply}
 use Rattle.lynx_port.proofs.TalkLemmas.{talked_none, talked_join, go_on_join}
@@ -27,7 +23,7 @@ bad_later ended decoding.BadTag left a = a
 bad_later ended decoding.BadLength left a = a
 bad_later ended decoding.OutOfRange left a = a
 
-stops_later : {D : Type 0} (begins : D → Request → Answer → D → Type 0) (looks : D → ChainId → ℕ → Result Looked Memory → D → Type 0) (first last : D) (left part : List ℕ) (ended : Type 0) (fault : PortFault)
+stops_later : {D : Type 0} (begins : Begins D) (looks : Looks D) (first last : D) (left part : List ℕ) (ended : Type 0) (fault : PortFault)
     → Stops begins looks first last left part ⊥ fault → Stops begins looks first last left part ended fault
 stops_later begins looks first last left part ended faults.Read a = a
 stops_later begins looks first last left part ended faults.Write a = a
@@ -37,7 +33,7 @@ stops_later begins looks first last left part ended faults.Memory a = a
 stops_later begins looks first last left part ended faults.NotAsked a = a
 
 -- a fault that is known before the input has ended
-pub stopped_later : {D : Type 0} (begins : D → Request → Answer → D → Type 0) (looks : D → ChainId → ℕ → Result Looked Memory → D → Type 0) (first last : D) (unwritten wrote : Option (List ℕ)) (bytes : List ℕ) (ended : Type 0) (fault : PortFault)
+pub stopped_later : {D : Type 0} (begins : Begins D) (looks : Looks D) (first last : D) (unwritten wrote : Option (List ℕ)) (bytes : List ℕ) (ended : Type 0) (fault : PortFault)
     → Stopped begins looks first last unwritten wrote bytes ⊥ fault → Stopped begins looks first last unwritten wrote bytes ended fault
 stopped_later begins looks first last unwritten wrote bytes ended fault a = record {
   frames = a.frames;
@@ -50,7 +46,7 @@ stopped_later begins looks first last unwritten wrote bytes ended fault a = reco
 }
 
 -- no frame was answered before
-pub stopped_first : {D : Type 0} (begins : D → Request → Answer → D → Type 0) (looks : D → ChainId → ℕ → Result Looked Memory → D → Type 0) (first last : D) (unwritten wrote : Option (List ℕ)) (bytes part : List ℕ) (ended : Type 0) (fault : PortFault)
+pub stopped_first : {D : Type 0} (begins : Begins D) (looks : Looks D) (first last : D) (unwritten wrote : Option (List ℕ)) (bytes part : List ℕ) (ended : Type 0) (fault : PortFault)
     → Appends unwritten wrote part → Stops begins looks first last bytes part ended fault → Stopped begins looks first last unwritten wrote bytes ended fault
 stopped_first begins looks first last unwritten wrote bytes part ended fault appended stops = record {
   frames = [];
@@ -63,7 +59,7 @@ stopped_first begins looks first last unwritten wrote bytes part ended fault app
 }
 
 -- frames were answered before
-pub stopped_join : {D : Type 0} (begins : D → Request → Answer → D → Type 0) (looks : D → ChainId → ℕ → Result Looked Memory → D → Type 0) (first middle last : D) (unwritten wrote longer : Option (List ℕ)) (bytes feed : List ℕ) (before count : ℕ) (ended : Type 0) (fault : PortFault)
+pub stopped_join : {D : Type 0} (begins : Begins D) (looks : Looks D) (first middle last : D) (unwritten wrote longer : Option (List ℕ)) (bytes feed : List ℕ) (before count : ℕ) (ended : Type 0) (fault : PortFault)
     → Answered (Replies begins looks) first middle unwritten wrote bytes feed before count None → Stopped begins looks middle last wrote longer feed ended fault
     → Stopped begins looks first last unwritten longer bytes ended fault
 stopped_join begins looks first middle last unwritten wrote longer bytes feed before count ended fault a b = record {
@@ -76,7 +72,7 @@ stopped_join begins looks first middle last unwritten wrote longer bytes feed be
   stops = b.stops;
 }
 
-no_frame_stops : {D : Type 0} (begins : D → Request → Answer → D → Type 0) (looks : D → ChainId → ℕ → Result Looked Memory → D → Type 0) (desk : D) (left : List ℕ) (fault : PortFault)
+no_frame_stops : {D : Type 0} (begins : Begins D) (looks : Looks D) (desk : D) (left : List ℕ) (fault : PortFault)
     → NoFrame left fault → Stops begins looks desk desk left [] ⊥ fault
 no_frame_stops begins looks desk left faults.Read a = absurd a
 no_frame_stops begins looks desk left faults.Write a = absurd a
@@ -86,12 +82,12 @@ no_frame_stops begins looks desk left faults.Memory a = (refl, inl refl)
 no_frame_stops begins looks desk left faults.NotAsked a = absurd a
 
 -- no frame was read of what stands next
-pub stopped_unread : {D : Type 0} (begins : D → Request → Answer → D → Type 0) (looks : D → ChainId → ℕ → Result Looked Memory → D → Type 0) (desk : D) (wrote : Option (List ℕ)) (left : List ℕ) (fault : PortFault)
+pub stopped_unread : {D : Type 0} (begins : Begins D) (looks : Looks D) (desk : D) (wrote : Option (List ℕ)) (left : List ℕ) (fault : PortFault)
     → NoFrame left fault → Stopped begins looks desk desk wrote wrote left ⊥ fault
 stopped_unread begins looks desk wrote left fault none =
     stopped_first begins looks desk desk wrote wrote left [] ⊥ fault (Appends-nil wrote) (no_frame_stops begins looks desk left fault none)
 
-refused_stops : {D : Type 0} (begins : D → Request → Answer → D → Type 0) (looks : D → ChainId → ℕ → Result Looked Memory → D → Type 0) (first last : D) (frame : Item) (more : List ℕ) (fault : PortFault)
+refused_stops : {D : Type 0} (begins : Begins D) (looks : Looks D) (first last : D) (frame : Item) (more : List ℕ) (fault : PortFault)
     → IsItem frame → Refuses looks first last frame fault → Stops begins looks first last (form frame ++ more) [] ⊥ fault
 refused_stops begins looks first last frame more faults.Read is_item a = absurd a
 refused_stops begins looks first last frame more faults.Write is_item a = absurd a
@@ -102,13 +98,13 @@ refused_stops begins looks first last frame more faults.Memory is_item (inr vain
 refused_stops begins looks first last frame more faults.NotAsked is_item a = ((a.0, refl), (frame, (more, is_item, refl), a.1))
 
 -- the frame was not answered
-pub stopped_refused : {D : Type 0} (begins : D → Request → Answer → D → Type 0) (looks : D → ChainId → ℕ → Result Looked Memory → D → Type 0) (first last : D) (wrote : Option (List ℕ)) (frame : Item) (fault : PortFault)
+pub stopped_refused : {D : Type 0} (begins : Begins D) (looks : Looks D) (first last : D) (wrote : Option (List ℕ)) (frame : Item) (fault : PortFault)
     → IsItem frame → Refuses looks first last frame fault → (more : List ℕ) → Stopped begins looks first last wrote wrote (form frame ++ more) ⊥ fault
 stopped_refused begins looks first last wrote frame fault is_item refuses more =
     stopped_first begins looks first last wrote wrote (form frame ++ more) [] ⊥ fault (Appends-nil wrote) (refused_stops begins looks first last frame more fault is_item refuses)
 
 -- the frame's answer was not written whole
-pub stopped_cut : {D : Type 0} (begins : D → Request → Answer → D → Type 0) (looks : D → ChainId → ℕ → Result Looked Memory → D → Type 0) (first last : D) (unwritten wrote : Option (List ℕ)) (frame : Item) (bytes : List ℕ) (fault : PortFault)
+pub stopped_cut : {D : Type 0} (begins : Begins D) (looks : Looks D) (first last : D) (unwritten wrote : Option (List ℕ)) (frame : Item) (bytes : List ℕ) (fault : PortFault)
     → IsItem frame → IsReply (Replies begins looks) first last frame bytes → CutsShort unwritten wrote bytes fault
     → (more : List ℕ) → Stopped begins looks first last unwritten wrote (form frame ++ more) ⊥ fault
 stopped_cut begins looks first last unwritten wrote frame bytes fault is_item reply cut more =
@@ -128,7 +124,7 @@ stopped_cut begins looks first last unwritten wrote frame bytes fault is_item re
       | inr turns ↦ subst at (sym turns) (stopped_first begins looks first last unwritten wrote (form frame ++ more) cut.1.2.part ⊥ faults.Turns cut.1.2.appended (inr broke))
     ]
 
-pub if_cut : {D : Type 0} (begins : D → Request → Answer → D → Type 0) (looks : D → ChainId → ℕ → Result Looked Memory → D → Type 0) (first last : D) (unwritten wrote : Option (List ℕ)) (frame : Item) (bytes : List ℕ) {T : Type 0} (r : Result T PortFault)
+pub if_cut : {D : Type 0} (begins : Begins D) (looks : Looks D) (first last : D) (unwritten wrote : Option (List ℕ)) (frame : Item) (bytes : List ℕ) {T : Type 0} (r : Result T PortFault)
     → IsItem frame → IsReply (Replies begins looks) first last frame bytes → IfErr r (CutsShort unwritten wrote bytes)
     → IfErr r (λ fault. (more : List ℕ) → Stopped begins looks first last unwritten wrote (form frame ++ more) ⊥ fault)
 if_cut begins looks first last unwritten wrote frame bytes (Ok x) is_item reply cut = tt
@@ -136,7 +132,7 @@ if_cut begins looks first last unwritten wrote frame bytes (Err fault) is_item r
     stopped_cut begins looks first last unwritten wrote frame bytes fault is_item reply cut
 
 -- the frame that stood next stopped the talk
-pub stopped_next : {D : Type 0} (begins : D → Request → Answer → D → Type 0) (looks : D → ChainId → ℕ → Result Looked Memory → D → Type 0) (first middle last : D) (unwritten wrote longer : Option (List ℕ)) (bytes feed left : List ℕ) (before count : ℕ) (frame : Item) (fault : PortFault)
+pub stopped_next : {D : Type 0} (begins : Begins D) (looks : Looks D) (first middle last : D) (unwritten wrote longer : Option (List ℕ)) (bytes feed left : List ℕ) (before count : ℕ) (frame : Item) (fault : PortFault)
     → Answered (Replies begins looks) first middle unwritten wrote bytes feed before count None → feed ≡ form frame ++ left
     → ((more : List ℕ) → Stopped begins looks middle last wrote longer (form frame ++ more) ⊥ fault)
     → Stopped begins looks first last unwritten longer bytes ⊥ fault

@@ -8,6 +8,7 @@ use Rattle.std.proofs.KnownBytes.{Appends-nil, Appends-trans}
 use Rattle.lynx_forms.specs.declared.item.Item.{Item}
 use Rattle.lynx_forms.specs.Form.{form}
 use Rattle.lynx_forms.specs.Ranges.{IsItem}
+use Rattle.lynx_port.specs.Desks.{Answering}
 use Rattle.lynx_port.specs.Talks.{Talks, Talked, Answered, AreAt, GoOn, ended_by}
 use Rattle.lynx_port.specs.inner.Steps.{WritesReply}
 
@@ -15,7 +16,7 @@ all_join : {X : Type 0} (P : X → Type 0) (xs ys : List X) → AllByRecursion P
 all_join P [] ys a b = b
 all_join P (x ∷ xs) ys a b = (a.0, all_join P xs ys a.1 b)
 
-talks_join : {D : Type 0} (replies : D → Item → Item → D → Type 0) (first middle last : D) (frames more given others : List Item)
+talks_join : {D : Type 0} (replies : Answering D) (first middle last : D) (frames more given others : List Item)
     → Talks replies first frames given middle → Talks replies middle more others last → Talks replies first (frames ++ more) (given ++ others) last
 talks_join replies first middle last [] more [] others a b = subst (λ d. Talks replies d more others last) a b
 talks_join replies first middle last [] more (reply ∷ given) others a b = absurd a
@@ -27,7 +28,7 @@ forms_join : (frames more : List Item) (rest : List ℕ) → flat_map form frame
 forms_join frames more rest =
     sym (append_assoc (flat_map form frames) (flat_map form more) rest) ∙ ap (λ forms. forms ++ rest) (sym (flat_map-append form frames more))
 
-pub talked_join : {D : Type 0} (replies : D → Item → Item → D → Type 0) (first middle last : D) (unwritten wrote longer : Option (List ℕ)) (bytes feed left part : List ℕ) (frames more : List Item)
+pub talked_join : {D : Type 0} (replies : Answering D) (first middle last : D) (unwritten wrote longer : Option (List ℕ)) (bytes feed left part : List ℕ) (frames more : List Item)
     → Talked replies first middle unwritten wrote bytes frames feed [] → Talked replies middle last wrote longer feed more left part
     → Talked replies first last unwritten longer bytes (frames ++ more) left part
 talked_join replies first middle last unwritten wrote longer bytes feed left part frames more a b = record {
@@ -41,7 +42,7 @@ talked_join replies first middle last unwritten wrote longer bytes feed left par
       (Appends-trans unwritten wrote longer (flat_map form a.given ++ []) (flat_map form b.given ++ part) a.appended b.appended);
 }
 
-pub talked_none : {D : Type 0} (replies : D → Item → Item → D → Type 0) (desk : D) (unwritten wrote : Option (List ℕ)) (bytes part : List ℕ)
+pub talked_none : {D : Type 0} (replies : Answering D) (desk : D) (unwritten wrote : Option (List ℕ)) (bytes part : List ℕ)
     → Appends unwritten wrote part → Talked replies desk desk unwritten wrote bytes [] bytes part
 talked_none replies desk unwritten wrote bytes part appended =
     record { given = []; talks = refl; are_frames = tt; are_replies = tt; taken = refl; appended = appended }
@@ -58,7 +59,7 @@ are_at_one : (frame : Item) (ended : Option Bool) → ended_by frame ≡ ended �
 are_at_one frame None same = (same, tt)
 are_at_one frame (Some shut) same = ([], frame, refl, tt, same)
 
-pub answered_none : {D : Type 0} (replies : D → Item → Item → D → Type 0) (desk : D) (wrote : Option (List ℕ)) (bytes : List ℕ) (count : ℕ)
+pub answered_none : {D : Type 0} (replies : Answering D) (desk : D) (wrote : Option (List ℕ)) (bytes : List ℕ) (count : ℕ)
     → Answered replies desk desk wrote wrote bytes bytes count count None
 answered_none replies desk wrote bytes count = record {
   frames = [];
@@ -67,7 +68,7 @@ answered_none replies desk wrote bytes count = record {
   are_at = tt;
 }
 
-pub answered_join : {D : Type 0} (replies : D → Item → Item → D → Type 0) (first middle last : D) (unwritten wrote longer : Option (List ℕ)) (bytes feed left : List ℕ) (before count more : ℕ) (ended : Option Bool)
+pub answered_join : {D : Type 0} (replies : Answering D) (first middle last : D) (unwritten wrote longer : Option (List ℕ)) (bytes feed left : List ℕ) (before count more : ℕ) (ended : Option Bool)
     → Answered replies first middle unwritten wrote bytes feed before count None → Answered replies middle last wrote longer feed left count more ended
     → Answered replies first last unwritten longer bytes left before more ended
 answered_join replies first middle last unwritten wrote longer bytes feed left before count more ended a b = record {
@@ -78,7 +79,7 @@ answered_join replies first middle last unwritten wrote longer bytes feed left b
 }
 
 -- one frame, whose answer was written
-pub answered_one : {D : Type 0} (replies : D → Item → Item → D → Type 0) (first last : D) (unwritten wrote : Option (List ℕ)) (left : List ℕ) (count : ℕ) (frame : Item)
+pub answered_one : {D : Type 0} (replies : Answering D) (first last : D) (unwritten wrote : Option (List ℕ)) (left : List ℕ) (count : ℕ) (frame : Item)
     → IsItem frame → WritesReply replies first last unwritten wrote frame
     → Answered replies first last unwritten wrote (form frame ++ left) left count (count + 1) (ended_by frame)
 answered_one replies first last unwritten wrote left count frame is_item w = record {
@@ -96,7 +97,7 @@ answered_one replies first last unwritten wrote left count frame is_item w = rec
 }
 
 -- one frame more, which stood next
-pub answered_more : {D : Type 0} (replies : D → Item → Item → D → Type 0) (first middle last : D) (unwritten wrote longer : Option (List ℕ)) (bytes feed left : List ℕ) (before count : ℕ) (frame : Item)
+pub answered_more : {D : Type 0} (replies : Answering D) (first middle last : D) (unwritten wrote longer : Option (List ℕ)) (bytes feed left : List ℕ) (before count : ℕ) (frame : Item)
     → Answered replies first middle unwritten wrote bytes feed before count None → feed ≡ form frame ++ left → IsItem frame
     → WritesReply replies middle last wrote longer frame
     → Answered replies first last unwritten longer bytes left before (count + 1) (ended_by frame)

@@ -1,13 +1,8 @@
 -- How the serving of a client ends.
-use Rattle.std.specs.Prelude.{◌≡◌, ◌≢◌, ℕ, ◌++◌, Bool, false, List, [], Option, Some, None, Result, Ok, Err, ◌⊎◌}
+use Rattle.std.specs.Prelude.{◌≡◌, ◌≢◌, ℕ, ◌++◌, Bool, false, List, [], Option, Some, None, Ok, Err, ◌⊎◌}
 use Rattle.std.specs.Io.KnownBytes.{Consumes, IsAtEnd}
-use Rattle.lynx_names.specs.declared.chain.ChainId.{ChainId}
-use Rattle.lynx_names.specs.declared.memory.Memory.{Memory}
-use Rattle.lynx_entry.specs.declared.request.Request.{Request}
-use Rattle.lynx_entry.specs.declared.answer.Answer.{Answer}
 use Rattle.lynx_forms.specs.declared.fault.DecodeFault.{DecodeFault}
 use Rattle.lynx_forms.specs.declared.fault.DecodeFault.TheVariants as decoding
-use Rattle.lynx_forms.specs.declared.item.Looked.{Looked}
 use Rattle.lynx_forms.specs.declared.item.Item.{Item}
 use Rattle.lynx_forms.specs.declared.item.Item.TheVariants as items
 use Rattle.lynx_forms.specs.Form.{form}
@@ -16,7 +11,8 @@ use Rattle.lynx_forms.specs.Ranges.{IsItem}
 use Rattle.lynx_port.specs.declared.fault.PortFault.{PortFault}
 use Rattle.lynx_port.specs.declared.fault.PortFault.TheVariants as faults
 use Rattle.lynx_port.specs.declared.serving.Served.{Served}
-use Rattle.lynx_port.specs.Talks.{Replies, Talked, Answered, GoOn}
+use Rattle.lynx_port.specs.Desks.{Begins, Looks, Answering, Replies}
+use Rattle.lynx_port.specs.Talks.{Talked, Answered, GoOn}
 
 -- the form of that frame stands next
 abbrev pub StandsNext : List ℕ → Item → Type 0
@@ -31,9 +27,9 @@ IsUnasked items.Shut = ⊥
 IsUnasked frame = Unit {0}
 
 -- the desk looked, and wanted memory
-abbrev pub LooksInVain : {D : Type 0} → (D → ChainId → ℕ → Result Looked Memory → D → Type 0)
-    → D → Item → D → Type 0
-LooksInVain looks first (items.Look look) last = looks first look.chain look.hop (Err (record {})) last
+abbrev pub LooksInVain : {D : Type 0} → Looks D → D → Item → D → Type 0
+LooksInVain looks first (items.Look look) last =
+    looks first look.chain look.hop (Err (record {})) last
 LooksInVain looks first frame last = ⊥
 
 -- no item can be read of what stands next; bytes are missing only where the input has ended
@@ -43,7 +39,8 @@ IsBad decoding.Short left has_ended = (front left ≡ Ok None) × (left ≢ []) 
 IsBad fault left has_ended = front left ≡ Err fault
 
 -- The frame that stands next was answered, and its answer was not written whole.
-pub record BrokeOff {D : Type 0} (replies : D → Item → Item → D → Type 0) (first last : D) (left part : List ℕ) : Type 0 where
+pub record BrokeOff {D : Type 0} (replies : Answering D) (first last : D)
+    (left part : List ℕ) : Type 0 where
   pub frame : Item
   pub reply : Item
   pub stands : StandsNext left frame
@@ -58,9 +55,8 @@ abbrev pub Stays : {D : Type 0} → D → D → List ℕ → Type 0
 Stays first last part = (last ≡ first) × (part ≡ [])
 
 -- what a fault means for what stands next
-abbrev pub Stops : {D : Type 0} → (D → Request → Answer → D → Type 0)
-    → (D → ChainId → ℕ → Result Looked Memory → D → Type 0)
-    → D → D → List ℕ → List ℕ → Type 0 → PortFault → Type 0
+abbrev pub Stops : {D : Type 0} → Begins D → Looks D → D → D → List ℕ → List ℕ → Type 0
+    → PortFault → Type 0
 Stops begins looks first last left part has_ended faults.Read =
     Stays first last part × (front left ≡ Ok None)
 Stops begins looks first last left part has_ended faults.Write =
@@ -71,13 +67,16 @@ Stops begins looks first last left part has_ended faults.Turns =
     (Stays first last part × (front left ≡ Ok None))
     ⊎ BrokeOff (Replies begins looks) first last left part
 Stops begins looks first last left part has_ended faults.Memory =
-    (part ≡ []) × ((last ≡ first) ⊎ ((frame : Item) × StandsNext left frame × LooksInVain looks first frame last))
+    (part ≡ [])
+    × ((last ≡ first)
+    ⊎ ((frame : Item) × StandsNext left frame × LooksInVain looks first frame last))
 Stops begins looks first last left part has_ended faults.NotAsked =
     Stays first last part × ((frame : Item) × StandsNext left frame × IsUnasked frame)
 
 -- All frames so far were answered, and a fault stopped the talk there.
-pub record Stopped {D : Type 0} (begins : D → Request → Answer → D → Type 0) (looks : D → ChainId → ℕ → Result Looked Memory → D → Type 0)
-    (first last : D) (unwritten wrote : Option (List ℕ)) (bytes : List ℕ) (has_ended : Type 0) (fault : PortFault) : Type 0 where
+pub record Stopped {D : Type 0} (begins : Begins D) (looks : Looks D) (first last : D)
+    (unwritten wrote : Option (List ℕ)) (bytes : List ℕ) (has_ended : Type 0)
+    (fault : PortFault) : Type 0 where
   pub frames : List Item
   pub middle : D
   pub left : List ℕ
@@ -87,19 +86,20 @@ pub record Stopped {D : Type 0} (begins : D → Request → Answer → D → Typ
   pub stops : Stops begins looks middle last left part has_ended fault
 
 -- The client ended the talk, or its input ended behind a whole frame.
-pub record HasServed {D : Type 0} (begins : D → Request → Answer → D → Type 0) (looks : D → ChainId → ℕ → Result Looked Memory → D → Type 0)
-    (first last : D) (unread read unwritten wrote : Option (List ℕ)) (served : Served) : Type 0 where
+pub record HasServed {D : Type 0} (begins : Begins D) (looks : Looks D) (first last : D)
+    (unread read unwritten wrote : Option (List ℕ)) (served : Served) : Type 0 where
   pub bytes : List ℕ
   pub left : List ℕ
   pub ended : Option Bool
   pub consumed : Consumes unread read bytes
-  pub answered : Answered (Replies begins looks) first last unwritten wrote bytes left 0 served.answers ended
+  pub answered :
+      Answered (Replies begins looks) first last unwritten wrote bytes left 0 served.answers ended
   pub how : (ended ≡ Some served.shut)
       ⊎ ((ended ≡ None) × (left ≡ []) × IsAtEnd read × (served.shut ≡ false))
 
 -- A fault stopped the talk after these bytes were read.
-pub record HasFailed {D : Type 0} (begins : D → Request → Answer → D → Type 0) (looks : D → ChainId → ℕ → Result Looked Memory → D → Type 0)
-    (first last : D) (unread read unwritten wrote : Option (List ℕ)) (fault : PortFault) : Type 0 where
+pub record HasFailed {D : Type 0} (begins : Begins D) (looks : Looks D) (first last : D)
+    (unread read unwritten wrote : Option (List ℕ)) (fault : PortFault) : Type 0 where
   pub bytes : List ℕ
   pub consumed : Consumes unread read bytes
   pub stopped : Stopped begins looks first last unwritten wrote bytes (IsAtEnd read) fault

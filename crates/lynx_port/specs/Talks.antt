@@ -1,31 +1,15 @@
 -- What a client sends, and what it is answered.
-use Rattle.std.specs.Prelude.{◌≡◌, ℕ, ◌+◌, ◌++◌, Bool, true, false, List, [], ◌∷◌, length, Option, Some, None, Result, Ok}
+use Rattle.std.specs.Prelude.{◌≡◌, ℕ, ◌+◌, ◌++◌, Bool, true, false, List, [], ◌∷◌, length, Option, Some, None}
 use Rattle.std.specs.List.{flat_map, AllByRecursion}
 use Rattle.std.specs.Io.KnownBytes.{Appends}
-use Rattle.lynx_names.specs.declared.chain.ChainId.{ChainId}
-use Rattle.lynx_names.specs.declared.memory.Memory.{Memory}
-use Rattle.lynx_entry.specs.declared.request.Request.{Request}
-use Rattle.lynx_entry.specs.declared.answer.Answer.{Answer}
-use Rattle.lynx_forms.specs.declared.item.Looked.{Looked}
 use Rattle.lynx_forms.specs.declared.item.Item.{Item}
 use Rattle.lynx_forms.specs.declared.item.Item.TheVariants as items
 use Rattle.lynx_forms.specs.Form.{form}
 use Rattle.lynx_forms.specs.Ranges.{IsItem}
-
--- The desk answers a frame so; a frame that ends the talk is answered without asking it.
-abbrev pub Replies : {D : Type 0} → (D → Request → Answer → D → Type 0)
-    → (D → ChainId → ℕ → Result Looked Memory → D → Type 0) → D → Item → Item → D → Type 0
-Replies begins looks first (items.Request request) (items.Answer answer) last =
-    begins first request answer last
-Replies begins looks first (items.Look look) (items.Looked looked) last =
-    looks first look.chain look.hop (Ok looked) last
-Replies begins looks first items.Quit items.Bye last = last ≡ first
-Replies begins looks first items.Shut items.Bye last = last ≡ first
-Replies begins looks first frame reply last = ⊥
+use Rattle.lynx_port.specs.Desks.{Answering}
 
 -- each frame is answered in order, from the desk's first state to its last
-abbrev pub Talks : {D : Type 0} → (D → Item → Item → D → Type 0)
-    → D → List Item → List Item → D → Type 0
+abbrev pub Talks : {D : Type 0} → Answering D → D → List Item → List Item → D → Type 0
 Talks replies first [] [] last = last ≡ first
 Talks replies first [] (reply ∷ given) last = ⊥
 Talks replies first (frame ∷ frames) [] last = ⊥
@@ -55,8 +39,9 @@ AreAt frames (Some shut) = Closes frames shut
 
 -- A stretch of a talk: of some bytes, the forms of the frames stand first and what is left behind them; what was
 -- written is the forms of the replies to them, and then a part of one more.
-pub record Talked {D : Type 0} (replies : D → Item → Item → D → Type 0) (first last : D)
-    (unwritten wrote : Option (List ℕ)) (bytes : List ℕ) (frames : List Item) (left part : List ℕ) : Type 0 where
+pub record Talked {D : Type 0} (replies : Answering D) (first last : D)
+    (unwritten wrote : Option (List ℕ)) (bytes : List ℕ) (frames : List Item)
+    (left part : List ℕ) : Type 0 where
   pub given : List Item
   pub talks : Talks replies first frames given last
   pub are_frames : AllByRecursion IsItem frames
@@ -65,8 +50,9 @@ pub record Talked {D : Type 0} (replies : D → Item → Item → D → Type 0) 
   pub appended : Appends unwritten wrote (flat_map form given ++ part)
 
 -- All frames so far were answered whole, and counted on from the count before.
-pub record Answered {D : Type 0} (replies : D → Item → Item → D → Type 0) (first last : D)
-    (unwritten wrote : Option (List ℕ)) (bytes left : List ℕ) (before count : ℕ) (ended : Option Bool) : Type 0 where
+pub record Answered {D : Type 0} (replies : Answering D) (first last : D)
+    (unwritten wrote : Option (List ℕ)) (bytes left : List ℕ) (before count : ℕ)
+    (ended : Option Bool) : Type 0 where
   pub frames : List Item
   pub talked : Talked replies first last unwritten wrote bytes frames left []
   pub counted : count ≡ before + length frames

@@ -4,7 +4,8 @@ ghost use Rattle.lynx_forms.specs.Form.{form};
 ghost use Rattle.lynx_forms.specs.Front.{front};
 ghost use Rattle.lynx_forms.specs.Ranges.{IsItem};
 ghost use Rattle.lynx_forms.specs.Feeding.{Gives};
-ghost use Rattle.lynx_port.specs.Talks.{Replies, Answered, ended_by};
+ghost use Rattle.lynx_port.specs.Desks.{Replies};
+ghost use Rattle.lynx_port.specs.Talks.{Answered, ended_by};
 ghost use Rattle.lynx_port.specs.Exits.{Stopped};
 ghost use Rattle.lynx_port.specs.inner.Steps.{NoFrame, WritesReply};
 

@@ -1,7 +1,7 @@
 //! What a frame is answered.
 ghost use Rattle.std.specs.Prelude.{IfOk, IfErr};
 ghost use Rattle.lynx_forms.specs.Ranges.{IsInRange};
-ghost use Rattle.lynx_port.specs.Talks.{Replies};
+ghost use Rattle.lynx_port.specs.Desks.{Replies};
 ghost use Rattle.lynx_port.specs.inner.Steps.{Refuses, IsReply};
 
 use crate::desk::Desk;

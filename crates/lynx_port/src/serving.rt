@@ -21,8 +21,8 @@ pub struct Served {
     pub shut: bool,
 }
 
-/// How a connection ends whose input ended.
-fn end(feed: Feed, answers: u64) -> Result<Served, PortFault>
+/// How a connection ends whose input has ended.
+fn end_of_input(feed: Feed, answers: u64) -> Result<Served, PortFault>
     requires open { feed.failed ≡ None }
     requires waiting { front feed.rest ≡ Ok None }
     ensures ended { IfOk result (λ served. (feed.rest ≡ []) × (served.answers ≡ answers)
@@ -36,11 +36,14 @@ fn end(feed: Feed, answers: u64) -> Result<Served, PortFault>
     })
 }
 
-/// Serves one client, until it ends the talk or its input ends. Each item that it sends is answered before the next one
-/// is read from what came, and Quit and Shut by Bye, after which nothing more is answered.
+/// Serves one client, until it ends the talk or its input ends. Of each read, of 4,096 bytes at most, the whole items are
+/// answered in order before more is read. Quit and Shut are answered by Bye; what stands behind them is not read as items,
+/// though some of it may have been taken from the reader.
 ///
-/// What was read behind the last item is lost. It takes memory for the bytes that were read and not answered yet, and
-/// for one answer.
+/// A fault comes where the bytes have it: all items before it were answered. After 1,000,000 turns it is Turns, so the
+/// call ends if those of the reader, the writer and the desk do. Nothing is flushed: the writer is to pass on what it
+/// takes. Memory is taken for what was read and isn't answered yet, at most an item that isn't whole and a read, and for
+/// one answer, before the desk is asked for it.
 pub fn serve<R: Read, W: Write, D: Desk>(
     alloc: Global,
     reader: &mut R,
@@ -66,7 +69,7 @@ pub fn serve<R: Read, W: Write, D: Desk>(
             Err(_) => return Err(PortFault::Read),
         };
         if count == 0 {
-            return end(feed, answers);
+            return end_of_input(feed, answers);
         }
         feed.push(buffer.split_at(count).0)?;
         if let Some(shut) = answer_all(alloc, &mut feed, writer, desk, &mut turns, &mut answers)? {

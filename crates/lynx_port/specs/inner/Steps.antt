@@ -1,14 +1,12 @@
 -- One step of a talk: a form that is written, a frame that is read, a frame that is answered.
-use Rattle.std.specs.Prelude.{◌≡◌, ◌≢◌, ℕ, ◌++◌, List, [], Option, None, Result, ◌⊎◌}
+use Rattle.std.specs.Prelude.{◌≡◌, ◌≢◌, ℕ, ◌++◌, List, [], Option, None, ◌⊎◌}
 use Rattle.std.specs.Io.KnownBytes.{Appends, Consumes}
-use Rattle.lynx_names.specs.declared.chain.ChainId.{ChainId}
-use Rattle.lynx_names.specs.declared.memory.Memory.{Memory}
-use Rattle.lynx_forms.specs.declared.item.Looked.{Looked}
 use Rattle.lynx_forms.specs.declared.item.Item.{Item}
 use Rattle.lynx_forms.specs.Form.{form}
 use Rattle.lynx_forms.specs.Ranges.{IsItem}
 use Rattle.lynx_port.specs.declared.fault.PortFault.{PortFault}
 use Rattle.lynx_port.specs.declared.fault.PortFault.TheVariants as faults
+use Rattle.lynx_port.specs.Desks.{Looks, Answering}
 use Rattle.lynx_port.specs.Talks.{Answered}
 use Rattle.lynx_port.specs.Exits.{IsUnasked, LooksInVain, IsBad}
 
@@ -31,27 +29,27 @@ NoFrame left faults.Memory = Unit {0}
 NoFrame left fault = ⊥
 
 -- a frame was not answered
-abbrev pub Refuses : {D : Type 0} → (D → ChainId → ℕ → Result Looked Memory → D → Type 0)
-    → D → D → Item → PortFault → Type 0
+abbrev pub Refuses : {D : Type 0} → Looks D → D → D → Item → PortFault → Type 0
 Refuses looks first last frame faults.Memory = (last ≡ first) ⊎ LooksInVain looks first frame last
 Refuses looks first last frame faults.NotAsked = (last ≡ first) × IsUnasked frame
 Refuses looks first last frame fault = ⊥
 
 -- The desk answered a frame, and these bytes are the form of its answer.
-pub record IsReply {D : Type 0} (replies : D → Item → Item → D → Type 0) (first last : D) (frame : Item) (bytes : List ℕ) : Type 0 where
+pub record IsReply {D : Type 0} (replies : Answering D) (first last : D) (frame : Item)
+    (bytes : List ℕ) : Type 0 where
   pub reply : Item
   pub replied : replies first frame reply last
   pub is_reply : IsItem reply
   pub bytes_are : bytes ≡ form reply
 
 -- the form of a frame's answer was written
-abbrev pub WritesReply : {D : Type 0} → (D → Item → Item → D → Type 0) → D → D → Option (List ℕ) → Option (List ℕ)
-    → Item → Type 0
+abbrev pub WritesReply : {D : Type 0} → Answering D → D → D → Option (List ℕ)
+    → Option (List ℕ) → Item → Type 0
 WritesReply replies first last unwritten wrote frame =
     (bytes : List ℕ) × IsReply replies first last frame bytes × Appends unwritten wrote bytes
 
 -- A talk that goes on: these bytes were read, and those that are left have no whole frame.
-pub record Going {D : Type 0} (replies : D → Item → Item → D → Type 0) (first last : D)
+pub record Going {D : Type 0} (replies : Answering D) (first last : D)
     (unread read unwritten wrote : Option (List ℕ)) (left : List ℕ) (count : ℕ) : Type 0 where
   pub bytes : List ℕ
   pub consumed : Consumes unread read bytes

@@ -1,5 +1,6 @@
 use Rattle.std.proofs.Common.{◌≡◌, ◌+◌, ◌≤◌, length, None}
-use Rattle.lynx_port.specs.Talks.{Replies, Answered}
+use Rattle.lynx_port.specs.Desks.{Replies}
+use Rattle.lynx_port.specs.Talks.{Answered}
 use Rattle.lynx_port.proofs.answering.answer_all.Given as goal
 
 abbrev pub invariant-loop-frame : goal.invariant-loop-frame

@@ -1,0 +1,7 @@
+pub mod Absences
+pub mod Answering
+pub mod Closings
+pub mod InRange
+pub mod Lookings
+pub mod Openings
+pub mod Takings

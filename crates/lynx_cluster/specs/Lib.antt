@@ -1,0 +1,7 @@
+pub mod Sessions
+pub mod Answers
+pub mod Clusters
+pub mod Looks
+pub mod Starting
+pub mod Closing
+pub mod inner

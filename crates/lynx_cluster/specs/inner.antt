@@ -1,0 +1,4 @@
+-- Definitions that no public clause cites: they serve the functions within.
+pub mod Absent
+pub mod Opening
+pub mod Closing

@@ -1,0 +1,101 @@
+//! Closing a cluster: its workers end, its states are taken back, and what its sessions were told is checked.
+ghost use Rattle.std.specs.Prelude.{◌≡◌, IfErr, IfOk, length};
+ghost use Rattle.lynx_cluster.specs.Closing.{IsClosed, IsUnclosed};
+ghost use Rattle.lynx_cluster.specs.inner.Closing.{IsFirstUncounted};
+
+use crate::absent::first_absent;
+use crate::cluster::{Cluster, Front};
+use crate::fault::CloseFault;
+use crate::gate::Gate;
+use crate::session::Session;
+use crate::taking::{take_all, told_of};
+use crate::workers::stop_all;
+use lynx_keep::Keeper;
+use lynx_names::ServerId;
+use lynx_set::ChainSet;
+use lynx_weave::{ServerCounts, weave_since};
+use lynx_world::World;
+use std::alloc::Global;
+use std::sync::Wait;
+use std::thread::Threads;
+
+/// A closed cluster: the world of all that its servers did, and their keepers, by server.
+#[derive(Drop)]
+pub struct Closed<K: Keeper> {
+    pub world: World,
+    pub keepers: Vec<K>,
+}
+
+/// The first server of which another count of fresh answers was told than it gave.
+fn first_uncounted(set: &ChainSet, counts: &[ServerCounts]) -> Option<ServerId>
+    requires { length counts.now ≡ set.now.servers }
+    ensures { IsFirstUncounted counts.now result }
+{
+    for number in 0..set.servers() {
+        let counts = counts[usize::from(number)];
+        if counts.fresh != counts.begins {
+            return Some(ServerId::at(number));
+        }
+    }
+    None
+}
+
+impl<K: Keeper + Drop, G: Gate + Drop> Cluster<K, G> {
+    /// Stops the workers and waits for each to end, then checks all that the sessions were told: [`Front::close`]. Chains
+    /// that haven't ended stay as they are.
+    pub fn close<R: Threads + Wait>(
+        self,
+        rt: &R,
+        alloc: Global,
+        sessions: Vec<Session>,
+    ) -> Result<Closed<K>, CloseFault>
+        ensures closed { IfOk result (λ closed. IsClosed K.terms self sessions.items closed.world
+            closed.keepers.items) }
+        ensures fault { IfErr result (IsUnclosed K.terms self sessions.items) }
+    {
+        let Cluster {
+            front,
+            stop,
+            workers,
+        } = self;
+        stop_all(rt, &stop, workers);
+        front.close(alloc, sessions)
+    }
+}
+
+impl<K: Keeper + Drop, G: Gate + Drop> Front<K, G> {
+    /// Takes the states out of their locks, weaves what the servers did to a world, and checks what the sessions were
+    /// told in it.
+    fn close(self, alloc: Global, sessions: Vec<Session>) -> Result<Closed<K>, CloseFault>
+        ensures closed { IfOk result (λ closed. IsClosed K.terms self sessions.items closed.world
+            closed.keepers.items) }
+        ensures fault { IfErr result (IsUnclosed K.terms self sessions.items) }
+    {
+        let Front {
+            set,
+            starts,
+            states,
+            gate: _,
+            sessions: made,
+        } = self;
+        if let Some(session) = first_absent(alloc, made.into_inner(), sessions.as_slice())? {
+            return Err(CloseFault::Absent { session });
+        }
+        let told = told_of(alloc, sessions)?;
+        let taken = take_all(alloc, &set, states)?;
+        let woven = weave_since(
+            alloc,
+            &set,
+            taken.histories,
+            starts.as_slice(),
+            told.as_slice(),
+        )?;
+        if let Some(server) = first_uncounted(&set, woven.counts.as_slice()) {
+            return Err(CloseFault::Uncounted { server });
+        }
+        Ok(Closed {
+            world: woven.world,
+            keepers: taken.keepers,
+        })
+    }
+}

@@ -1,0 +1,235 @@
+//! A cluster, and the front of it that threads are lent.
+ghost use Rattle.std.specs.Prelude.{◌≡◌, ◌++◌, ◌↔◌, [], IfOk, IfSome, IsTrue, OnErr};
+ghost use Rattle.lynx_weave.specs.Told.{greatest_told};
+ghost use Rattle.lynx_forms.specs.Ranges.{IsAnswerInRange, IsLookedInRange};
+ghost use Rattle.lynx_cluster.specs.Answers.{FitsRequest, IsAbove};
+ghost use Rattle.lynx_cluster.specs.Clusters.{IsOf, home_of};
+ghost use Rattle.lynx_cluster.specs.Looks.{Looks};
+ghost use Rattle.lynx_cluster.specs.Sessions.{told_by};
+
+use crate::gate::{Gate, Step};
+use crate::session::Session;
+use lynx_entry::{Answer, Entry, Request};
+use lynx_forms::Looked;
+use lynx_keep::Keeper;
+use lynx_names::{ChainId, Memory, ProgramId, ServerId};
+use lynx_server::Server;
+use lynx_set::ChainSet;
+use std::alloc::Global;
+use std::marker::Model;
+use std::sync::atomic::AtomicBool;
+use std::sync::{Arc, Mutex, Wait};
+use std::thread::JoinHandle;
+
+/// Sessions that one cluster makes, at most.
+pub const MAX_SESSIONS: u64 = 1_000_000;
+
+/// The servers of a set behind locks of their own, at which any thread may begin and look by a `&`. Contracts see the
+/// set, and how long each server's history was at the start.
+#[derive(Drop)]
+pub struct Front<K: Keeper, G: Gate> {
+    pub(crate) set: ChainSet,
+    pub(crate) starts: Vec<u64>,
+    pub(crate) states: Vec<Arc<Mutex<Server<K>>>>,
+    pub(crate) gate: Arc<G>,
+    pub(crate) sessions: Mutex<u64>,
+}
+
+impl<K: Keeper, G: Gate> Model for Front<K, G> {
+    ghost use Rattle.std.specs.Prelude.{◌≡◌, length};
+    ghost use Rattle.lynx_cluster.specs.Clusters.{ClusterState};
+
+    ghost Value = { ClusterState };
+
+    ghost view = { λ front. record { set = front.set; starts = front.starts.items } };
+
+    ghost invariant = { λ front. record {
+      one_start : length front.starts.items ≡ front.set.servers;
+      one_state : length front.states.items ≡ front.set.servers;
+    } };
+}
+
+/// A running cluster: the servers behind their locks, and a worker thread for each. Other threads are lent its front.
+/// It can't be let go: [`Cluster::close`] is the one way to be rid of it, so that every worker is joined. Fallible work
+/// is done before the start or on the front.
+pub struct Cluster<K: Keeper, G: Gate> {
+    pub(crate) front: Front<K, G>,
+    pub(crate) stop: Arc<AtomicBool>,
+    pub(crate) workers: Vec<JoinHandle<()>>,
+}
+
+impl<K: Keeper, G: Gate> Model for Cluster<K, G> {
+    ghost use Rattle.lynx_cluster.specs.Clusters.{ClusterState};
+
+    ghost Value = { ClusterState };
+
+    ghost view = { λ cluster. cluster.front };
+}
+
+/// The state is that of this server of this set: a walk over the set. Nothing else is known of a state behind a lock.
+pub(crate) fn is_of<K: Keeper>(state: &Server<K>, set: &ChainSet, server: ServerId) -> bool
+    ensures { IsTrue result ↔ IsOf set.now server state.now }
+{
+    state.server() == server && state.set().is_same(set)
+}
+
+impl<K: Keeper, G: Gate> Cluster<K, G> {
+    /// What other threads are lent.
+    pub fn front(&self) -> &Front<K, G>
+        ensures { result.now ≡ self.now }
+    {
+        &self.front
+    }
+
+    /// A new session: [`Front::session`].
+    pub fn session<R: Wait>(&self, rt: &R, alloc: Global) -> Option<Session>
+        ensures { IfSome result (λ session. session.told ≡ []) }
+    {
+        self.front.session(rt, alloc)
+    }
+
+    /// One begin: [`Front::begin`].
+    pub fn begin<R: Wait>(
+        &self,
+        rt: &R,
+        alloc: Global,
+        session: &mut Session,
+        request: Request,
+    ) -> Answer
+        ensures told { session.new ≡ record session.old
+            { told = session.old.told ++ told_by (home_of self.now.set request) request result } }
+        ensures above { IsAbove (greatest_told session.old.told) result }
+        ensures fits { FitsRequest self.now.set (home_of self.now.set request) request result }
+        ensures range { IsAnswerInRange result }
+    {
+        self.front.begin(rt, alloc, session, request)
+    }
+
+    /// One look: [`Front::look`].
+    pub fn look<R: Wait>(
+        &self,
+        rt: &R,
+        alloc: Global,
+        session: &mut Session,
+        chain: ChainId,
+        hop: u8,
+    ) -> Result<Looked, Memory>
+        ensures looks { IfOk result (λ looked. Looks self.now.set session.old chain hop looked
+            session.new) }
+        ensures same { OnErr result (session.new ≡ session.old) }
+        ensures range { IfOk result IsLookedInRange }
+    {
+        self.front.look(rt, alloc, session, chain, hop)
+    }
+}
+
+impl<K: Keeper, G: Gate> Front<K, G> {
+    /// The set of the cluster.
+    pub fn set(&self) -> &ChainSet
+        ensures { result.now ≡ self.now.set }
+    {
+        &self.set
+    }
+
+    /// The server at which a request begins: the origin of its program, server 0 where the set hasn't the program.
+    fn home_of(&self, request: &Request) -> ServerId
+        ensures { result ≡ home_of self.now.set request.now }
+    {
+        match self.set.origin(request.program) {
+            Some(origin) => origin,
+            None => ServerId::first(),
+        }
+    }
+
+    /// A new session, which was told nothing. None once [`MAX_SESSIONS`] were made. Takes no memory.
+    pub fn session<R: Wait>(&self, rt: &R, alloc: Global) -> Option<Session>
+        ensures { IfSome result (λ session. session.told ≡ []) }
+    {
+        let mut made = self.sessions.lock(rt);
+        let number = *made;
+        if number >= MAX_SESSIONS {
+            return None;
+        }
+        *made = number + 1;
+        Some(Session::new(alloc, number))
+    }
+
+    /// One begin at the origin of the request's program, under that server's lock. The session notes the answer where
+    /// it is Begun, Refused, Clash or Full, and the server takes as seen the greatest stamp that the session was told.
+    /// Stopped comes also where the lock has the state of another server. It costs a walk over the set, a copy of the
+    /// request, and [`Server::begin`]; all memory for the note is taken before the server is asked.
+    pub fn begin<R: Wait>(
+        &self,
+        rt: &R,
+        alloc: Global,
+        session: &mut Session,
+        request: Request,
+    ) -> Answer
+        ensures told { session.new ≡ record session.old
+            { told = session.old.told ++ told_by (home_of self.now.set request) request result } }
+        ensures above { IsAbove (greatest_told session.old.told) result }
+        ensures fits { FitsRequest self.now.set (home_of self.now.set request) request result }
+        ensures range { IsAnswerInRange result }
+    {
+        let server = self.home_of(&request);
+        let Some(state) = self.states.as_slice().get(server.index()) else {
+            return Answer::Stopped;
+        };
+        let mut state = state.lock(rt);
+        self.gate.enter(server, Step::Begin);
+        let answer = if is_of(&state, &self.set, server) {
+            session.begin_at(alloc, &mut state, request)
+        } else {
+            Answer::Stopped
+        };
+        drop(state);
+        self.gate.leave(server, Step::Begin);
+        answer
+    }
+
+    /// The program of the chain, by its entry at its origin, whose lock is taken and given back. None where it hasn't
+    /// begun.
+    fn program_of<R: Wait>(&self, rt: &R, chain: &ChainId) -> Option<ProgramId> {
+        let state = self.states.as_slice().get(chain.origin.index())?.lock(rt);
+        if !is_of(&state, &self.set, chain.origin) {
+            return None;
+        }
+        match state.entry_of(*chain, 0)? {
+            Entry::Begun(begun) => Some(begun.request.program),
+            Entry::Refused(_) | Entry::Hop(_) => None,
+        }
+    }
+
+    /// What there is of that hop of the chain. First the chain's program is read under the lock of its origin, then
+    /// the hop's entry under that of its server. Absent also where the chain hasn't begun or has no such hop. The
+    /// session notes what was found. It costs a walk over the set for each lock, and two copies of the results.
+    pub fn look<R: Wait>(
+        &self,
+        rt: &R,
+        alloc: Global,
+        session: &mut Session,
+        chain: ChainId,
+        hop: u8,
+    ) -> Result<Looked, Memory>
+        ensures looks { IfOk result (λ looked. Looks self.now.set session.old chain hop looked
+            session.new) }
+        ensures same { OnErr result (session.new ≡ session.old) }
+        ensures range { IfOk result IsLookedInRange }
+    {
+        let Some(program) = self.program_of(rt, &chain) else {
+            return Ok(Looked::Absent);
+        };
+        let Some(asked) = self.set.hop(program, usize::from(hop)) else {
+            return Ok(Looked::Absent);
+        };
+        let server = asked.server;
+        let Some(state) = self.states.as_slice().get(server.index()) else {
+            return Ok(Looked::Absent);
+        };
+        let state = state.lock(rt);
+        if !is_of(&state, &self.set, server) {
+            return Ok(Looked::Absent);
+        }
+        session.look_at(alloc, &state, &chain, hop)
+    }
+}

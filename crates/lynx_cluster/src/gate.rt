@@ -1,0 +1,30 @@
+//! Gates: what is told of each step, on both sides of its lock.
+use lynx_names::ServerId;
+
+/// A step on the state behind a server's lock.
+#[derive(Clone, Copy, Debug, PartialEq, Eq)]
+pub enum Step {
+    /// A begin of a session.
+    Begin,
+    /// A delivery of a message, or a wake while messages are held.
+    Deliver,
+}
+
+/// What a cluster tells of its steps, in whatever thread makes them. A test can so make one step wait for another.
+pub trait Gate {
+    /// A step is about to be made. It is called with that server's lock taken.
+    fn enter(&self, server: ServerId, step: Step);
+
+    /// The step was made. It is called after that server's lock was given back.
+    fn leave(&self, server: ServerId, step: Step);
+}
+
+/// Lets every step pass, and does nothing.
+#[derive(Clone, Copy, Debug)]
+pub struct OpenGate;
+
+impl Gate for OpenGate {
+    fn enter(&self, _server: ServerId, _step: Step) {}
+
+    fn leave(&self, _server: ServerId, _step: Step) {}
+}

@@ -1,0 +1,31 @@
+//! A cluster: the servers of a set, each behind a lock of its own and with a worker thread, the sessions that begin at
+//! them, and the close, which checks all that the sessions were told.
+#![tactic(auto)]
+
+pub use closing::Closed;
+pub use cluster::{Cluster, Front};
+pub use fault::{CloseFault, StartFault};
+pub use gate::{Gate, OpenGate, Step};
+pub use lent::Lent;
+pub use resending::RESEND_MILLIS;
+pub use session::Session;
+pub use steps::{Due, Owed, Receipt, Steps, Waking};
+pub use worker::Worker;
+
+mod absent;
+mod beginning;
+pub mod closing;
+pub mod cluster;
+pub mod fault;
+pub mod gate;
+pub mod lent;
+mod looking;
+mod opening;
+mod resending;
+mod rest;
+pub mod session;
+pub mod starting;
+pub mod steps;
+mod taking;
+pub mod worker;
+mod workers;

@@ -1,0 +1,65 @@
+//! Sessions, and what they were told.
+ghost use Rattle.std.specs.Prelude.{◌≡◌, []};
+
+use lynx_names::Stamp;
+use lynx_weave::ToldItem;
+use std::alloc::Global;
+use std::marker::Model;
+
+/// One client of a cluster, which keeps all that it was told. It is handed in again at the close of its cluster; what
+/// another cluster told it would not stand there. An answer takes a copy of its request and room for 16 results, a look
+/// a copy of what was found.
+#[derive(Drop)]
+pub struct Session {
+    number: u64,
+    pub(crate) greatest: Stamp,
+    pub(crate) told: Vec<ToldItem>,
+}
+
+impl Model for Session {
+    ghost use Rattle.std.specs.Prelude.{◌≡◌};
+    ghost use Rattle.lynx_weave.specs.Told.{greatest_told};
+    ghost use Rattle.lynx_cluster.specs.Sessions.{SessionState};
+
+    ghost Value = { SessionState };
+
+    ghost view = { λ session. record { number = session.number; told = session.told.items } };
+
+    ghost invariant = { λ session. session.greatest ≡ greatest_told session.told.items };
+}
+
+impl Session {
+    ghost use Rattle.lynx_cluster.specs.Sessions.{new_session};
+
+    /// The session of that number, which was told nothing. Takes no memory.
+    pub(crate) fn new(alloc: Global, number: u64) -> Session
+        ensures { result ≡ new_session number }
+    {
+        Session {
+            number,
+            greatest: Stamp::zero(),
+            told: Vec::new(alloc),
+        }
+    }
+
+    /// Its number: the count of the sessions that its cluster made before.
+    pub fn number(&self) -> u64
+        ensures { result ≡ self.now.number }
+    {
+        self.number
+    }
+
+    /// All that it was told, in order.
+    pub fn told(&self) -> &[ToldItem]
+        ensures { result.now ≡ self.now.told }
+    {
+        self.told.as_slice()
+    }
+
+    /// All that it was told, out of it. Takes no memory.
+    pub(crate) fn into_told(self) -> Vec<ToldItem>
+        ensures { result.items ≡ self.told }
+    {
+        self.told
+    }
+}

@@ -1,0 +1,98 @@
+//! The states of a closed cluster, out of their locks, and what its sessions were told.
+ghost use Rattle.std.specs.Prelude.{◌≡◌, ◌++◌, ◌∷◌, [], IfErr, IfOk, IfSome, OnOk, length, map};
+ghost use Rattle.lynx_weave.specs.Rebuilt.{histories_in, told_in};
+ghost use Rattle.lynx_cluster.specs.Closing.{AreTakenBack, IsTakenBack};
+ghost use Rattle.lynx_cluster.specs.inner.Closing.{IsTakeFault};
+
+use crate::cluster::is_of;
+use crate::fault::CloseFault;
+use crate::session::Session;
+use lynx_entry::Entry;
+use lynx_keep::Keeper;
+use lynx_names::{Memory, ServerId};
+use lynx_server::Server;
+use lynx_set::ChainSet;
+use lynx_weave::ToldItem;
+use std::alloc::Global;
+use std::sync::{Arc, Mutex};
+
+/// The histories of all servers, and their keepers.
+#[derive(Drop)]
+pub(crate) struct Taken<K: Keeper> {
+    pub(crate) histories: Vec<Vec<Entry>>,
+    pub(crate) keepers: Vec<K>,
+}
+
+/// The state of that server, out of its lock. None where another still has a part in it, it is another server's or
+/// another set's, or it stopped.
+fn take_back<K: Keeper + Drop>(
+    set: &ChainSet,
+    server: ServerId,
+    state: Arc<Mutex<Server<K>>>,
+) -> Option<(Vec<Entry>, K)>
+    ensures { IfSome result (λ taken. IsTakenBack K.terms set.now server taken.0.items taken.1) }
+{
+    let state = Arc::into_inner(state)?.into_inner();
+    if !is_of(&state, set, server) || state.is_stopped() {
+        return None;
+    }
+    // By its type the history is lawful.
+    let _ = state.history();
+    Some(state.into_parts())
+}
+
+impl<K: Keeper + Drop> Taken<K> {
+    /// One server more.
+    fn add(&mut self, back: (Vec<Entry>, K)) -> Result<(), Memory>
+        ensures histories { OnOk result (self.new.histories.items
+            ≡ self.old.histories.items ++ back.0 ∷ []) }
+        ensures keepers { OnOk result (self.new.keepers.items
+            ≡ self.old.keepers.items ++ back.1 ∷ []) }
+    {
+        let (history, keeper) = back;
+        self.histories.push(history)?;
+        self.keepers.push(keeper)?;
+        Ok(())
+    }
+}
+
+/// The states of all servers, out of their locks.
+pub(crate) fn take_all<K: Keeper + Drop>(
+    alloc: Global,
+    set: &ChainSet,
+    states: Vec<Arc<Mutex<Server<K>>>>,
+) -> Result<Taken<K>, CloseFault>
+    requires { length states.items ≡ set.now.servers }
+    ensures taken { IfOk result (λ taken. AreTakenBack K.terms set.now
+        (histories_in taken.histories.items) taken.keepers.items) }
+    ensures fault { IfErr result (IsTakeFault set.now.servers) }
+{
+    let count = set.servers();
+    let mut taken = Taken {
+        histories: Vec::new(alloc),
+        keepers: Vec::new(alloc),
+    };
+    let mut states = states.into_iter();
+    for number in 0..count {
+        let Some(state) = states.next() else {
+            unreachable!()
+        };
+        let server = ServerId::at(number);
+        let Some(back) = take_back(set, server, state) else {
+            return Err(CloseFault::Stopped { server });
+        };
+        taken.add(back)?;
+    }
+    Ok(taken)
+}
+
+/// What each session was told, in order.
+pub(crate) fn told_of(alloc: Global, sessions: Vec<Session>) -> Result<Vec<Vec<ToldItem>>, Memory>
+    ensures { IfOk result (λ told. told_in told.items ≡ map (λ session. session.told) sessions.items) }
+{
+    let mut told = Vec::new(alloc);
+    for session in sessions {
+        told.push(session.into_told())?;
+    }
+    Ok(told)
+}

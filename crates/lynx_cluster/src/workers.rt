@@ -1,0 +1,129 @@
+//! The worker threads of a cluster: making them, and ending them.
+ghost use Rattle.std.specs.Prelude.{IfErr};
+ghost use Rattle.lynx_cluster.specs.inner.Opening.{IsLate};
+
+use crate::fault::StartFault;
+use crate::gate::Gate;
+use crate::lent::Lent;
+use crate::worker::Worker;
+use lynx_keep::Keeper;
+use lynx_link::{Ends, links};
+use lynx_names::{ServerId, TryCopy};
+use lynx_server::Server;
+use lynx_set::ChainSet;
+use std::alloc::Global;
+use std::sync::atomic::{AtomicBool, Ordering};
+use std::sync::{Arc, Mutex, Wait};
+use std::thread;
+use std::thread::{JoinHandle, Threads};
+use std::time::Clock;
+
+/// Stops the workers, and waits for each to end.
+pub(crate) fn stop_all<R: Threads>(rt: &R, stop: &AtomicBool, workers: Vec<JoinHandle<()>>) {
+    stop.store(true, Ordering::SeqCst);
+    for worker in workers {
+        worker.join(rt);
+    }
+}
+
+/// One more worker. None where no thread can be made.
+fn start_worker<
+    K: Keeper + Send + Drop + 'static,
+    G: Gate + Send + Sync + Drop + 'static,
+    R: Threads + Wait + Clock + Copy + Send + 'static,
+>(
+    rt: R,
+    alloc: Global,
+    lent: Lent<K, G>,
+    ends: Ends,
+    stop: Arc<AtomicBool>,
+) -> Option<JoinHandle<()>> {
+    let servers = lent.servers();
+    let worker = Worker::new(lent, ends, servers);
+    thread::spawn(&rt, move || worker.run(&rt, alloc, &stop)).ok()
+}
+
+/// The next worker, added to those that run.
+fn start_next<
+    K: Keeper + Send + Drop + 'static,
+    G: Gate + Send + Sync + Drop + 'static,
+    R: Threads + Wait + Clock + Copy + Send + 'static,
+>(
+    rt: R,
+    alloc: Global,
+    lent: Lent<K, G>,
+    ends: Ends,
+    stop: &Arc<AtomicBool>,
+    workers: &mut Vec<JoinHandle<()>>,
+) -> Result<(), StartFault>
+    ensures { IfErr result IsLate }
+{
+    workers.reserve(1)?;
+    let stop = Arc::try_clone(stop)?;
+    match start_worker(rt, alloc, lent, ends, stop) {
+        Some(worker) => {
+            workers.push_reserved(worker);
+            Ok(())
+        }
+        None => Err(StartFault::NoThread),
+    }
+}
+
+/// A worker for each server. Where one can't be started, those that run are stopped, and have ended.
+pub(crate) fn start_all<
+    K: Keeper + Send + Drop + 'static,
+    G: Gate + Send + Sync + Drop + 'static,
+    R: Threads + Wait + Clock + Copy + Send + 'static,
+>(
+    rt: R,
+    alloc: Global,
+    servers: u8,
+    lents: Vec<Lent<K, G>>,
+    stop: &Arc<AtomicBool>,
+) -> Result<Vec<JoinHandle<()>>, StartFault>
+    ensures { IfErr result IsLate }
+{
+    let ends = links(alloc, servers)?;
+    let mut workers = Vec::new(alloc);
+    for (lent, ends) in lents.into_iter().zip(ends) {
+        if let Err(fault) = start_next(rt, alloc, lent, ends, stop, &mut workers) {
+            stop_all(&rt, stop, workers);
+            return Err(fault);
+        }
+    }
+    Ok(workers)
+}
+
+/// What the worker of that server is lent.
+fn lend<K: Keeper + Drop, G: Gate + Drop>(
+    alloc: Global,
+    set: &ChainSet,
+    server: ServerId,
+    state: &Arc<Mutex<Server<K>>>,
+    gate: &Arc<G>,
+) -> Result<Lent<K, G>, StartFault>
+    ensures { IfErr result IsLate }
+{
+    let set = set.copy(alloc)?;
+    let state = Arc::try_clone(state)?;
+    let gate = Arc::try_clone(gate)?;
+    Ok(Lent::new(set, server, state, gate))
+}
+
+/// What each worker is lent.
+pub(crate) fn lend_all<K: Keeper + Drop, G: Gate + Drop>(
+    alloc: Global,
+    set: &ChainSet,
+    states: &[Arc<Mutex<Server<K>>>],
+    gate: &Arc<G>,
+) -> Result<Vec<Lent<K, G>>, StartFault>
+    ensures { IfErr result IsLate }
+{
+    let mut lents = Vec::new(alloc);
+    for number in 0..set.servers() {
+        if let Some(state) = states.get(usize::from(number)) {
+            lents.push(lend(alloc, set, ServerId::at(number), state, gate)?)?;
+        }
+    }
+    Ok(lents)
+}

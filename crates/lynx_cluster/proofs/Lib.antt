@@ -2,6 +2,5 @@ pub mod Absences
 pub mod Answering
 pub mod Closings
 pub mod InRange
-pub mod Lookings
 pub mod Openings
 pub mod Takings

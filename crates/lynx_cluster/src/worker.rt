@@ -216,10 +216,10 @@ impl<S: Steps> Worker<S> {
     }
 
     /// One turn. It sends again what is owed for a while, then what was not sent yet, then delivers what came in and wakes
-    /// what is held. The first 64 messages that are owed are sent again a millisecond after the very first was found to
-    /// be so twice, later where nothing is acknowledged, and all of them each [`RESEND_MILLIS`](crate::RESEND_MILLIS).
-    /// False where there was nothing to do. A turn has a bound: 256 messages sent and 320 sent again, 16 parcels taken
-    /// from each server, and after each and at the end 64 wakes.
+    /// what is held. The first 64 messages that are owed are sent again where the very first stays so for a millisecond,
+    /// or, as long as nothing is acknowledged, for a time that doubles; and all of them each
+    /// [`RESEND_MILLIS`](crate::RESEND_MILLIS). False where there was nothing to do. A turn has a bound: 256 messages sent
+    /// and 320 sent again, 16 parcels taken from each server, and after each of them and at the end 64 wakes.
     pub fn turn<R: Wait + Clock>(&mut self, rt: &R, alloc: Global) -> bool {
         let has_sent_again = self.send_again(rt, alloc);
         let has_sent = self.send(rt, alloc);

@@ -48,14 +48,6 @@ pub enum Fault {
 }
 
 impl Fault {
-    /// That the database of a server failed.
-    pub fn of_database(server: ServerId) -> Fault {
-        Fault::Store {
-            server,
-            wrong: Wrong::Store,
-        }
-    }
-
     /// The fault of the rows of a store.
     pub fn of_rows(server: ServerId, fault: StoreFault) -> Fault {
         let wrong = match fault {

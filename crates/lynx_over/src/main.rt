@@ -4,10 +4,12 @@
 #![tactic(auto)]
 
 use lynx_input::{MAX_FILE_BYTES, read_all};
+use lynx_keep::Keeper;
+use lynx_stores::{FileStores, Stores};
 use std::alloc::Global;
 use std::process::ExitCode;
 use std::rt::Files;
-use std::{env, fs};
+use std::{env, fs, io};
 
 mod ending;
 mod events;
@@ -27,7 +29,7 @@ fn text_of<R: Files>(rt: &R, alloc: Global, name: &str) -> Result<Vec<u8>, Fault
 }
 
 /// Runs what the words of the command line name, and gives the status.
-fn run(rt: &HostRuntime) -> Result<u8, Fault> {
+fn run<K: Keeper + Drop, S: Stores<K>>(rt: &HostRuntime, stores: &S) -> Result<u8, Fault> {
     let Ok(args) = env::args(rt) else {
         return Err(Fault::Words);
     };
@@ -39,11 +41,18 @@ fn run(rt: &HostRuntime) -> Result<u8, Fault> {
     };
     let set = text_of(rt, rt.alloc(), set.as_str())?;
     let script = text_of(rt, rt.alloc(), script.as_str())?;
-    run_texts(rt, set.as_slice(), script.as_slice(), folder.as_str())
+    run_texts(
+        rt.alloc(),
+        stores,
+        set.as_slice(),
+        script.as_slice(),
+        folder.as_str(),
+        &mut io::writer(rt),
+    )
 }
 
 fn main(rt: HostRuntime) -> ExitCode {
-    let status = match run(&rt) {
+    let status = match run(&rt, &FileStores::new(rt)) {
         Ok(status) => status,
         Err(fault) => {
             let _ = eprintln!(&rt; "lynx_over: {fault}");

@@ -9,10 +9,11 @@ use lynx_print::outcome_line;
 use lynx_script::parse_script;
 use lynx_server::Server;
 use lynx_set::ChainSet;
+use lynx_stores::Stores;
 use lynx_text::parse;
 use lynx_words::FaultKind;
 use std::alloc::Global;
-use std::io;
+use std::io::Write;
 
 /// What a run prints.
 pub type Page = Vec<u8>;
@@ -53,17 +54,19 @@ fn put_lines<K: Keeper + Drop>(
 
 /// Runs the events over the stores of a folder, prints their lines, also where a fault stops them, and gives the
 /// status. The stores stay open until all is printed.
-fn run_events(
-    rt: &HostRuntime,
+fn run_events<K: Keeper + Drop, S: Stores<K>, W: Write>(
+    alloc: Global,
+    stores: &S,
     set: &ChainSet,
     events: Vec<Event>,
     folder: &str,
+    writer: &mut W,
 ) -> Result<u8, Fault> {
-    let mut servers = open_all(rt, set, folder)?;
-    let mut page = Vec::new(rt.alloc());
-    let put = put_lines(rt.alloc(), set, events, &mut servers, &mut page);
-    let printed = lynx_io::write_bytes(&mut io::writer(rt), page.as_slice());
-    let closed = close_all(servers);
+    let mut servers = open_all(alloc, stores, set, folder)?;
+    let mut page = Vec::new(alloc);
+    let put = put_lines(alloc, set, events, &mut servers, &mut page);
+    let printed = lynx_io::write_bytes(writer, page.as_slice());
+    let closed = close_all(stores, servers);
     let status = put?;
     printed?;
     closed?;
@@ -71,8 +74,15 @@ fn run_events(
 }
 
 /// Runs the script of one text over the set of the other and the stores of a folder.
-pub fn run_texts(rt: &HostRuntime, set: &[u8], script: &[u8], folder: &str) -> Result<u8, Fault> {
-    let set = set_of(rt.alloc(), set)?;
-    let events = events_of(rt.alloc(), &set, script)?;
-    run_events(rt, &set, events, folder)
+pub fn run_texts<K: Keeper + Drop, S: Stores<K>, W: Write>(
+    alloc: Global,
+    stores: &S,
+    set: &[u8],
+    script: &[u8],
+    folder: &str,
+    writer: &mut W,
+) -> Result<u8, Fault> {
+    let set = set_of(alloc, set)?;
+    let events = events_of(alloc, &set, script)?;
+    run_events(alloc, stores, &set, events, folder, writer)
 }

@@ -4,58 +4,50 @@ use lynx_keep::Keeper;
 use lynx_names::ServerId;
 use lynx_server::Server;
 use lynx_set::ChainSet;
-use lynx_store::SqlKeeper;
-use sqlite::{Connection, File, FileStore};
+use lynx_stores::Stores;
 use std::alloc::Global;
 
-/// A server over its store.
-pub type StoreServer = Server<SqlKeeper<FileStore<File>>>;
-
-/// A server over a keeper.
-fn over<K: Keeper + Drop>(
+/// Opens the server over its store in the folder, which is made where there is none.
+fn open<K: Keeper + Drop, S: Stores<K>>(
     alloc: Global,
+    stores: &S,
     set: &ChainSet,
+    folder: &str,
     server: ServerId,
-    keeper: K,
 ) -> Result<Server<K>, Fault> {
+    let keeper = match stores.open(folder, set, server) {
+        Ok(keeper) => keeper,
+        Err(fault) => return Err(Fault::of_rows(server, fault)),
+    };
     match Server::open(alloc, set, server, keeper) {
         Ok(opened) => Ok(opened),
         Err(fault) => Err(Fault::of_contents(server, fault)),
     }
 }
 
-/// Opens the server over its store in the folder, which is made where there is none.
-fn open(
-    rt: &HostRuntime,
+/// Opens each server of the set, in order.
+pub fn open_all<K: Keeper + Drop, S: Stores<K>>(
+    alloc: Global,
+    stores: &S,
     set: &ChainSet,
     folder: &str,
-    server: ServerId,
-) -> Result<StoreServer, Fault> {
-    let path = format!(in rt.alloc(); "{folder}/server-{server}.lynx")?;
-    let Ok(conn) = Connection::open(rt, path.as_str()) else {
-        return Err(Fault::of_database(server));
-    };
-    match SqlKeeper::open(rt.alloc(), conn, set, server) {
-        Ok(keeper) => over(rt.alloc(), set, server, keeper),
-        Err((fault, _)) => Err(Fault::of_rows(server, fault)),
-    }
-}
-
-/// Opens each server of the set, in order.
-pub fn open_all(rt: &HostRuntime, set: &ChainSet, folder: &str) -> Result<Vec<StoreServer>, Fault> {
-    let mut servers = Vec::new(rt.alloc());
+) -> Result<Vec<Server<K>>, Fault> {
+    let mut servers = Vec::new(alloc);
     for number in 0..set.servers() {
-        servers.push(open(rt, set, folder, ServerId::at(number))?)?;
+        servers.push(open(alloc, stores, set, folder, ServerId::at(number))?)?;
     }
     Ok(servers)
 }
 
 /// Closes each store: its log is copied into the file.
-pub fn close_all(servers: Vec<StoreServer>) -> Result<(), Fault> {
+pub fn close_all<K: Keeper + Drop, S: Stores<K>>(
+    stores: &S,
+    servers: Vec<Server<K>>,
+) -> Result<(), Fault> {
     for opened in servers {
         let server = opened.server();
-        if opened.into_keeper().into_connection().close().is_err() {
-            return Err(Fault::of_database(server));
+        if let Err(fault) = stores.close(opened.into_keeper()) {
+            return Err(Fault::of_rows(server, fault));
         }
     }
     Ok(())

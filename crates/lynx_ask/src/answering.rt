@@ -1,0 +1,63 @@
+//! What is answered, as lines.
+use crate::fault::AskFault;
+use lynx_entry::{Answer, Outcome};
+use lynx_forms::{DecodeFault, Feed, Item, Looked};
+use lynx_print::outcome_line;
+use std::alloc::Global;
+use std::io::{ErrorKind, Read};
+
+/// Reads that one answer may take: each of them gets a byte at least, and none asks for more than an answer has.
+const MAX_READS: u32 = 1_000_000;
+
+/// The next item of the stream.
+pub(crate) fn next_item<S: Read>(
+    alloc: Global,
+    feed: &mut Feed,
+    stream: &mut S,
+) -> Result<Item, AskFault> {
+    let mut buffer = [0u8; 4096];
+    for _ in 0..MAX_READS {
+        match feed.next(alloc) {
+            Ok(Some(item)) => return Ok(item),
+            Ok(None) => {}
+            Err(DecodeFault::Memory) => return Err(AskFault::Memory),
+            Err(_) => return Err(AskFault::Lost),
+        }
+        match stream.read(&mut buffer) {
+            Ok(0) => return Err(AskFault::Lost),
+            Ok(count) => feed.push(buffer.split_at(count).0)?,
+            Err(error) if error.kind() == ErrorKind::Interrupted => {}
+            Err(_) => return Err(AskFault::Lost),
+        }
+    }
+    Err(AskFault::Lost)
+}
+
+/// The line of what a look was answered. What is found is told as a run tells that a hop was done.
+fn looked_line(alloc: Global, looked: &Looked) -> Result<String, AskFault> {
+    match looked {
+        Looked::Absent => Ok(String::from_str(alloc, "absent\n")?),
+        Looked::Found { stamp, results } => {
+            let mut line = format!(in alloc; "found stamp {stamp} results")?;
+            for value in results.as_slice() {
+                line.push_str(format!(in alloc; " {value}")?.as_str())?;
+            }
+            if results.is_empty() {
+                line.push_str(" -")?;
+            }
+            line.push_str("\n")?;
+            Ok(line)
+        }
+    }
+}
+
+/// The line of an answer. The client hears of the service's own want of memory as of an answer.
+pub(crate) fn line_of(alloc: Global, item: Item) -> Result<String, AskFault> {
+    match item {
+        Item::Answer(Answer::Memory) => Ok(String::from_str(alloc, "memory\n")?),
+        Item::Answer(answer) => Ok(outcome_line(alloc, &Outcome::Answered(answer))?),
+        Item::Looked(looked) => looked_line(alloc, &looked),
+        Item::Bye => Ok(String::from_str(alloc, "bye\n")?),
+        _ => Err(AskFault::Lost),
+    }
+}

@@ -1,0 +1,56 @@
+//! Why asking stopped.
+use lynx_io::WriteFailed;
+use lynx_names::Memory;
+use lynx_words::{FaultKind, TextFault};
+use std::alloc::AllocError;
+use thiserror::Error;
+
+/// Why asking stopped before the lines ended. What was asked and answered before stands.
+#[derive(Clone, Copy, Debug, PartialEq, Eq, Error)]
+pub enum AskFault {
+    /// A line asks for nothing that there is; never for want of memory.
+    #[error("{0}")]
+    Line(TextFault),
+    /// Nobody listens at the port.
+    #[error("cannot connect")]
+    Connect,
+    /// The connection ended, or what came over it is no answer. Whether what was asked last was done isn't known: it may
+    /// be asked again under the same number.
+    #[error("connection lost")]
+    Lost,
+    /// The lines can't be read.
+    #[error("cannot read -")]
+    Read,
+    #[error("cannot write")]
+    Write,
+    #[error("out of memory")]
+    Memory,
+}
+
+impl AskFault {
+    /// The fault of a line, counted from 1.
+    pub(crate) fn of_line(line: usize, kind: FaultKind) -> AskFault {
+        match kind {
+            FaultKind::Memory => AskFault::Memory,
+            kind => AskFault::Line(TextFault { kind, line }),
+        }
+    }
+}
+
+impl From<Memory> for AskFault {
+    fn from(_: Memory) -> AskFault {
+        AskFault::Memory
+    }
+}
+
+impl From<AllocError> for AskFault {
+    fn from(_: AllocError) -> AskFault {
+        AskFault::Memory
+    }
+}
+
+impl From<WriteFailed> for AskFault {
+    fn from(_: WriteFailed) -> AskFault {
+        AskFault::Write
+    }
+}

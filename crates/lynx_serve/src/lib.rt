@@ -1,0 +1,22 @@
+//! Serving clients over TCP: the stores of a set are opened, a cluster runs over them, each client that comes gets a
+//! thread and a session of its own, and once one of them asks for it the cluster is closed, which audits what all were
+//! told.
+#![tactic(auto)]
+
+pub use desk::ClientDesk;
+pub use fault::{CloseWord, ServeFault, StoreWord};
+pub use limits::{MAX_CLIENTS, MAX_IDLE_SECONDS, MAX_SHUT_SECONDS, MAX_WRITE_SECONDS};
+pub use progress::Progress;
+pub use service::{Service, serve_stores};
+
+mod accepting;
+mod closing;
+pub mod desk;
+pub mod fault;
+mod hall;
+pub mod limits;
+mod opening;
+mod patience;
+pub mod progress;
+pub mod service;
+mod talking;

@@ -1,0 +1,19 @@
+//! What a client may cost.
+
+/// Connections that are open at a time, at most. A further one is closed at once.
+pub const MAX_CLIENTS: u64 = 64;
+
+/// Seconds for which a client may be silent, at most: after them its connection ends, as if its input had.
+pub const MAX_IDLE_SECONDS: u64 = 600;
+
+/// Seconds for which a client may be silent once a client asked for the end.
+pub const MAX_SHUT_SECONDS: u64 = 1;
+
+/// Seconds for which a client may take nothing of an answer.
+pub const MAX_WRITE_SECONDS: u64 = 10;
+
+/// Milliseconds after which a read that waits looks whether it has to end.
+pub(crate) const TICK_MILLIS: u64 = 250;
+
+/// Milliseconds that go by after a connection could not be taken, for want of file handles say, before the next is.
+pub(crate) const RETRY_MILLIS: u64 = 20;

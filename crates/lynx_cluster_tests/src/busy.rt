@@ -1,0 +1,142 @@
+//! A chain that is still to return to its origin.
+use crate::keepers::empty;
+use crate::talk::{Asked, is_explained, talk};
+use crate::trouble::Trouble;
+use lynx_cluster::{Cluster, Front, Gate, Session, Step};
+use lynx_keep::Keeper;
+use lynx_names::{Memory, ServerId};
+use lynx_samples::parts::{AnswerParts, RequestParts};
+use lynx_samples::texts::{TRIP, set_of};
+use std::alloc::Global;
+use std::sync::atomic::{AtomicBool, Ordering};
+use std::sync::{Arc, Wait};
+use std::test::Fail;
+use std::thread;
+use std::thread::Threads;
+use std::time::{Clock, Duration};
+
+/// As many turns are waited at most, of a millisecond each.
+const MOST_TURNS: u32 = 10_000;
+
+/// Lets no delivery at server 1 go on before it is open.
+#[derive(Drop)]
+struct Barrier<R: Clock> {
+    rt: R,
+    is_open: Arc<AtomicBool>,
+}
+
+impl<R: Clock> Gate for Barrier<R> {
+    fn enter(&self, server: ServerId, step: Step) {
+        if step != Step::Deliver || server.index() != 1 {
+            return;
+        }
+        for _ in 0..MOST_TURNS {
+            if self.is_open.load(Ordering::SeqCst) {
+                return;
+            }
+            thread::sleep(&self.rt, Duration::from_millis(1));
+        }
+    }
+
+    fn leave(&self, _server: ServerId, _step: Step) {}
+}
+
+/// A barrier that isn't open, and its mark.
+fn make_barrier<R: Clock + Drop>(
+    rt: R,
+    alloc: Global,
+) -> Result<(Barrier<R>, Arc<AtomicBool>), Memory> {
+    let is_open = Arc::new(alloc, AtomicBool::new(false))?;
+    let theirs = Arc::try_clone(&is_open)?;
+    let gate = Barrier {
+        rt,
+        is_open: theirs,
+    };
+    Ok((gate, is_open))
+}
+
+/// The first trip begins, the second is busy, ..
+const WHILE_AWAY: &[Asked] = &[
+    Asked::Begin(
+        RequestParts {
+            client: 1,
+            number: 1,
+            program: 0,
+            args: &[],
+        },
+        AnswerParts::Begun {
+            origin: 0,
+            index: 0,
+            time: 1,
+            results: &[],
+            again: false,
+        },
+    ),
+    Asked::Begin(SECOND, AnswerParts::Busy),
+];
+
+const SECOND: RequestParts = RequestParts {
+    client: 1,
+    number: 2,
+    program: 0,
+    args: &[],
+};
+
+/// .. and begins once the first is back.
+const BACK: &[Asked] = &[
+    Asked::Find {
+        chain: (0, 0),
+        hop: 2,
+        time: 3,
+        results: &[],
+    },
+    Asked::Begin(
+        SECOND,
+        AnswerParts::Begun {
+            origin: 0,
+            index: 1,
+            time: 4,
+            results: &[],
+            again: false,
+        },
+    ),
+];
+
+/// A session that asks while the first trip is away and when it is back, and whether it is told rightly.
+fn talked<R: Wait + Clock, K: Keeper, G: Gate>(
+    rt: &R,
+    alloc: Global,
+    front: &Front<K, G>,
+    is_open: &AtomicBool,
+) -> Result<(Vec<Session>, bool), Memory> {
+    let mut sessions = Vec::new(alloc);
+    let mut session = front.session(rt, alloc).ok_or(Memory)?;
+    let is_busy = talk(rt, alloc, front, &mut session, WHILE_AWAY);
+    is_open.store(true, Ordering::SeqCst);
+    let is_back = talk(rt, alloc, front, &mut session, BACK);
+    sessions.push(session)?;
+    Ok((sessions, is_busy && is_back))
+}
+
+/// Whether the second trip is busy while the first is away.
+fn is_busy<
+    R: Threads + Wait + Clock + Copy + Drop + Send + Sync + 'static,
+    K: Keeper + Send + Drop + 'static,
+>(rt: R, alloc: Global, keepers: Vec<K>) -> Result<bool, Trouble> {
+    let set = set_of(alloc, TRIP)?;
+    let (gate, is_open) = make_barrier(rt, alloc)?;
+    let cluster = Cluster::start(rt, alloc, &set, keepers, gate)?;
+    let (sessions, is_right) = match talked(&rt, alloc, cluster.front(), &is_open) {
+        Ok(told) => told,
+        Err(Memory) => (Vec::new(alloc), false),
+    };
+    let closed = cluster.close(&rt, alloc, sessions)?;
+    Ok(is_right && is_explained(alloc, &closed.world, &[(0, 0), (0, 1)])?)
+}
+
+#[test]
+fn an_origin_is_busy_until_the_chain_returns(rt: HostRuntime) -> Result<(), Fail> {
+    let keepers = empty(rt.alloc(), 2)?;
+    assert!(rt; is_busy(rt, rt.alloc(), keepers) == Ok(true));
+    Ok(())
+}

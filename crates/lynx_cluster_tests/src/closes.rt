@@ -1,0 +1,177 @@
+//! Why a cluster doesn't close well.
+use crate::keepers::{empty, failing};
+use crate::talk::{Asked, talked};
+use crate::texts::PUTS;
+use crate::trouble::Trouble;
+use lynx_cluster::{CloseFault, Cluster, Front, Gate, OpenGate, Session};
+use lynx_keep::{Keeper, MemoryKeeper, Planned};
+use lynx_names::{Memory, ServerId};
+use lynx_samples::made::{message, server};
+use lynx_samples::parts::{AnswerParts, RequestParts};
+use lynx_samples::payments::SENT;
+use lynx_samples::texts::{PAYMENT, set_of};
+use lynx_server::Server;
+use std::alloc::Global;
+use std::sync::Wait;
+use std::test::Fail;
+use std::thread::Threads;
+use std::time::Clock;
+
+const FIRST: RequestParts = RequestParts {
+    client: 1,
+    number: 1,
+    program: 0,
+    args: &[7],
+};
+
+/// Server 0 keeps the first put, and stops at the second. Server 1 goes on.
+const PUTS_AT_A_STOP: &[Asked] = &[
+    Asked::Begin(
+        FIRST,
+        AnswerParts::Begun {
+            origin: 0,
+            index: 0,
+            time: 1,
+            results: &[],
+            again: false,
+        },
+    ),
+    Asked::Begin(RequestParts { number: 2, ..FIRST }, AnswerParts::Stopped),
+    Asked::Begin(FIRST, AnswerParts::Stopped),
+    Asked::Begin(
+        RequestParts {
+            number: 3,
+            program: 2,
+            ..FIRST
+        },
+        AnswerParts::Begun {
+            origin: 1,
+            index: 0,
+            time: 2,
+            results: &[],
+            again: false,
+        },
+    ),
+];
+
+/// Whether a session over these keepers is told this, and why its cluster doesn't close. None where it does.
+fn fault_after<
+    R: Threads + Wait + Clock + Copy + Send + 'static,
+    K: Keeper + Send + Drop + 'static,
+>(
+    rt: R,
+    alloc: Global,
+    text: &str,
+    keepers: Vec<K>,
+    asked: &[Asked],
+) -> Result<(bool, Option<CloseFault>), Trouble> {
+    let set = set_of(alloc, text)?;
+    let cluster = Cluster::start(rt, alloc, &set, keepers, OpenGate)?;
+    let (sessions, is_right) = match talked(&rt, alloc, cluster.front(), asked) {
+        Ok(told) => told,
+        Err(Memory) => (Vec::new(alloc), false),
+    };
+    let fault = cluster.close(&rt, alloc, sessions).err();
+    Ok((is_right, fault))
+}
+
+#[test]
+fn a_server_whose_store_failed_is_stopped(rt: HostRuntime) -> Result<(), Fail> {
+    for planned in [Planned::FailsBefore, Planned::FailsAfter] {
+        let keepers = failing(rt.alloc(), 2, 0, 1, planned)?;
+        let ended = fault_after(rt, rt.alloc(), PUTS, keepers, PUTS_AT_A_STOP);
+        let stopped = CloseFault::Stopped {
+            server: ServerId::first(),
+        };
+        assert!(rt; ended == Ok((true, Some(stopped))), "{planned:?}");
+    }
+    Ok(())
+}
+
+/// Server 0 kept nothing, and server 1 a hop on a message that nobody sent.
+fn without_sender(alloc: Global) -> Result<Vec<MemoryKeeper>, Trouble> {
+    let set = set_of(alloc, PAYMENT)?;
+    let mut keepers = empty(alloc, 1)?;
+    let payee = ServerId::new(1).ok_or(Trouble::Open)?;
+    let Ok(mut payee) = Server::open(alloc, &set, payee, MemoryKeeper::new(alloc)) else {
+        return Err(Trouble::Open);
+    };
+    let _ = payee.deliver(alloc, message(alloc, SENT)?);
+    match keepers.push(payee.into_keeper()) {
+        Ok(()) => Ok(keepers),
+        Err(_) => Err(Trouble::Memory),
+    }
+}
+
+#[test]
+fn a_hop_that_nobody_sent_is_a_mismatch(rt: HostRuntime) -> Result<(), Fail> {
+    let keepers = without_sender(rt.alloc())?;
+    let mismatch = CloseFault::Mismatch {
+        server: server(1)?,
+        place: 0,
+    };
+    let ended = fault_after(rt, rt.alloc(), PAYMENT, keepers, &[]);
+    assert!(rt; ended == Ok((true, Some(mismatch))));
+    Ok(())
+}
+
+/// The first of three sessions, and the third. The second is let go.
+fn two_of_three<R: Wait, K: Keeper, G: Gate>(
+    rt: &R,
+    alloc: Global,
+    front: &Front<K, G>,
+) -> Result<Vec<Session>, Memory> {
+    let mut sessions = Vec::new(alloc);
+    sessions.push(front.session(rt, alloc).ok_or(Memory)?)?;
+    let _ = front.session(rt, alloc);
+    sessions.push(front.session(rt, alloc).ok_or(Memory)?)?;
+    Ok(sessions)
+}
+
+/// Why a cluster over these keepers doesn't close without its second session.
+fn fault_without_second<
+    R: Threads + Wait + Clock + Copy + Send + 'static,
+    K: Keeper + Send + Drop + 'static,
+>(rt: R, alloc: Global, keepers: Vec<K>) -> Result<Option<CloseFault>, Trouble> {
+    let set = set_of(alloc, PUTS)?;
+    let cluster = Cluster::start(rt, alloc, &set, keepers, OpenGate)?;
+    let sessions = match two_of_three(&rt, alloc, cluster.front()) {
+        Ok(sessions) => sessions,
+        Err(Memory) => Vec::new(alloc),
+    };
+    Ok(cluster.close(&rt, alloc, sessions).err())
+}
+
+#[test]
+fn a_session_that_is_kept_back_is_absent(rt: HostRuntime) -> Result<(), Fail> {
+    let keepers = empty(rt.alloc(), 2)?;
+    let absent = CloseFault::Absent { session: 1 };
+    assert!(rt; fault_without_second(rt, rt.alloc(), keepers) == Ok(Some(absent)));
+    Ok(())
+}
+
+/// A session of another cluster, which was told a begin, is handed in at one whose servers began nothing.
+fn fault_of_stranger<
+    R: Threads + Wait + Clock + Copy + Send + 'static,
+    K: Keeper + Send + Drop + 'static,
+>(rt: R, alloc: Global, one: Vec<K>, other: Vec<K>) -> Result<Option<CloseFault>, Trouble> {
+    let set = set_of(alloc, PUTS)?;
+    let first = Cluster::start(rt, alloc, &set, one, OpenGate)?;
+    let asked = PUTS_AT_A_STOP.split_at(1).0;
+    let told = talked(&rt, alloc, first.front(), asked);
+    let _ = first.close(&rt, alloc, Vec::new(alloc));
+    let (strangers, _) = told?;
+    let second = Cluster::start(rt, alloc, &set, other, OpenGate)?;
+    Ok(second.close(&rt, alloc, strangers).err())
+}
+
+#[test]
+fn what_another_cluster_told_does_not_stand(rt: HostRuntime) -> Result<(), Fail> {
+    let (one, other) = (empty(rt.alloc(), 2)?, empty(rt.alloc(), 2)?);
+    let told = CloseFault::Told {
+        session: 0,
+        place: 0,
+    };
+    assert!(rt; fault_of_stranger(rt, rt.alloc(), one, other) == Ok(Some(told)));
+    Ok(())
+}

@@ -1,0 +1,140 @@
+//! Servers that stand in for a worker's own: one owes messages to the other, and all is marked down.
+use lynx_cluster::{Due, Owed, Receipt, Steps, Waking, Worker};
+use lynx_entry::Message;
+use lynx_link::links;
+use lynx_names::{ChainId, Memory, ServerId};
+use lynx_samples::made::message;
+use lynx_samples::parts::MessageParts;
+use std::alloc::Global;
+use std::sync::Wait;
+use std::sync::atomic::{AtomicU64, Ordering};
+
+/// The length of a history.
+const LEN: u64 = 64;
+
+/// What a server owes and what came to it. A set of chains is a number that has a bit for each.
+#[derive(Drop)]
+pub struct Board {
+    /// Chains whose messages it owes server 1, each by the entry at the place of its number.
+    pub owed: AtomicU64,
+    /// Chains whose next message it lets drop.
+    pub dropping: AtomicU64,
+    /// Chains whose messages it always lets drop.
+    pub deaf: AtomicU64,
+    /// Chains of server 0 whose messages it holds, to be woken.
+    pub held: AtomicU64,
+    /// Chains whose hop was done here.
+    pub done: AtomicU64,
+    /// How many messages came.
+    pub came: AtomicU64,
+}
+
+impl Board {
+    /// A server that owes these, and drops, holds and did nothing.
+    pub fn owing(chains: u64) -> Board {
+        Board {
+            owed: AtomicU64::new(chains),
+            dropping: AtomicU64::new(0),
+            deaf: AtomicU64::new(0),
+            held: AtomicU64::new(0),
+            done: AtomicU64::new(0),
+            came: AtomicU64::new(0),
+        }
+    }
+}
+
+/// The bit of a chain.
+fn bit(chain: u64) -> u64 {
+    match u32::try_from(chain) {
+        Ok(shift) => 1u64.checked_shl(shift).unwrap_or(0),
+        Err(_) => 0,
+    }
+}
+
+/// The message of a chain's second hop, and that it is for server 1.
+fn due(alloc: Global, place: u64) -> Result<Due, Memory> {
+    let parts = MessageParts {
+        origin: 0,
+        index: place,
+        program: 0,
+        hop: 1,
+        time: 1,
+        args: &[],
+        numbers: &[],
+        results: &[],
+    };
+    Ok(Due {
+        place,
+        to: ServerId::new(1).ok_or(Memory)?,
+        message: message(alloc, parts)?,
+    })
+}
+
+/// The steps of a server that stands in.
+#[derive(Drop)]
+pub struct Fake<'a> {
+    board: &'a Board,
+}
+
+impl<'a> Steps for Fake<'a> {
+    fn owed<R: Wait>(&self, _rt: &R, alloc: Global, from: u64) -> Owed {
+        let chains = self.board.owed.load(Ordering::SeqCst);
+        for place in from..LEN {
+            if chains & bit(place) != 0 {
+                return match due(alloc, place) {
+                    Ok(due) => Owed::Message(due),
+                    Err(Memory) => Owed::Unknown,
+                };
+            }
+        }
+        Owed::Nothing { len: LEN }
+    }
+
+    fn deliver<R: Wait>(&self, _rt: &R, _alloc: Global, message: Message) -> bool {
+        let chain = bit(message.chain.index);
+        self.board.came.fetch_add(1, Ordering::SeqCst);
+        let dropping = self.board.dropping.fetch_and(!chain, Ordering::SeqCst);
+        if (dropping | self.board.deaf.load(Ordering::SeqCst)) & chain != 0 {
+            return false;
+        }
+        self.board.done.fetch_or(chain, Ordering::SeqCst);
+        true
+    }
+
+    fn acknowledge<R: Wait>(&self, _rt: &R, chain: ChainId, hop: u8) {
+        if hop == 1 {
+            self.board
+                .owed
+                .fetch_and(!bit(chain.index), Ordering::SeqCst);
+        }
+    }
+
+    fn wake<R: Wait>(&self, _rt: &R, _alloc: Global) -> Waking {
+        let held = self.board.held.load(Ordering::SeqCst);
+        for index in 0..LEN {
+            if held & bit(index) != 0 {
+                self.board.held.fetch_and(!bit(index), Ordering::SeqCst);
+                self.board.done.fetch_or(bit(index), Ordering::SeqCst);
+                let to = ServerId::first();
+                let chain = ChainId { origin: to, index };
+                return Waking::Woke(Some(Receipt { to, chain, hop: 1 }));
+            }
+        }
+        Waking::Idle
+    }
+}
+
+/// The workers of two servers that stand in, joined by links.
+pub fn workers<'a>(
+    alloc: Global,
+    sender: &'a Board,
+    receiver: &'a Board,
+) -> Result<(Worker<Fake<'a>>, Worker<Fake<'a>>), Memory> {
+    let mut ends = links(alloc, 2)?.into_iter();
+    let first = ends.next().ok_or(Memory)?;
+    let second = ends.next().ok_or(Memory)?;
+    Ok((
+        Worker::new(Fake { board: sender }, first, 2),
+        Worker::new(Fake { board: receiver }, second, 2),
+    ))
+}

@@ -1,0 +1,32 @@
+//! Tests of a running cluster: the worked sessions, two threads inside two servers at once, why a cluster doesn't start
+//! or close, a worker over a server that stands in, and many begins.
+#![tactic(auto)]
+
+#[cfg(test)]
+mod busy;
+#[cfg(test)]
+mod clients;
+#[cfg(test)]
+mod closes;
+#[cfg(test)]
+mod crossing;
+#[cfg(test)]
+mod fake;
+#[cfg(test)]
+mod keepers;
+#[cfg(test)]
+mod loads;
+#[cfg(test)]
+mod meetings;
+#[cfg(test)]
+mod sessions;
+#[cfg(test)]
+mod starts;
+#[cfg(test)]
+mod talk;
+#[cfg(test)]
+mod texts;
+#[cfg(test)]
+mod trouble;
+#[cfg(test)]
+mod workers;

@@ -1,0 +1,120 @@
+//! Workers, turn by turn in one thread.
+use crate::fake::{Board, Fake, workers};
+use lynx_cluster::{RESEND_MILLIS, Worker};
+use lynx_names::Memory;
+use std::alloc::Global;
+use std::sync::Wait;
+use std::sync::atomic::Ordering;
+use std::thread;
+use std::time::{Clock, Duration, Instant};
+
+/// What a worker's first turns do.
+#[derive(Clone, Copy, Debug, PartialEq, Eq)]
+struct Turns {
+    sends: bool,
+    delivers: bool,
+    hears: bool,
+    sends_more: bool,
+    delivers_more: bool,
+}
+
+/// Turns of a server that owes three messages and of the one that they are for: what they answer, what was done and what
+/// is owed then.
+fn first_turns<R: Wait + Clock>(rt: &R, alloc: Global) -> Result<(Turns, u64, u64), Memory> {
+    let (payer, payee) = (Board::owing(0b111), Board::owing(0));
+    let (mut sender, mut receiver) = workers(alloc, &payer, &payee)?;
+    let turns = Turns {
+        sends: sender.turn(rt, alloc),
+        delivers: receiver.turn(rt, alloc),
+        hears: sender.turn(rt, alloc),
+        sends_more: sender.turn(rt, alloc),
+        delivers_more: receiver.turn(rt, alloc),
+    };
+    let done = payee.done.load(Ordering::SeqCst);
+    Ok((turns, done, payer.owed.load(Ordering::SeqCst)))
+}
+
+#[test]
+fn a_turn_sends_delivers_and_acknowledges(rt: HostRuntime) {
+    let turns = Turns {
+        sends: true,
+        delivers: true,
+        hears: true,
+        sends_more: false,
+        delivers_more: false,
+    };
+    assert!(rt; first_turns(&rt, rt.alloc()) == Ok((turns, 0b111, 0)));
+}
+
+/// A turn of each after another, two milliseconds after the last.
+fn turn_both<R: Wait + Clock>(
+    rt: &R,
+    alloc: Global,
+    sender: &mut Worker<Fake<'_>>,
+    receiver: &mut Worker<Fake<'_>>,
+) {
+    thread::sleep(rt, Duration::from_millis(2));
+    sender.turn(rt, alloc);
+    receiver.turn(rt, alloc);
+}
+
+/// Which messages of four were done first, where the receiver drops the first one, and which after four turns more.
+fn done_around<R: Wait + Clock>(rt: &R, alloc: Global) -> Result<(u64, u64), Memory> {
+    let (payer, payee) = (Board::owing(0b1111), Board::owing(0));
+    payee.dropping.store(0b1, Ordering::SeqCst);
+    let (mut sender, mut receiver) = workers(alloc, &payer, &payee)?;
+    turn_both(rt, alloc, &mut sender, &mut receiver);
+    let first = payee.done.load(Ordering::SeqCst);
+    for _ in 0..4 {
+        turn_both(rt, alloc, &mut sender, &mut receiver);
+    }
+    Ok((first, payee.done.load(Ordering::SeqCst)))
+}
+
+#[test]
+fn what_was_dropped_comes_again_soon(rt: HostRuntime) {
+    assert!(rt; done_around(&rt, rt.alloc()) == Ok((0b1110, 0b1111)));
+}
+
+/// How often a message comes that is never acknowledged, in 200 turns, and how often it may: each 100 milliseconds twice,
+/// and eight times at the beginning.
+fn times_unheard<R: Wait + Clock>(rt: &R, alloc: Global) -> Result<(u64, u64), Memory> {
+    let (payer, payee) = (Board::owing(0b1), Board::owing(0));
+    payee.deaf.store(0b1, Ordering::SeqCst);
+    let (mut sender, mut receiver) = workers(alloc, &payer, &payee)?;
+    let begun = Instant::now(rt).map_err(|_| Memory)?;
+    for _ in 0..200 {
+        turn_both(rt, alloc, &mut sender, &mut receiver);
+    }
+    let elapsed = begun.elapsed(rt).map_err(|_| Memory)?;
+    let passes = u64::try_from(elapsed.as_millis()).unwrap_or(u64::MAX) / RESEND_MILLIS;
+    let most = passes.saturating_mul(2).saturating_add(10);
+    Ok((payee.came.load(Ordering::SeqCst), most))
+}
+
+/// Whether it comes as often as it may, and more than each 100 milliseconds once.
+fn is_seldom_sent<R: Wait + Clock>(rt: &R, alloc: Global) -> Result<bool, Memory> {
+    let (came, most) = times_unheard(rt, alloc)?;
+    Ok(5 < came && came <= most)
+}
+
+#[test]
+fn what_nobody_acknowledges_comes_ever_more_seldom(rt: HostRuntime) {
+    assert!(rt; is_seldom_sent(&rt, rt.alloc()) == Ok(true));
+}
+
+/// What is owed after the receiver woke the message of chain 5, and after the sender heard of it.
+fn owed_around_wake<R: Wait + Clock>(rt: &R, alloc: Global) -> Result<(u64, u64), Memory> {
+    let (payer, payee) = (Board::owing(0b10_0000), Board::owing(0));
+    payee.held.store(0b10_0000, Ordering::SeqCst);
+    let (mut sender, mut receiver) = workers(alloc, &payer, &payee)?;
+    receiver.turn(rt, alloc);
+    let first = payer.owed.load(Ordering::SeqCst);
+    sender.turn(rt, alloc);
+    Ok((first, payer.owed.load(Ordering::SeqCst)))
+}
+
+#[test]
+fn what_is_woken_is_acknowledged(rt: HostRuntime) {
+    assert!(rt; owed_around_wake(&rt, rt.alloc()) == Ok((0b10_0000, 0)));
+}

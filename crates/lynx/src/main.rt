@@ -4,10 +4,11 @@
 use clap::error::ErrorKind;
 use clap::{ArgMatches, Error};
 use lynx_command::{CommandFault, command, job_of};
+use lynx_files::Files;
 use lynx_jobs::{Fault, do_job};
 use lynx_keep::Keeper;
 use lynx_run::RunFault;
-use lynx_stores::{FileStores, Stores};
+use lynx_stores::Stores;
 use std::env;
 use std::io::{self, IsTerminal};
 use std::net::{Net, TcpListener, TcpStream};
@@ -115,7 +116,7 @@ fn main(rt: HostRuntime) -> ExitCode {
             if words.len() < 2 && rt.stdin().is_terminal() {
                 prompt(&rt);
             }
-            obey(&rt, rt, &FileStores::new(rt), words.as_slice())
+            obey(&rt, rt, &Files::new(rt), words.as_slice())
         }
         Err(fault) => report(&rt, &fault),
     };

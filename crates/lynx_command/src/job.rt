@@ -8,15 +8,35 @@ use thiserror::Error;
 #[derive(Clone, Copy, Debug, PartialEq, Eq)]
 pub enum Job<'a> {
     /// Judge the set of a file.
-    Check { set: &'a str },
+    Check {
+        set: &'a str,
+    },
     /// Draw the set of a file, with the verdict on it.
-    Draw { set: &'a str },
+    Draw {
+        set: &'a str,
+    },
     /// Run the script of the second file over the set of the first.
-    Run { set: &'a str, script: &'a str },
+    Run {
+        set: &'a str,
+        script: &'a str,
+    },
     /// Run the script of standard input over the set that stands before it.
     RunInput,
     /// List what a store holds.
-    Show { store: &'a str },
+    Show {
+        store: &'a str,
+    },
+    /// Serve clients at the port, over the stores of the set's servers in the folder.
+    Serve {
+        set: &'a str,
+        folder: &'a str,
+        port: u16,
+    },
+    /// Ask the service at the port what the lines of standard input ask.
+    Ask {
+        set: &'a str,
+        port: u16,
+    },
 }
 
 /// Words that ask for nothing, though the parser takes them or never sees them.

@@ -4,12 +4,12 @@ ghost use Rattle.clap.specs.Matches.{subcommand_name_of};
 ghost use Rattle.lynx_command.specs.Jobs.{AskedBy};
 
 use crate::job::{CommandFault, INPUT, Job, job_of_run};
-use clap::{Arg, ArgMatches, Command};
+use clap::{Arg, ArgMatches, Command, value_parser};
 use std::alloc::{AllocError, Global};
 
 /// The statuses that the program ends with, and the words of faults, as the help tells them.
 const STATUSES: &str =
-    "Statuses:\n  0  done: the set is accepted, an order explains the run\n  1  the set offends, or the run ends with a cycle\n  2  faulty words or a faulty text\n  3  out of memory\n  4  something can't be read or written";
+    "Statuses:\n  0  done: the set is accepted, an order explains the run\n  1  the set offends, or the run ends with a cycle\n  2  faulty words or a faulty text\n  3  out of memory\n  4  a file, a store, a socket or a thread fails, or the audit at the end of a service";
 
 const FAULTS: &str =
     "A faulty text is told with its line and one of these words: too-long, bad-version, bad-line,\nbad-name, bad-number, repeated, unknown, need-not-first, limit-passed, literal-elsewhere,\nshard-gap, shard-overlap, shard-server.";
@@ -63,11 +63,45 @@ fn show_command<'a>(alloc: Global) -> Result<Command<'a>, AllocError> {
         .arg(store)
 }
 
+/// The port of a service.
+fn port<'a>(alloc: Global) -> Arg<'a> {
+    Arg::new(alloc, "PORT")
+        .required(true)
+        .value_parser(value_parser!(u16).range(1..=65535))
+        .help("The port of 127.0.0.1, 1 to 65535")
+}
+
+fn serve_command<'a>(alloc: Global) -> Result<Command<'a>, AllocError> {
+    let folder = Arg::new(alloc, "DIR").required(true).help(
+        "The folder of the stores, server-0.lynx and so on; those that aren't there are made",
+    );
+    Command::new(alloc, "serve")
+        .about("Serve clients at a port, over the stores of a folder, until one asks for the end")
+        .after_help(
+            "An offending set is refused as by check, and nothing is opened. The end checks all that clients were\ntold. Clients: lynx ask, clients/python/lynx.py; docs/FORMATS.md has the bytes.\nExample: lynx serve payment.set stores 7000",
+        )
+        .arg(set_file(alloc))?
+        .arg(folder)?
+        .arg(port(alloc))
+}
+
+fn ask_command<'a>(alloc: Global) -> Result<Command<'a>, AllocError> {
+    Command::new(alloc, "ask")
+        .about("Ask a service what the lines of standard input ask, and print its answers")
+        .after_help(
+            "Lines:\n  begin CLIENT NUMBER PROGRAM ARG..  begin a chain; the same CLIENT and NUMBER never begin two\n  look ORIGIN:INDEX HOP              whether that hop of a chain is done, and its results\n  quit                               leave, as the end of the input does\n  shut                               have the service end\nExample: echo 'begin 1 1 pay 30' | lynx ask payment.set 7000",
+        )
+        .arg(set_file(alloc))?
+        .arg(port(alloc))
+}
+
 /// The program without its commands.
 fn bare_command<'a>(alloc: Global) -> Command<'a> {
     Command::new(alloc, "lynx")
         .version("0.1.0")
-        .about("Judges and draws sets of chain programs, runs scripts over them, and lists stores")
+        .about(
+            "Judges, draws and runs sets of chain programs, serves them to clients, and lists stores",
+        )
         .before_help(FAULTS)
         .after_help(STATUSES)
 }
@@ -88,11 +122,25 @@ fn with_show<'a>(alloc: Global, command: Command<'a>) -> Result<Command<'a>, All
     command.subcommand(show_command(alloc)?)
 }
 
+fn with_serve<'a>(alloc: Global, command: Command<'a>) -> Result<Command<'a>, AllocError> {
+    command.subcommand(serve_command(alloc)?)
+}
+
+fn with_ask<'a>(alloc: Global, command: Command<'a>) -> Result<Command<'a>, AllocError> {
+    command.subcommand(ask_command(alloc)?)
+}
+
 /// The program's command line. No words at all are read as `run -`.
 pub fn command<'a>(alloc: Global) -> Result<Command<'a>, AllocError> {
     let command = with_check(alloc, bare_command(alloc))?;
     let command = with_run(alloc, with_draw(alloc, command)?)?;
-    with_show(alloc, command)
+    let command = with_serve(alloc, with_show(alloc, command)?)?;
+    with_ask(alloc, command)
+}
+
+/// The number of the port. The parser lets no other words through.
+fn port_of(words: &ArgMatches<'_>) -> u16 {
+    words.get_one("PORT").unwrap_or_default()
 }
 
 /// What the words ask for.
@@ -110,6 +158,15 @@ pub fn job_of<'a>(matches: &ArgMatches<'a>) -> Result<Job<'a>, CommandFault>
         "run" => job_of_run(set, words.get_str("SCRIPT")),
         "show" => Ok(Job::Show {
             store: words.get_str("STORE").unwrap_or(INPUT),
+        }),
+        "serve" => Ok(Job::Serve {
+            set,
+            folder: words.get_str("DIR").unwrap_or(INPUT),
+            port: port_of(words),
+        }),
+        "ask" => Ok(Job::Ask {
+            set,
+            port: port_of(words),
         }),
         _ => Err(CommandFault::NoCommand),
     }

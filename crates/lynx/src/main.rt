@@ -1,15 +1,22 @@
-//! `lynx`: judges and draws sets of chain programs, runs scripts over them, and lists stores.
+//! `lynx`: judges, draws and runs sets of chain programs, serves them to clients, and lists stores.
 #![tactic(auto)]
 
 use clap::error::ErrorKind;
 use clap::{ArgMatches, Error};
 use lynx_command::{CommandFault, command, job_of};
+use lynx_files::Files;
 use lynx_jobs::{Fault, do_job};
+use lynx_keep::Keeper;
 use lynx_run::RunFault;
+use lynx_stores::Stores;
 use std::env;
 use std::io::{self, IsTerminal};
+use std::net::{Net, TcpListener, TcpStream};
 use std::process::ExitCode;
 use std::rt::Env;
+use std::sync::Wait;
+use std::thread::Threads;
+use std::time::Clock;
 
 /// The status of faulty words.
 const BAD_WORDS: u8 = 2;
@@ -59,25 +66,47 @@ fn prompt<R: Eprint>(rt: &R) {
 }
 
 /// Does what the matched words ask for, and gives the status.
-fn do_matches(rt: &HostRuntime, matches: &ArgMatches) -> u8 {
+fn do_matches<
+    R: Threads
+        + Wait
+        + Clock
+        + Net<Listener = TcpListener, Stream = TcpStream>
+        + Copy
+        + Send
+        + Sync
+        + 'static,
+    K: Keeper + Send + Drop + 'static,
+    S: Stores<K>,
+>(host: &HostRuntime, rt: R, stores: &S, matches: &ArgMatches) -> u8 {
     let done = match job_of(matches) {
-        Ok(job) => do_job(rt, job),
+        Ok(job) => do_job(host, rt, stores, job),
         Err(fault) => Err(Fault::Command(fault)),
     };
     match done {
         Ok(status) => status,
-        Err(fault) => report(rt, &fault),
+        Err(fault) => report(host, &fault),
     }
 }
 
 /// Does what the words ask for, and gives the status.
-fn obey(rt: &HostRuntime, words: &[String]) -> u8 {
-    let Ok(command) = command(rt.alloc()) else {
-        return report(rt, &Fault::Run(RunFault::Memory));
+fn obey<
+    R: Threads
+        + Wait
+        + Clock
+        + Net<Listener = TcpListener, Stream = TcpStream>
+        + Copy
+        + Send
+        + Sync
+        + 'static,
+    K: Keeper + Send + Drop + 'static,
+    S: Stores<K>,
+>(host: &HostRuntime, rt: R, stores: &S, words: &[String]) -> u8 {
+    let Ok(command) = command(host.alloc()) else {
+        return report(host, &Fault::Run(RunFault::Memory));
     };
     match command.try_get_matches_from(words) {
-        Ok(matches) => do_matches(rt, &matches),
-        Err(said) => print_help(rt, &said),
+        Ok(matches) => do_matches(host, rt, stores, &matches),
+        Err(said) => print_help(host, &said),
     }
 }
 
@@ -87,7 +116,7 @@ fn main(rt: HostRuntime) -> ExitCode {
             if words.len() < 2 && rt.stdin().is_terminal() {
                 prompt(&rt);
             }
-            obey(&rt, words.as_slice())
+            obey(&rt, rt, &Files::new(rt), words.as_slice())
         }
         Err(fault) => report(&rt, &fault),
     };

@@ -11,7 +11,7 @@ use Rattle.lynx_run.specs.Checks.{BeginsFinding, NoVerdictFor}
 use Rattle.lynx_run.specs.Drawings.{BeginsPicture, NoPictureFor}
 use Rattle.lynx_run.specs.Runs.{StopsFor}
 use Rattle.lynx_jobs.specs.declared.fault.Fault.{Fault}
-use Rattle.lynx_jobs.specs.declared.fault.Fault.TheVariants.{Command, NoSeparator, Unread, Run, Store}
+use Rattle.lynx_jobs.specs.declared.fault.Fault.TheVariants.{Ask, Command, NoSeparator, Unread, Run, Serve, Store}
 use Rattle.lynx_jobs.specs.Stopped.{IsFront, StopsChecking, StopsDrawing, StopsReading, StopsRun, StopsRunTexts}
 
 -- every source has a front
@@ -30,6 +30,8 @@ check_unread (Err (Run fault)) source name old wanting =
 check_unread (Err NoSeparator) source name old never = absurd never
 check_unread (Err (Command fault)) source name old never = absurd never
 check_unread (Err (Store fault)) source name old never = absurd never
+check_unread (Err (Serve fault)) source name old never = absurd never
+check_unread (Err (Ask fault)) source name old never = absurd never
 
 pub drawing_unread : (result : Result ℕ Fault) (source : Option (List ℕ)) (name : List ℕ) (old : Option (List ℕ)) → IfErr result (StopsReading name) →
     IfErr result (StopsDrawing source name old old)
@@ -41,6 +43,8 @@ drawing_unread (Err (Run fault)) source name old wanting =
 drawing_unread (Err NoSeparator) source name old never = absurd never
 drawing_unread (Err (Command fault)) source name old never = absurd never
 drawing_unread (Err (Store fault)) source name old never = absurd never
+drawing_unread (Err (Serve fault)) source name old never = absurd never
+drawing_unread (Err (Ask fault)) source name old never = absurd never
 
 -- two sources, one of which wasn't read
 run_wanting : (set script : Option (List ℕ)) (old : Option (List ℕ)) (fault : RunFault) → fault ≡ Memory →
@@ -59,6 +63,8 @@ run_without_set (Err (Run fault)) set set_name script script_name old wanting = 
 run_without_set (Err NoSeparator) set set_name script script_name old never = absurd never
 run_without_set (Err (Command fault)) set set_name script script_name old never = absurd never
 run_without_set (Err (Store fault)) set set_name script script_name old never = absurd never
+run_without_set (Err (Serve fault)) set set_name script script_name old never = absurd never
+run_without_set (Err (Ask fault)) set set_name script script_name old never = absurd never
 
 pub run_without_script : (result : Result ℕ Fault) (set : Option (List ℕ)) (set_name : List ℕ) (script : Option (List ℕ)) (script_name : List ℕ) (old : Option (List ℕ)) →
     IfErr result (StopsReading script_name) → IfErr result (StopsRun set set_name script script_name old old)
@@ -68,6 +74,8 @@ run_without_script (Err (Run fault)) set set_name script script_name old wanting
 run_without_script (Err NoSeparator) set set_name script script_name old never = absurd never
 run_without_script (Err (Command fault)) set set_name script script_name old never = absurd never
 run_without_script (Err (Store fault)) set set_name script script_name old never = absurd never
+run_without_script (Err (Serve fault)) set set_name script script_name old never = absurd never
+run_without_script (Err (Ask fault)) set set_name script script_name old never = absurd never
 
 -- a source that was read
 read_front : (limit : ℕ) (source : Option (List ℕ)) (read slice : List ℕ) → IsFront limit source read → slice ≡ read → IsFront limit source slice
@@ -98,6 +106,8 @@ run_stops (Err (Unread shown)) set set_name script script_name set_read script_r
 run_stops (Err NoSeparator) set set_name script script_name set_read script_read set_slice script_slice old new set_is script_is s t stops = absurd stops
 run_stops (Err (Command fault)) set set_name script script_name set_read script_read set_slice script_slice old new set_is script_is s t stops = absurd stops
 run_stops (Err (Store fault)) set set_name script script_name set_read script_read set_slice script_slice old new set_is script_is s t stops = absurd stops
+run_stops (Err (Serve fault)) set set_name script script_name set_read script_read set_slice script_slice old new set_is script_is s t stops = absurd stops
+run_stops (Err (Ask fault)) set set_name script script_name set_read script_read set_slice script_slice old new set_is script_is s t stops = absurd stops
 
 -- an input without a separator
 pub input_uncut : (source : Option (List ℕ)) (read slice : List ℕ) (old : Option (List ℕ)) → IsFront MAX_INPUT_BYTES source read → slice ≡ read → HasNoCut slice →

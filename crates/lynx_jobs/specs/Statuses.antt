@@ -1,12 +1,19 @@
 -- The exit statuses.
 use Rattle.std.specs.Prelude.{ℕ, Bool, false, Result, Ok, Err}
 use Rattle.lynx_jobs.specs.declared.fault.Fault.{Fault}
-use Rattle.lynx_jobs.specs.declared.fault.Fault.TheVariants.{Command, NoSeparator, Unread, Run, Store}
+use Rattle.lynx_jobs.specs.declared.fault.Fault.TheVariants.{Ask, Command, NoSeparator, Unread, Run, Serve, Store}
+use Rattle.lynx_ask.specs.declared.fault.AskFault.{AskFault}
+use Rattle.lynx_ask.specs.declared.fault.AskFault.TheVariants.{Line}
 use Rattle.lynx_run.specs.declared.run.RunFault.TheVariants.{Set as SetFault, Script as ScriptFault, Write, Memory}
 use Rattle.lynx_run.specs.declared.run.Ending.{Ending}
 use Rattle.lynx_run.specs.declared.run.Ending.TheVariants.{Ordered, Cyclic}
 use Rattle.lynx_run.specs.declared.verdict.Finding.{Finding}
 use Rattle.lynx_run.specs.declared.verdict.Finding.TheVariants.{Accepted, Offending}
+
+-- of asking a service: 2 for a line that asks for nothing that there is
+abbrev pub status_of_asking : AskFault → ℕ
+status_of_asking (Line fault) = 2
+status_of_asking fault = 4
 
 -- 2: the words or a text. 3: want of memory. 4: what can't be read or written
 abbrev pub status_of : Fault → ℕ
@@ -18,6 +25,8 @@ status_of (Run (ScriptFault fault)) = 2
 status_of (Run Write) = 4
 status_of (Run Memory) = 3
 status_of (Store fault) = 4
+status_of (Serve fault) = 4
+status_of (Ask fault) = status_of_asking fault
 
 -- of a check and of a picture: 0 where the set is accepted, 1 where it offends
 abbrev pub status_of_finding : Finding → ℕ

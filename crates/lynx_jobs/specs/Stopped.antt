@@ -9,7 +9,7 @@ use Rattle.lynx_run.specs.Drawings.{BeginsPicture, NoPictureFor}
 use Rattle.lynx_run.specs.Runs.{StopsFor}
 use Rattle.lynx_run.specs.Written.{WritesPart}
 use Rattle.lynx_jobs.specs.declared.fault.Fault.{Fault}
-use Rattle.lynx_jobs.specs.declared.fault.Fault.TheVariants.{Command, NoSeparator, Unread, Run, Store}
+use Rattle.lynx_jobs.specs.declared.fault.Fault.TheVariants.{Ask, Command, NoSeparator, Unread, Run, Serve, Store}
 
 -- what is read of a source, up to a limit, where the source's bytes are known
 abbrev pub IsFront : ℕ → Option (List ℕ) → List ℕ → Type 0
@@ -22,6 +22,8 @@ StopsReading name (Run fault) = fault ≡ Memory
 StopsReading name NoSeparator = ⊥
 StopsReading name (Command fault) = ⊥
 StopsReading name (Store fault) = ⊥
+StopsReading name (Serve fault) = ⊥
+StopsReading name (Ask fault) = ⊥
 
 -- a check: the source of this name can't be read, and nothing is written; or the text that was read has no verdict, or
 -- memory or the writer fails, and nothing is written or a beginning of the verdict
@@ -32,6 +34,8 @@ StopsChecking source name old new (Run fault) =
 StopsChecking source name old new NoSeparator = ⊥
 StopsChecking source name old new (Command fault) = ⊥
 StopsChecking source name old new (Store fault) = ⊥
+StopsChecking source name old new (Serve fault) = ⊥
+StopsChecking source name old new (Ask fault) = ⊥
 
 -- a drawing: the same of the picture, and where memory is wanting nothing is written
 abbrev pub StopsDrawing : Option (List ℕ) → List ℕ → Option (List ℕ) → Option (List ℕ) → Fault → Type 0
@@ -41,6 +45,8 @@ StopsDrawing source name old new (Run fault) =
 StopsDrawing source name old new NoSeparator = ⊥
 StopsDrawing source name old new (Command fault) = ⊥
 StopsDrawing source name old new (Store fault) = ⊥
+StopsDrawing source name old new (Serve fault) = ⊥
+StopsDrawing source name old new (Ask fault) = ⊥
 
 -- a run of this script over this set: one of them is faulty, and nothing is written; or memory or the writer fails, and
 -- nothing is written or a beginning of the run's lines
@@ -50,6 +56,8 @@ StopsRunTexts set script old new (Unread shown) = ⊥
 StopsRunTexts set script old new NoSeparator = ⊥
 StopsRunTexts set script old new (Command fault) = ⊥
 StopsRunTexts set script old new (Store fault) = ⊥
+StopsRunTexts set script old new (Serve fault) = ⊥
+StopsRunTexts set script old new (Ask fault) = ⊥
 
 -- a run of two sources: one of them can't be read, and nothing is written; or the run of what was read of them stops
 abbrev pub StopsRun : Option (List ℕ) → List ℕ → Option (List ℕ) → List ℕ → Option (List ℕ) → Option (List ℕ) → Fault → Type 0
@@ -61,6 +69,8 @@ StopsRun set set_name script script_name old new (Run fault) =
 StopsRun set set_name script script_name old new NoSeparator = ⊥
 StopsRun set set_name script script_name old new (Command fault) = ⊥
 StopsRun set set_name script script_name old new (Store fault) = ⊥
+StopsRun set set_name script script_name old new (Serve fault) = ⊥
+StopsRun set set_name script script_name old new (Ask fault) = ⊥
 
 -- a run of an input: it can't be read, or memory is wanting for it, or no line of it is `--`, and nothing is written;
 -- or the run of its two parts stops
@@ -74,3 +84,5 @@ StopsRunInput source name old new (Run fault) =
     × StopsRunTexts set script old new (Run fault))
 StopsRunInput source name old new (Command fault) = ⊥
 StopsRunInput source name old new (Store fault) = ⊥
+StopsRunInput source name old new (Serve fault) = ⊥
+StopsRunInput source name old new (Ask fault) = ⊥

@@ -3,9 +3,11 @@ ghost use Rattle.std.specs.Prelude.{◌≡◌};
 ghost use Rattle.lynx_jobs.specs.Statuses.{status_of};
 
 use crate::shown::Shown;
+use lynx_ask::AskFault;
 use lynx_command::CommandFault;
 use lynx_input::InputFault;
 use lynx_run::RunFault;
+use lynx_serve::ServeFault;
 use lynx_show::ShowFault;
 use thiserror::Error;
 
@@ -26,6 +28,12 @@ pub enum Fault<'a> {
     /// A store that can't be listed.
     #[error("store: {0}")]
     Store(ShowFault),
+    /// A service that didn't begin, or didn't end well; never for want of memory or a writer.
+    #[error("{0}")]
+    Serve(ServeFault),
+    /// Asking a service stopped; never for want of memory or a writer.
+    #[error("{0}")]
+    Ask(AskFault),
 }
 
 impl<'a> Fault<'a> {
@@ -53,6 +61,30 @@ impl<'a> Fault<'a> {
         }
     }
 
+    /// The fault of a service.
+    pub fn of_serving(fault: ServeFault) -> Fault<'a>
+        ensures write { fault ≡ ServeFault.Write → result ≡ Fault.Run RunFault.Write }
+        ensures memory { fault ≡ ServeFault.Memory → result ≡ Fault.Run RunFault.Memory }
+    {
+        match fault {
+            ServeFault::Write => Fault::Run(RunFault::Write),
+            ServeFault::Memory => Fault::Run(RunFault::Memory),
+            fault => Fault::Serve(fault),
+        }
+    }
+
+    /// The fault of asking a service.
+    pub fn of_asking(fault: AskFault) -> Fault<'a>
+        ensures write { fault ≡ AskFault.Write → result ≡ Fault.Run RunFault.Write }
+        ensures memory { fault ≡ AskFault.Memory → result ≡ Fault.Run RunFault.Memory }
+    {
+        match fault {
+            AskFault::Write => Fault::Run(RunFault::Write),
+            AskFault::Memory => Fault::Run(RunFault::Memory),
+            fault => Fault::Ask(fault),
+        }
+    }
+
     /// The exit status: 2 for faulty words or texts, 3 for want of memory, 4 for what can't be read or written.
     pub fn status(&self) -> u8
         ensures { result ≡ status_of self.now }
@@ -61,7 +93,9 @@ impl<'a> Fault<'a> {
             Fault::Command(_) | Fault::NoSeparator => 2,
             Fault::Run(RunFault::Set(_) | RunFault::Script(_)) => 2,
             Fault::Run(RunFault::Memory) => 3,
-            Fault::Unread(_) | Fault::Run(RunFault::Write) | Fault::Store(_) => 4,
+            Fault::Ask(AskFault::Line(_)) => 2,
+            Fault::Unread(_) | Fault::Run(RunFault::Write) => 4,
+            Fault::Store(_) | Fault::Serve(_) | Fault::Ask(_) => 4,
         }
     }
 }

@@ -3,29 +3,55 @@ ghost use Rattle.std.specs.Prelude.{◌≡◌, Ok, Err};
 ghost use Rattle.lynx_jobs.specs.Statuses.{finished_as};
 
 use crate::fault::Fault;
+use crate::serving::{ask_port, serve_file};
 use crate::texts::{DONE, check_source, draw_source, read_text, run_input, run_sources};
 use lynx_command::{INPUT, Job};
 use lynx_input::InputFault;
+use lynx_keep::Keeper;
 use lynx_run::RunFault;
+use lynx_serve::Service;
 use lynx_show::{ShowFault, show_store};
+use lynx_stores::Stores;
 use sqlite::Connection;
 use std::alloc::Global;
 use std::io::{BufWriter, Read, Write};
+use std::net::{Net, TcpListener, TcpStream};
 use std::rt::Files;
+use std::sync::Wait;
+use std::thread::Threads;
+use std::time::Clock;
 use std::{fs, io};
 
-/// Does what the words ask for, and gives the status. Files are read in the order of the words. Output is
-/// written as it fills a buffer, and at the end, also where a fault stops the job.
-pub fn do_job<'a>(rt: &HostRuntime, job: Job<'a>) -> Result<u8, Fault<'a>> {
-    let Ok(mut writer) = BufWriter::new(rt.alloc(), io::writer(rt)) else {
+/// Does what the words ask for, and gives the status. Files and streams are those of `host`, threads and sockets come by
+/// `rt`, which `main` alone can hand out, and a service opens its stores by `stores`. Files are read in the order of the
+/// words. Output is written as it fills a buffer, where somebody waits for it, and at the end, also where a
+/// fault stops the job.
+pub fn do_job<
+    'a,
+    R: Threads
+        + Wait
+        + Clock
+        + Net<Listener = TcpListener, Stream = TcpStream>
+        + Copy
+        + Send
+        + Sync
+        + 'static,
+    K: Keeper + Send + Drop + 'static,
+    S: Stores<K>,
+>(host: &HostRuntime, rt: R, stores: &S, job: Job<'a>) -> Result<u8, Fault<'a>> {
+    let Ok(mut writer) = BufWriter::new(host.alloc(), io::writer(host)) else {
         return Err(Fault::Run(RunFault::Memory));
     };
     let done = match job {
-        Job::Check { set } => check_file(rt, set, &mut writer),
-        Job::Draw { set } => draw_file(rt, set, &mut writer),
-        Job::Run { set, script } => run_files(rt, set, script, &mut writer),
-        Job::RunInput => run_input(rt.alloc(), INPUT, &mut rt.reader(), &mut writer),
-        Job::Show { store } => show_file(rt, store, &mut writer),
+        Job::Check { set } => check_file(host, set, &mut writer),
+        Job::Draw { set } => draw_file(host, set, &mut writer),
+        Job::Run { set, script } => run_files(host, set, script, &mut writer),
+        Job::RunInput => run_input(host.alloc(), INPUT, &mut host.reader(), &mut writer),
+        Job::Show { store } => show_file(host, store, &mut writer),
+        Job::Serve { set, folder, port } => {
+            serve_file(host, rt, stores, set, Service { folder, port }, &mut writer)
+        }
+        Job::Ask { set, port } => ask_port(host, &rt, set, port, &mut writer),
     };
     let flushed = writer.flush().is_ok();
     finished(done, flushed)

@@ -8,5 +8,6 @@ pub use texts::{check_source, draw_source, run_input, run_sources};
 pub mod fault;
 pub mod jobs;
 pub mod laws;
+mod serving;
 pub mod shown;
 pub mod texts;

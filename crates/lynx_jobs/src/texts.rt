@@ -15,7 +15,7 @@ use std::io::{Read, Write};
 pub(crate) const DONE: u8 = 0;
 
 /// The status of an offending set, and of a run that ends with a cycle.
-const OFFENDING: u8 = 1;
+pub(crate) const OFFENDING: u8 = 1;
 
 /// The status of a check and of a picture.
 fn status_of_finding(finding: Finding) -> u8

@@ -1,0 +1,114 @@
+//! Serving clients, and asking a service.
+use crate::fault::Fault;
+use crate::texts::{DONE, OFFENDING, read_text};
+use lynx_ask::{AskFault, ask};
+use lynx_command::INPUT;
+use lynx_input::InputFault;
+use lynx_keep::Keeper;
+use lynx_order::Explained;
+use lynx_run::{Finding, RunFault, check_text};
+use lynx_serve::{Progress, Service, serve_stores};
+use lynx_set::ChainSet;
+use lynx_stores::Stores;
+use lynx_text::parse;
+use lynx_words::FaultKind;
+use std::alloc::Global;
+use std::fs;
+use std::io::{BufReader, Write};
+use std::net::{Ipv4Addr, Net, TcpListener, TcpStream};
+use std::rt::Files;
+use std::sync::Wait;
+use std::thread::Threads;
+use std::time::Clock;
+
+/// The text of a file.
+fn text_of<'a, R: Files + AllocGlobal>(rt: &R, name: &'a str) -> Result<Vec<u8>, Fault<'a>> {
+    let Ok(mut file) = fs::open(rt, name) else {
+        return Err(Fault::of_reading(name, InputFault::Read));
+    };
+    read_text(rt.alloc(), name, &mut file)
+}
+
+/// The set that a text spells.
+fn set_of<'a>(alloc: Global, text: &[u8]) -> Result<ChainSet, Fault<'a>> {
+    match parse(alloc, text) {
+        Ok(set) => Ok(set),
+        Err(fault) if fault.kind == FaultKind::Memory => Err(Fault::Run(RunFault::Memory)),
+        Err(fault) => Err(Fault::Run(RunFault::Set(fault))),
+    }
+}
+
+/// The set of a text, if it is accepted. None where it offends, and then the verdict is written as by a check.
+fn accepted_set<'a, W: Write>(
+    alloc: Global,
+    text: &[u8],
+    writer: &mut W,
+) -> Result<Option<ChainSet>, Fault<'a>> {
+    let mut verdict = Vec::new(alloc);
+    match check_text(alloc, text, &mut verdict) {
+        Ok(Finding::Accepted(_)) => Ok(Some(set_of(alloc, text)?)),
+        Ok(Finding::Offending) => match lynx_io::write_bytes(writer, verdict.as_slice()) {
+            Ok(()) => Ok(None),
+            Err(_) => Err(Fault::Run(RunFault::Write)),
+        },
+        Err(fault) => Err(Fault::Run(fault)),
+    }
+}
+
+/// Serves clients over the set of a file, until one of them asks for the end. An offending set is refused as by a check,
+/// and nothing is opened.
+pub(crate) fn serve_file<
+    'a,
+    R: Threads
+        + Wait
+        + Clock
+        + Net<Listener = TcpListener, Stream = TcpStream>
+        + Copy
+        + Send
+        + Sync
+        + 'static,
+    K: Keeper + Send + Drop + 'static,
+    S: Stores<K>,
+    W: Write,
+>(
+    host: &HostRuntime,
+    rt: R,
+    stores: &S,
+    name: &'a str,
+    service: Service<'_>,
+    writer: &mut W,
+) -> Result<u8, Fault<'a>> {
+    let text = text_of(host, name)?;
+    let Some(set) = accepted_set(host.alloc(), text.as_slice(), writer)? else {
+        return Ok(OFFENDING);
+    };
+    let progress = Progress::new(host);
+    match serve_stores(rt, host.alloc(), &set, stores, service, writer, &progress) {
+        Ok(Explained::Order(_)) => Ok(DONE),
+        Ok(Explained::Cycle(_)) => Ok(OFFENDING),
+        Err(fault) => Err(Fault::of_serving(fault)),
+    }
+}
+
+/// Asks the service at the port what the lines of standard input ask, by the set of a file.
+pub(crate) fn ask_port<'a, R: Net<Listener = TcpListener, Stream = TcpStream>, W: Write>(
+    host: &HostRuntime,
+    rt: &R,
+    name: &'a str,
+    port: u16,
+    writer: &mut W,
+) -> Result<u8, Fault<'a>> {
+    let text = text_of(host, name)?;
+    let set = set_of(host.alloc(), text.as_slice())?;
+    let Ok(mut stream) = TcpStream::connect(rt, (Ipv4Addr::LOCALHOST, port)) else {
+        return Err(Fault::of_asking(AskFault::Connect));
+    };
+    let Ok(lines) = BufReader::new(host.alloc(), host.reader()) else {
+        return Err(Fault::Run(RunFault::Memory));
+    };
+    match ask(host.alloc(), &set, lines, &mut stream, writer) {
+        Ok(()) => Ok(DONE),
+        Err(AskFault::Read) => Err(Fault::of_reading(INPUT, InputFault::Read)),
+        Err(fault) => Err(Fault::of_asking(fault)),
+    }
+}

@@ -1,0 +1,337 @@
+"""A client of a Lynx service, on Python's standard library alone.
+
+    import lynx
+
+    bank = lynx.Client(7000, 'payment.set')
+    paid = bank.begin('pay', 30)              # Begun(chain=Chain(0, 1), stamp=2, results=[100], again=False)
+    done = bank.look(paid.chain, 1, wait=5)   # Found(stamp=3, results=[]), or None after five seconds
+    bank.shut()                               # the service checks all that it told, and ends
+
+A request is known by its client's id and its number: whatever is asked under the same id and number is done once, and
+a begin that was lost on its way is asked again under its number by itself. A client of your own keeps both where it
+keeps what it asks for (`Client(.., client=7)`, `bank.begin('pay', 30, number=12)`): after a restart it asks again under
+the old number and gets the recorded answer, with `again` true.
+
+A client belongs to one thread at a time. docs/FORMATS.md has the bytes.
+"""
+import secrets
+import socket
+import struct
+import time
+from dataclasses import dataclass, field
+
+__all__ = ['Begun', 'Busy', 'Chain', 'Clash', 'Client', 'Found', 'Full', 'Lost', 'LynxError', 'Outside', 'Program',
+           'Refused', 'Stopped', 'Wanting', 'Wrong', 'programs_of']
+
+MAX_WORD = 2 ** 64 - 1
+MAX_BODY_BYTES = 2048
+REQUEST, LOOK, QUIT, SHUT, ANSWER, LOOKED, BYE = 0x01, 0x02, 0x03, 0x04, 0x11, 0x12, 0x13
+
+
+class LynxError(Exception):
+    """Why a request was not done. `reason` is the word of docs/FORMATS.md."""
+
+    reason = 'error'
+
+    def __init__(self, text=None):
+        super().__init__(text or self.reason)
+
+
+class Clash(LynxError):
+    """This client used this number for another request."""
+    reason = 'clash'
+
+
+class Wrong(LynxError):
+    """The request doesn't fit its program, or there is no such program: nothing was done. `reason` says why."""
+
+    def __init__(self, reason):
+        self.reason = reason
+        super().__init__(reason)
+
+
+class Outside(Wrong):
+    """An argument isn't in its parameter's range."""
+
+    def __init__(self):
+        super().__init__('outside-range')
+
+
+class Full(LynxError):
+    """The server has all the entries that it may have."""
+    reason = 'full'
+
+
+class Busy(LynxError):
+    """A chain begun at this server has still to return there. Ask again later, under any number."""
+    reason = 'busy'
+
+
+class Stopped(LynxError):
+    """The server's store failed: it answers nothing until the service is started again."""
+    reason = 'stopped'
+
+
+class Wanting(LynxError):
+    """The service had no memory for it. Nothing was done."""
+    reason = 'memory'
+
+
+class Lost(LynxError):
+    """The connection was lost as often as was tried. Whether the request was done isn't known: ask again under its
+    number, which is `number`."""
+    reason = 'lost'
+
+    def __init__(self, text=None, number=None):
+        self.number = number
+        super().__init__(text)
+
+
+@dataclass(frozen=True)
+class Chain:
+    """A chain's name: its origin, and its index among the chains that began there."""
+    origin: int
+    index: int
+
+    def __str__(self):
+        return f'{self.origin}:{self.index}'
+
+    @staticmethod
+    def parse(text):
+        """The chain of a text like `0:7`."""
+        origin, colon, index = text.partition(':')
+        if not (colon and origin.isascii() and index.isascii() and origin.isdigit() and index.isdigit()):
+            raise ValueError(f'not a chain: {text!r}')
+        return Chain(int(origin), int(index))
+
+
+@dataclass(frozen=True)
+class Begun:
+    """The chain began, and its first hop gave these results. `again`: it had begun before, by this very request."""
+    chain: Chain
+    stamp: int
+    results: list = field(hash=False)
+    again: bool
+    number: int
+
+
+@dataclass(frozen=True)
+class Refused:
+    """The first hop refused: this `need` of it, counted from 0, wasn't met. It counts as an answer, not as a fault."""
+    need: int
+    stamp: int
+    again: bool
+    number: int
+
+
+@dataclass(frozen=True)
+class Found:
+    """The hop is done, with these results."""
+    stamp: int
+    results: list = field(hash=False)
+
+
+@dataclass(frozen=True)
+class Program:
+    """A program of a set: its number, its parameters and how many hops it has."""
+    number: int
+    parameters: tuple
+    hops: int
+
+
+def programs_of(text):
+    """The programs of a set's text, by name. The text is not judged: the service has judged its own."""
+    programs, name, parameters, hops = {}, None, (), 0
+    for line in text.split('\n'):
+        words = line.split(' ')
+        if words[0] == 'program' and len(words) > 1:
+            name, parameters, hops = words[1], tuple(words[2:]), 0
+        elif words[0] == 'hop' and name is not None:
+            hops += 1
+        elif words == ['end'] and name is not None:
+            programs[name] = Program(len(programs), parameters, hops)
+            name = None
+    return programs
+
+
+class _Body:
+    """The body of an item, read from left to right."""
+
+    def __init__(self, data):
+        self.data, self.at = data, 0
+
+    def take(self, form):
+        size = struct.calcsize(form)
+        if self.at + size > len(self.data):
+            raise ConnectionError('an answer is cut short')
+        values = struct.unpack_from(form, self.data, self.at)
+        self.at += size
+        return values[0] if len(values) == 1 else values
+
+    def values(self):
+        return [self.take('>Q') for _ in range(self.take('>B'))]
+
+    def end(self):
+        if self.at != len(self.data):
+            raise ConnectionError('an answer is too long')
+
+
+def _word(value, what):
+    if isinstance(value, bool) or not isinstance(value, int) or not 0 <= value <= MAX_WORD:
+        raise ValueError(f'{what} is no whole number from 0 to 2^64 - 1: {value!r}')
+    return value
+
+
+_WRONG = {2: 'unknown-program', 3: 'wrong-origin', 4: 'arg-count', 5: 'wrong-shard'}
+_FAULTS = {1: Clash, 6: Full, 7: Busy, 9: Stopped, 10: Wanting, 11: Outside}
+
+
+class Client:
+    """A client of the service at `port`, over the set whose text is the file `set_path`, or the text `set_text`.
+
+    `client` is its id, drawn at random where none is given, and `first` the first number that it gives a request by
+    itself. A connection that is lost is made again, at most `tries` times for a request, with growing pauses; each wait
+    for the service ends after `timeout` seconds.
+    """
+
+    def __init__(self, port, set_path=None, *, set_text=None, client=None, first=1, host='127.0.0.1', timeout=30.0, tries=5):
+        if set_text is None and set_path is not None:
+            with open(set_path, encoding='ascii') as file:
+                set_text = file.read()
+        self.programs = programs_of(set_text or '')
+        self.client = secrets.randbits(64) if client is None else _word(client, 'the client')
+        self.next_number = _word(first, 'the first number')
+        self.address = (host, port)
+        self.timeout, self.tries = timeout, max(1, tries)
+        self.socket = None
+
+    def __enter__(self):
+        return self
+
+    def __exit__(self, *_):
+        self.close()
+
+    def begin(self, program, *args, number=None):
+        """Begins a chain of the program, by its name (or its number in the set), and gives Begun or Refused; other
+        answers are exceptions. Without a `number` it draws the next one of its own."""
+        if number is None:
+            number = self.next_number
+            self.next_number += 1
+        kind = program if isinstance(program, int) and not isinstance(program, bool) else self._number_of(program, args)
+        if not 0 <= kind <= 63 or len(args) > 8:
+            raise Wrong('unknown-program' if len(args) <= 8 else 'arg-count')
+        body = struct.pack('>QQBB', self.client, _word(number, 'the number'), kind, len(args))
+        body += b''.join(struct.pack('>Q', _word(arg, 'an argument')) for arg in args)
+        try:
+            answer = self._ask(REQUEST, body, ANSWER)
+        except OSError as fault:
+            raise Lost(str(fault), number) from fault
+        return self._answer_of(answer, number)
+
+    def look(self, chain, hop, wait=0.0):
+        """What that hop of the chain did: Found, or None where it isn't done yet, also not within `wait` seconds."""
+        chain = Chain.parse(chain) if isinstance(chain, str) else chain
+        if not 0 <= chain.origin <= 15 or not 0 <= hop <= 255:
+            return None
+        body = struct.pack('>BQB', chain.origin, _word(chain.index, 'the index'), hop)
+        until, pause = time.monotonic() + wait, 0.001
+        while True:
+            try:
+                answer = self._ask(LOOK, body, LOOKED)
+            except OSError as fault:
+                raise Lost(str(fault)) from fault
+            if answer.take('>B'):
+                return Found(answer.take('>Q'), answer.values())
+            left = until - time.monotonic()
+            if left <= 0:
+                return None
+            time.sleep(min(pause, left))
+            pause = min(pause * 2, 0.1)
+
+    def wait_for(self, begun, program, wait=10.0):
+        """The results of all hops of a chain that began, hop 0 first, once its last is done; None where it isn't within
+        `wait` seconds."""
+        until = time.monotonic() + wait
+        results = [begun.results]
+        for hop in range(1, self.programs[program].hops):
+            found = self.look(begun.chain, hop, max(0.0, until - time.monotonic()))
+            if found is None:
+                return None
+            results.append(found.results)
+        return results
+
+    def close(self):
+        """Leaves. A request begins a new connection."""
+        if self.socket is not None:
+            try:
+                self._exchange(QUIT, b'', BYE)
+            except OSError:
+                pass
+            self._drop()
+
+    def shut(self):
+        """Has the service end: it takes no more clients, checks all that it told, and says whether it stood."""
+        try:
+            self._ask(SHUT, b'', BYE)
+        except OSError as fault:
+            raise Lost(str(fault)) from fault
+        finally:
+            self._drop()
+
+    def _number_of(self, name, args):
+        program = self.programs.get(name)
+        if program is None:
+            raise Wrong('unknown-program')
+        if len(args) != len(program.parameters):
+            raise Wrong('arg-count')
+        return program.number
+
+    @staticmethod
+    def _answer_of(body, number):
+        kind = body.take('>B')
+        if kind == 0:
+            origin, index, stamp, again = body.take('>BQQB')
+            return Begun(Chain(origin, index), stamp, body.values(), bool(again), number)
+        if kind == 8:
+            need, stamp, again = body.take('>BQB')
+            return Refused(need, stamp, bool(again), number)
+        if kind in _WRONG:
+            raise Wrong(_WRONG[kind])
+        raise _FAULTS.get(kind, LynxError)()
+
+    def _ask(self, tag, body, wanted):
+        """Asks, over a new connection where the old one is lost: the same request is never done twice."""
+        for attempt in range(self.tries):
+            if attempt:
+                time.sleep(min(0.02 * 2 ** min(attempt, 6), 1.0))
+            try:
+                return self._exchange(tag, body, wanted)
+            except OSError:
+                self._drop()
+                if attempt + 1 == self.tries:
+                    raise
+        raise ConnectionError('not tried')
+
+    def _exchange(self, tag, body, wanted):
+        if self.socket is None:
+            self.socket = socket.create_connection(self.address, self.timeout)
+            self.socket.setsockopt(socket.IPPROTO_TCP, socket.TCP_NODELAY, 1)
+        self.socket.sendall(struct.pack('>BI', tag, len(body)) + body)
+        found, length = struct.unpack('>BI', self._read(5))
+        if found != wanted or length > MAX_BODY_BYTES:
+            raise ConnectionError('what came is no answer')
+        return _Body(self._read(length))
+
+    def _read(self, count):
+        data = b''
+        while len(data) < count:
+            piece = self.socket.recv(count - len(data))
+            if not piece:
+                raise ConnectionError('the service closed the connection')
+            data += piece
+        return data
+
+    def _drop(self):
+        if self.socket is not None:
+            self.socket.close()
+            self.socket = None

@@ -1,0 +1,165 @@
+"""A service under test: `lynx serve` over a fresh folder, for tests/clients and tests/kills."""
+import os
+import shutil
+import socket
+import struct
+import subprocess
+import sys
+import tempfile
+import time
+
+TOP = os.path.dirname(os.path.dirname(os.path.abspath(__file__)))
+sys.dont_write_bytecode = True
+sys.path.insert(0, os.path.join(TOP, "clients", "python"))
+
+
+class Tally:
+    """How many tests passed, and how many failed."""
+
+    def __init__(self):
+        self.passed = self.failed = 0
+
+    def is_same(self, name, got, wanted):
+        """Counts a test, and prints what differs."""
+        if got == wanted:
+            self.passed += 1
+        else:
+            self.failed += 1
+            print(f"== {name}\n-- got: {got!r}\n-- wanted: {wanted!r}")
+
+    def holds(self, name, fact):
+        self.is_same(name, bool(fact), True)
+
+    def end(self):
+        """The last line, and the status."""
+        print(f"{self.passed} passed, {self.failed} failed")
+        return 1 if self.failed or not self.passed else 0
+
+
+def program(words):
+    """The built program: the first word, or that which `rt run` leaves."""
+    found = words[0] if words else os.path.join(TOP, "crates", "lynx", "out", "lynx")
+    if not os.path.isfile(found):
+        sys.exit(f"there is no {found}: 'rt ci', or 'rt run' in crates/lynx, builds it")
+    return os.path.abspath(found)
+
+
+def free_port():
+    """A port that nobody listens at just now."""
+    with socket.socket() as found:
+        found.bind(("127.0.0.1", 0))
+        return found.getsockname()[1]
+
+
+def end_of(words, given="", **how):
+    """What a program prints, and its status."""
+    ran = subprocess.run(words, input=given, capture_output=True, text=True, timeout=120, **how)
+    return ran.stdout, ran.stderr, ran.returncode
+
+
+class Room:
+    """A fresh folder, with a set's text in `set`."""
+
+    def __init__(self, set_text):
+        self.path = tempfile.mkdtemp(prefix="lynx-serving-")
+        self.set_text = set_text
+        self.set = self.file("set", set_text)
+        self.stores = os.path.join(self.path, "stores")
+        os.mkdir(self.stores)
+
+    def file(self, name, text):
+        path = os.path.join(self.path, name)
+        with open(path, "w", encoding="utf-8") as file:
+            file.write(text)
+        return path
+
+    def store(self, server):
+        return os.path.join(self.stores, f"server-{server}.lynx")
+
+    def __enter__(self):
+        return self
+
+    def __exit__(self, *_):
+        shutil.rmtree(self.path, ignore_errors=True)
+
+
+class Service:
+    """A running service over the stores of a room."""
+
+    def __init__(self, lynx, room, port=None):
+        self.port = port or free_port()
+        self.ran = subprocess.Popen([lynx, "serve", room.set, room.stores, str(self.port)], stdin=subprocess.DEVNULL,
+                                    stdout=subprocess.PIPE, stderr=subprocess.PIPE, text=True)
+        self.first = self.ran.stdout.readline()
+
+    def __enter__(self):
+        return self
+
+    def __exit__(self, *_):
+        if self.ran.poll() is None:
+            self.ran.kill()
+        self.ran.communicate()
+
+    def kill(self):
+        self.ran.kill()
+        self.ran.communicate()
+
+    def end(self, within=60):
+        """What it prints from `listening` on, and its status, once it has ended by itself."""
+        try:
+            out, err = self.ran.communicate(timeout=within)
+        except subprocess.TimeoutExpired:
+            self.kill()
+            return "not ended", "", None
+        return out, err, self.ran.returncode
+
+    def connect(self, timeout=30.0):
+        return Line(self.port, timeout)
+
+
+class Line:
+    """A connection, by its bytes."""
+
+    def __init__(self, port, timeout=30.0):
+        self.socket = socket.create_connection(("127.0.0.1", port), timeout)
+        self.socket.setsockopt(socket.IPPROTO_TCP, socket.TCP_NODELAY, 1)
+
+    def __enter__(self):
+        return self
+
+    def __exit__(self, *_):
+        self.socket.close()
+
+    def send(self, data):
+        self.socket.sendall(data)
+
+    def item(self):
+        """The next item's bytes, fewer where the connection ends."""
+        head = self.take(5)
+        return head if len(head) < 5 else head + self.take(struct.unpack(">BI", head)[1])
+
+    def take(self, count):
+        data = b""
+        while len(data) < count:
+            try:
+                piece = self.socket.recv(count - len(data))
+            except ConnectionError:
+                break
+            if not piece:
+                break
+            data += piece
+        return data
+
+    def rest(self):
+        """All bytes until the service ends the connection."""
+        return self.take(1 << 30)
+
+
+def wait_until(fact, within=30.0):
+    """Whether the fact came to hold in time."""
+    until = time.monotonic() + within
+    while not fact():
+        if time.monotonic() > until:
+            return False
+        time.sleep(0.01)
+    return True

@@ -42,6 +42,14 @@ fn last_hop(kind: Kind) -> Option<u8> {
     }
 }
 
+/// Whether its first hop has no need, so that it is never refused.
+fn is_sure(kind: Kind) -> bool {
+    match kind {
+        Kind::Seed | Kind::Tail | Kind::Peek => true,
+        Kind::Near | Kind::Far => false,
+    }
+}
+
 /// Numbers that look random, the same each time.
 #[derive(Drop)]
 struct Random {
@@ -93,6 +101,8 @@ pub struct Client {
     last: Vec<Option<ChainId>>,
     /// Requests that it made.
     asked: u64,
+    /// Those of them that can't be refused.
+    sure: u64,
     /// Chains that began.
     begun: u64,
     /// The sum of its seeds.
@@ -109,6 +119,7 @@ impl Client {
             random: Random { state },
             last: vec![in alloc; None; usize::from(PROGRAMS)]?,
             asked: 0,
+            sure: 0,
             begun: 0,
             paid: 0,
             is_content: true,
@@ -150,6 +161,9 @@ impl Client {
         front: &Front<K, G>,
     ) -> Result<(), Memory> {
         let draw = Draw::of(&mut self.random);
+        if is_sure(kind_of(draw.program)) {
+            self.sure = self.sure.wrapping_add(1);
+        }
         let request = self.request(alloc, draw)?;
         let answer = front.begin(rt, alloc, &mut self.session, request);
         self.note(draw, &answer);
@@ -226,6 +240,8 @@ impl Client {
 #[derive(Drop)]
 pub struct Tally {
     pub sessions: Vec<Session>,
+    /// Requests that can't be refused.
+    pub sure: u64,
     /// Chains that began.
     pub begun: u64,
     /// The sum of all seeds.
@@ -237,6 +253,7 @@ impl Tally {
     pub fn new(alloc: Global) -> Tally {
         Tally {
             sessions: Vec::new(alloc),
+            sure: 0,
             begun: 0,
             paid: 0,
             are_content: true,
@@ -250,10 +267,12 @@ impl Tally {
             random: _,
             last: _,
             asked: _,
+            sure,
             begun,
             paid,
             is_content,
         } = client;
+        self.sure = self.sure.wrapping_add(sure);
         self.begun = self.begun.wrapping_add(begun);
         self.paid = self.paid.wrapping_add(paid);
         self.are_content &= is_content;

@@ -21,11 +21,12 @@ const THREADS: usize = 4;
 
 const SESSIONS: u32 = 16;
 
-/// How often each of the sessions begins, and how often it looks at most.
+/// How often each of the sessions begins, how often it looks at most, and how many chains must begin in all.
 #[derive(Clone, Copy)]
 struct Load {
     begins: u32,
     looks: u32,
+    least: u64,
 }
 
 fn clients<R: Wait, K: Keeper, G: Gate>(
@@ -103,7 +104,8 @@ fn is_whole(alloc: Global, world: &World, begun: u64, paid: u64) -> Result<bool,
     }
 }
 
-/// Whether all clients of a load are told Begun or Refused and see their chains end, and the world is whole.
+/// Whether all clients of a load are told Begun or Refused, Begun wherever a request can't be refused, and see their chains
+/// end, and the world is whole.
 fn is_carried<
     R: Threads + Wait + Clock + Copy + Send + Sync + 'static,
     K: Keeper + Send + Drop + 'static,
@@ -114,9 +116,10 @@ fn is_carried<
         Ok(tally) => tally,
         Err(Memory) => Tally::new(alloc),
     };
-    let (begun, paid, are_content) = (tally.begun, tally.paid, tally.are_content);
+    let (begun, paid) = (tally.begun, tally.paid);
+    let are_told = tally.are_content && tally.sure >= load.least && begun >= tally.sure;
     let closed = cluster.close(&rt, alloc, tally.sessions)?;
-    Ok(are_content && is_whole(alloc, &closed.world, begun, paid)?)
+    Ok(are_told && is_whole(alloc, &closed.world, begun, paid)?)
 }
 
 #[test]
@@ -125,6 +128,7 @@ fn a_load_of_two_ways_is_carried(rt: HostRuntime) -> Result<(), Fail> {
     let load = Load {
         begins: 1_250,
         looks: 40_000,
+        least: 10_000,
     };
     assert!(rt; is_carried(rt, rt.alloc(), keepers, load) == Ok(true));
     Ok(())
@@ -135,6 +139,7 @@ fn a_store_that_fails_under_load_is_told(rt: HostRuntime) -> Result<(), Fail> {
     let load = Load {
         begins: 100,
         looks: 20,
+        least: 0,
     };
     for planned in [Planned::FailsBefore, Planned::FailsAfter] {
         let keepers = failing(rt.alloc(), 4, 2, 50, planned)?;

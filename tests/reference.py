@@ -432,6 +432,32 @@ def short_block_walk_offends(chains, most=6):
     return any(tried([block]) for block in every)
 
 
+def groups(chains):
+    """The programs, by groups: those that dashed lines of the picture join, also by way of others."""
+    group = {program: {program} for program in chains.programs}
+    for left in places(chains):
+        for right in places(chains):
+            if may_conflict(chains, left, right) and group[left[0]] is not group[right[0]]:
+                group[left[0]] |= group[right[0]]
+                for program in group[right[0]]:
+                    group[program] = group[left[0]]
+    return [found for program, found in group.items() if program == min(found)]
+
+
+def is_accepted_by_the_picture(chains):
+    """The rule of docs/TUTORIAL.md, Mending a set that offends, by which many sets are seen to be accepted."""
+    dashed = {place for place in places(chains) if any(may_conflict(chains, place, other) for other in places(chains))}
+    away = {place for place in places(chains) if any(meet(chains, place, other) for other in places(chains))}
+    count = lambda hops, program: sum(place[0] == program for place in hops)
+    if all(len({chains.origin(program) for program in group}) == 1 or all(count(dashed, program) <= 1 for program in group)
+           for group in groups(chains)):
+        return True
+    server = lambda place: chains.hops(place[0])[place[1]][0]
+    has_been = lambda left, right: any(other == server(right) for other, _ in chains.hops(left[0])[:left[1] + 1])
+    return all(count(away, program) <= 1 for program in chains.programs) and all(
+        has_been(left, right) for left in away for right in away if chains.origin(left[0]) == chains.origin(right[0]))
+
+
 def small_set(rng):
     """A set text of a few hops. Each touches one of two cells of its server, or one of those that a parameter's range
     allows. In half of the sets programs of more hops begin at server 0 and others elsewhere, so that two of one origin
@@ -456,18 +482,25 @@ def small_set(rng):
 
 
 def self_check(count):
-    """Compares the two ways to look for a walk of blocks that offends, and prints the sets on which they differ."""
-    failed, offending = 0, 0
+    """Compares the two ways to look for a walk of blocks that offends, and prints the sets on which they differ; and those that
+    the picture's rule accepts though they offend."""
+    failed, offending, ruled = 0, 0, 0
     for seed in range(count):
         text = small_set(random.Random(seed))
-        found = block_walk_offends(Set(text))
+        chains = Set(text)
+        found = block_walk_offends(chains)
         offending += found
-        if found != short_block_walk_offends(Set(text)):
+        if found != short_block_walk_offends(chains):
             failed += 1
             print(f"== seed {seed}: by one block {found}\n{text}")
-    print(f"a walk of blocks offends in {offending} sets of {count}")
-    print(f"{count - failed} passed, {failed} failed")
-    return 1 if failed or not count else 0
+        if is_accepted_by_the_picture(chains):
+            ruled += 1
+            if check(text)[1]:
+                failed += 1
+                print(f"== seed {seed}: accepted by the picture\n{text}")
+    print(f"a walk of blocks offends in {offending} sets of {count}, and the picture shows {ruled} to be accepted")
+    print(f"{count + ruled - failed} passed, {failed} failed")
+    return 1 if failed or not ruled or not offending else 0
 
 
 if __name__ == "__main__":

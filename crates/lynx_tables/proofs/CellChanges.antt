@@ -5,17 +5,17 @@ use Rattle.sqlite.specs.State.{State, Shows}
 use Rattle.lynx_cells.specs.Database.{Database, ChangeSet, applied, written, with_value}
 use Rattle.lynx_cells.specs.Triples.{entries_of, entry_of, triples_of}
 use Rattle.std.specs.FinMap as finite
-use Rattle.lynx_tables.specs.Tables.{store_schema}
 use Rattle.lynx_tables.specs.Steps.{WritesCells, GoesOn}
 use Rattle.lynx_tables.proofs.MetaLemmas.{goes_on_then}
 use Rattle.lynx_tables.specs.Cells.{HoldsCells}
 
-pub changes_none : (s : State) → IsTrue s.is_open → IsTrue s.in_transaction → s.now.schema ≡ store_schema → WritesCells s s (λ db. db)
-changes_none s up inside has = record {
-  on = record { shown = record { was_open = up; is_open = up; now_is = refl; committed_is = refl; mode = inside }; schema = has; catalog = refl };
+pub changes_none : (s : State) → IsTrue s.is_open → IsTrue s.in_transaction → WritesCells s s (λ db. db)
+changes_none s up inside = record {
+  on = record { shown = record { was_open = up; is_open = up; now_is = refl; committed_is = refl; mode = inside }; schema = refl; catalog = refl };
   meta = refl;
   entries = refl;
   cells = λ db h. h;
+  acted = refl;
 }
 
 pub changes_then : (a b c : State) (f g : Database → Database) → WritesCells a b f → WritesCells b c g → WritesCells a c (λ db. g (f db))
@@ -24,10 +24,11 @@ changes_then a b c f g p q = record {
   meta = q.meta ∙ p.meta;
   entries = q.entries ∙ p.entries;
   cells = λ db h. q.cells (f db) (p.cells db h);
+  acted = q.acted ∙ p.acted;
 }
 
 pub changes_same : (a b : State) (f g : Database → Database) → ((db : Database) → f db ≡ g db) → WritesCells a b f → WritesCells a b g
-changes_same a b f g same p = record { on = p.on; meta = p.meta; entries = p.entries; cells = λ db h. subst (HoldsCells (b.now.trees 2)) (same db) (p.cells db h) }
+changes_same a b f g same p = record { on = p.on; meta = p.meta; entries = p.entries; cells = λ db h. subst (HoldsCells (b.now.trees 2)) (same db) (p.cells db h); acted = p.acted }
 
 written-append : (es fs : List ((ℕ × ℕ) × ℕ)) (db : Database) → written (es ++ fs) db ≡ written fs (written es db)
 written-append [] fs db = refl

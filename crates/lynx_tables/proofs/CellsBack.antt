@@ -16,12 +16,14 @@ use Rattle.sqlite_value.proofs.OrderLemmas.{value_cmp-Int}
 use Rattle.sqlite_keyed.proofs.KeyedLemmas.{lt_from_Less}
 use Rattle.sqlite_schema.specs.declared.schema.Column.{Column}
 use Rattle.sqlite_schema.specs.declared.schema.Constraint.TheVariants.{Datatype, Unique}
-use Rattle.sqlite_schema.specs.Rules.{are_typed, suits, agree, differ, clashes}
+use Rattle.sqlite_schema.specs.Rules.{are_typed, suits, agree, differ, clashes, passes}
 use Rattle.sqlite_catalog.specs.Listing.{IsSound}
 use Rattle.sqlite.specs.Kind.TheVariants.{Integer, Blob as BlobKind}
 use Rattle.sqlite.specs.Program.{overlay}
 use Rattle.sqlite.specs.Query.{IsAnswer, output, Output}
-use Rattle.lynx_tables.specs.Tables.{column_of, store_schema}
+use Rattle.lynx_tables.specs.declared.version.StoreVersion.{StoreVersion}
+use Rattle.lynx_tables.specs.declared.version.StoreVersion.TheVariants.{One, Two}
+use Rattle.lynx_tables.specs.Tables.{column_of, cell, store_schema}
 use Rattle.lynx_tables.specs.Cells.{Stored, cell_row, cell_of, shown_cell, Fits, ComesBefore, HoldsCells}
 use Rattle.lynx_tables.specs.Shown.{row_of, FitsRow, AreCells, cells_in}
 use Rattle.lynx_tables.proofs.Understood.{cells_query}
@@ -59,7 +61,7 @@ shows_all : (rows : List Row) → AllByRecursion ShowsOne (map triple_shown rows
 shows_all [] h = tt
 shows_all (r ∷ rows) h = (h.0, shows_all rows h.1)
 
-no_null : {A : Type 0} (t : ℕ) → Null ≡ Int (pos t) → A
+pub no_null : {A : Type 0} (t : ℕ) → Null ≡ Int (pos t) → A
 no_null t e = absurd (let x = e in cc)
 
 no_blob : {A : Type 0} (b : List ℕ) → Null ≡ Blob b → A
@@ -81,7 +83,7 @@ one_row (a ∷ b ∷ c ∷ d ∷ e ∷ more) cell id typed number table key valu
     right_true (suits (column_of (codes "v") BlobKind) d) false (right_true (suits (column_of (codes "k") BlobKind) c) _
     (right_true (suits (column_of (codes "tab") Integer) b) _ typed)) in cc)
 
-int_of : (v : Value) → IsTrue (is_int v) → (n : ℤ) × (v ≡ Int n)
+pub int_of : (v : Value) → IsTrue (is_int v) → (n : ℤ) × (v ≡ Int n)
 int_of (Int n) h = (n, refl)
 int_of Null h = absurd (let x : false ≡ true = h in cc)
 int_of (Real x) h = absurd (let y : false ≡ true = h in cc)
@@ -145,9 +147,14 @@ not_true false h = refl
 abbrev HasOwnKey : List Row → Row → Type 0
 HasOwnKey rows row = clashes plain (1 ∷ 2 ∷ []) rows row ≡ false
 
-own_keys : (all rows : List Row) → AllByRecursion (λ row. (not (clashes plain (1 ∷ 2 ∷ []) all row) && true) ≡ true) rows → AllByRecursion (HasOwnKey all) rows
-own_keys all [] h = tt
-own_keys all (r ∷ rows) h = (not_true _ h.0, own_keys all rows h.1)
+-- of the indexes that a version has, the cells' one alone is over the cells
+unique_is : (version : StoreVersion) (db : Trees) (row : Row) → passes Unique (store_schema version) db cell row ≡ (not (clashes plain (1 ∷ 2 ∷ []) (db 2) row) && true)
+unique_is One db row = refl
+unique_is Two db row = refl
+
+own_keys : (version : StoreVersion) (db : Trees) (rows : List Row) → AllByRecursion (λ row. passes Unique (store_schema version) db cell row ≡ true) rows → AllByRecursion (HasOwnKey (db 2)) rows
+own_keys version db [] h = tt
+own_keys version db (r ∷ rows) h = (not_true _ (sym (unique_is version db r) ∙ h.0), own_keys version db rows h.1)
 
 apart_after : (s : Stored) (xs : List Stored) → AllByRecursion (λ r. value_cmp (rowid (cell_row s)) (rowid r) ≡ Less) (map cell_row xs)
     → AllByRecursion (λ other. (agree plain (1 ∷ 2 ∷ []) other (1 ∷ 2 ∷ []) (cell_row s) && differ (rowid other) (rowid (cell_row s))) ≡ false) (map cell_row xs)
@@ -206,13 +213,13 @@ shown_back : (stored : List Stored) → map triple_shown (map cell_row stored) �
 shown_back [] = refl
 shown_back (s ∷ more) = ap (λ rs. shown_cell s ∷ rs) (shown_back more)
 
-pub cells_held : (db : Trees) → IsSound store_schema db → IsTable (db 2) × AllByRecursion (λ r. IsTrue (is_int (rowid r))) (db 2)
+pub cells_held : (version : StoreVersion) (db : Trees) → IsSound (store_schema version) db → IsTable (db 2) × AllByRecursion (λ r. IsTrue (is_int (rowid r))) (db 2)
     → (rows : List Row) → IsAnswer cells_query (overlay db []) [] rows → AreCells rows → HoldsCells (db 2) (cells_in rows)
-cells_held db sound rise rows a cells =
+cells_held version db sound rise rows a cells =
     let same = triples_answered db rows a in
     let shows = shows_all (db 2) (all-permutation ShowsOne rows (map triple_shown (db 2)) (IsPermutation-sym _ _ same) (shows_each rows cells.cells cells.rows_are cells.fit)) in
     let it = stored_for (db 2) (cells_typed (db 2) (sound.obeys.rules Datatype).1.1.0) rise.1 shows in
-    let own : AllByRecursion (HasOwnKey (db 2)) (db 2) = own_keys (db 2) (db 2) (sound.obeys.rules Unique).1.1.0 in
+    let own : AllByRecursion (HasOwnKey (db 2)) (db 2) = own_keys version db (db 2) (sound.obeys.rules Unique).1.1.0 in
     let up = subst IsTable it.rows_are rise.0 in
     let apart = ascending_from [] it.stored up (subst (λ all. AllByRecursion (HasOwnKey all) all) it.rows_are own) in
     let shown : IsPermutation (map shown_cell it.stored) rows = subst (λ xs. IsPermutation xs rows) (ap (map triple_shown) it.rows_are ∙ shown_back it.stored) same in

@@ -20,15 +20,17 @@ use Rattle.sqlite.specs.declared.error.Error.{Error}
 use Rattle.sqlite.specs.Listing.{understood}
 use Rattle.sqlite.specs.Effect.{Database as Rows}
 use Rattle.sqlite.specs.State.{State, mode_of, ExecutesInside}
-use Rattle.sqlite.proofs.Callers.{statement_of, runs_as, one_step}
+use Rattle.sqlite.proofs.Callers.{statement_of, runs_as}
 use Rattle.lynx_cells.specs.Database.{cell_cmp, Database, with_value}
 use Rattle.lynx_cells.proofs.Writes.{get-with_value, kept}
 use Rattle.sqlite_trees.specs.Objects.{catalog_tree}
+use Rattle.lynx_tables.specs.declared.version.StoreVersion.{StoreVersion}
 use Rattle.lynx_tables.specs.Tables.{cell, store_schema}
 use Rattle.lynx_tables.specs.Cells.{Stored, cell_row, find_stored, Fits, ComesBefore, HoldsCells}
 use Rattle.lynx_tables.specs.Texts.{delete_text}
 use Rattle.lynx_tables.specs.Steps.{GoesOn, WritesCells}
 use Rattle.lynx_tables.proofs.Parts.{went, same_value}
+use Rattle.lynx_tables.proofs.Versions.{step_in, no_index_of_catalog, no_index_of_acted}
 use Rattle.lynx_tables.proofs.Understood.{delete_query, delete_is, delete_plain}
 use Rattle.lynx_tables.proofs.StoredLemmas.{Misses, Place, place_of, find_missing_less, find_removed, fit_removed, fit_front, fit_back, up_removed, ids_before, ids_after, rows_without}
 use Rattle.lynx_tables.proofs.TestLemmas.{answers_none, answers_one, all_not, finds_it}
@@ -66,29 +68,30 @@ holds_less db t k found cells low answer h = elim (place_of h.stored (t, k) h.ap
     params : Row
     params = Int (pos t) ∷ Blob (to_be_bytes w64 k) ∷ []
 
-pub deletes : (old new : State) (t k count : ℕ) → k < 2 ^ 64 → old.now.schema ≡ store_schema → ExecutesInside 0 delete_text (Int (pos t) ∷ Blob (to_be_bytes w64 k) ∷ []) old new (Ok count)
+pub deletes : (old new : State) (version : StoreVersion) (t k count : ℕ) → k < 2 ^ 64 → old.now.schema ≡ store_schema version → ExecutesInside 0 delete_text (Int (pos t) ∷ Blob (to_be_bytes w64 k) ∷ []) old new (Ok count)
     → WritesCells old new (λ db. with_value db t k 0)
-deletes old new t k count low has h =
+deletes old new version t k count low has h =
     let params : Row = Int (pos t) ∷ Blob (to_be_bytes w64 k) ∷ [] in
     let db = old.now.trees in
     let command = Delete 2 (record { lets = []; body = delete_query }) in
-    let w = runs_as delete_text params old new store_schema has command delete_is delete_plain count h.0 in
-    let text = statement_of delete_text (understood store_schema delete_text) in
+    let w = runs_as delete_text params old new (store_schema version) has command (delete_is version) (delete_plain version) count h.0 in
+    let text = statement_of delete_text (understood (store_schema version) delete_text) in
     let done = went (subst (λ s. Does old.step_limit (mode_of old) params (record old.now { schema = s }) text None command (Ok (w.tally, new.now))) has w.changed) in
     let now = ap (λ (p : Tally × Rows). p.1) (same_value (went (went done.2).2).2) in
     let given = went done.1 in
     let written = went given.2 in
     let trees : done.0.trees ≡ written.0 = ap (λ (it : Written). it.trees) (same_value written.2) in
-    let step = one_step store_schema _ db written.0 (edit_of db cell (ids_of given.0) Given 0 []) refl written.1 in
+    let step = step_in version _ db written.0 (edit_of db cell (ids_of given.0) Given 0 []) written.1 in
     let at = λ (t : ℕ). ap (λ (d : Rows). d.trees t) now ∙ ap (λ (all : Trees). all t) trees in
     record {
-      on = record { shown = h.1; schema = ap (λ (d : Rows). d.schema) now; catalog = at catalog_tree ∙ step.others catalog_tree (λ e. omega arith) ((λ e. omega arith), tt) };
+      on = record { shown = h.1; schema = ap (λ (d : Rows). d.schema) now ∙ sym has; catalog = at catalog_tree ∙ step.others catalog_tree (λ e. omega arith) (no_index_of_catalog version) };
       meta = at 0 ∙ step.tables.0 (λ e. omega arith);
       entries = at 1 ∙ step.tables.1.0 (λ e. omega arith);
       cells = λ cells held. subst (λ rows. HoldsCells rows (with_value cells t k 0)) (sym (at 2 ∙ step.rows)) (holds_less db t k given.0 cells low (given.1.answer Null) held);
+      acted = at 4 ∙ step.others 4 (λ e. omega arith) (no_index_of_acted version);
     }
 
-pub deletes_or_fails : (old new : State) (t k : ℕ) (r : Result ℕ Error) → k < 2 ^ 64 → old.now.schema ≡ store_schema → ExecutesInside 0 delete_text (Int (pos t) ∷ Blob (to_be_bytes w64 k) ∷ []) old new r
+pub deletes_or_fails : (old new : State) (version : StoreVersion) (t k : ℕ) (r : Result ℕ Error) → k < 2 ^ 64 → old.now.schema ≡ store_schema version → ExecutesInside 0 delete_text (Int (pos t) ∷ Blob (to_be_bytes w64 k) ∷ []) old new r
     → OnOk r (WritesCells old new (λ db. with_value db t k 0))
-deletes_or_fails old new t k (Err e) low has h = tt
-deletes_or_fails old new t k (Ok count) low has h = deletes old new t k count low has h
+deletes_or_fails old new version t k (Err e) low has h = tt
+deletes_or_fails old new version t k (Ok count) low has h = deletes old new version t k count low has h

@@ -1,10 +1,14 @@
 pub mod Understood
 pub mod Parts
+pub mod Versions
 pub mod RowLemmas
 pub mod MetaLemmas
 pub mod EntryLemmas
+pub mod ActLemmas
 pub mod CellChanges
 pub mod CommitLemmas
+pub mod TextLemmas
+pub mod UpgradeLemmas
 pub mod StoredLemmas
 pub mod TestLemmas
 pub mod DeleteLemmas
@@ -14,7 +18,9 @@ pub mod ReadLemmas
 pub mod FoundCells
 pub mod StoredBack
 pub mod CellsBack
+pub mod ActsRead
 pub mod Rises
 pub mod AfterQuery
+pub mod KeptBack
 pub mod SameTable
 pub mod SchemaLemmas

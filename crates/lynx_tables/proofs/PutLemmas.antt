@@ -30,23 +30,27 @@ use Rattle.sqlite.specs.declared.error.Error.{Error}
 use Rattle.sqlite.specs.Listing.{understood}
 use Rattle.sqlite.specs.Effect.{Database as Rows}
 use Rattle.sqlite.specs.State.{State, mode_of, ExecutesInside}
-use Rattle.sqlite.proofs.Callers.{statement_of, runs_as, one_step}
+use Rattle.sqlite.proofs.Callers.{statement_of, runs_as}
 use Rattle.sqlite_value.specs.Keys.{first_key}
 use Rattle.lynx_cells.specs.Database.{cell_cmp, Database, with_value}
 use Rattle.lynx_cells.proofs.Writes.{get-with_value, kept}
 use Rattle.sqlite_trees.specs.Objects.{catalog_tree}
-use Rattle.lynx_tables.specs.Tables.{cell, cell_index, store_schema}
+use Rattle.lynx_tables.specs.declared.version.StoreVersion.{StoreVersion}
+use Rattle.lynx_tables.specs.declared.version.StoreVersion.TheVariants.{One, Two}
+use Rattle.lynx_tables.specs.Tables.{cell, store_schema}
 use Rattle.lynx_tables.specs.Cells.{Stored, cell_row, cell_of, find_stored, Fits, ComesBefore, HoldsCells}
 use Rattle.lynx_tables.specs.Texts.{put_text}
 use Rattle.lynx_tables.specs.Steps.{GoesOn, WritesCells}
 use Rattle.lynx_tables.proofs.Parts.{went, same_value, cast_null, cast_int}
+use Rattle.lynx_tables.proofs.Versions.{step_in, no_index_of_catalog, no_index_of_acted}
 use Rattle.lynx_tables.proofs.Understood.{put_query, put_clause, put_terms, put_is, put_plain}
 use Rattle.lynx_tables.proofs.StoredLemmas.{Misses, Place, place_of, find_added, find_replaced, fit_added, fit_replaced, fit_at, fit_front, fit_back, up_added, up_replaced, ids_before, ids_after, rows_without, rows_with, below_next}
 use Rattle.lynx_tables.proofs.TestLemmas.{equals, finds_cell, finds_it, finds_not, answers_one, ints_alike, ints_are}
 
-conflict_is : (new s : Stored) → conflicts (Some (1 ∷ 2 ∷ [])) (cell_index ∷ []) cell (cell_row new) (cell_row s) ≡ (finds_cell new.table new.key s || false)
+conflict_is : (version : StoreVersion) (new s : Stored) → conflicts (Some (1 ∷ 2 ∷ [])) (store_schema version).indexes cell (cell_row new) (cell_row s) ≡ (finds_cell new.table new.key s || false)
 unfolding first_key
-conflict_is new s = refl
+conflict_is One new s = refl
+conflict_is Two new s = refl
 
 new_row : (rows : List Row) (t : ℕ) (k v : List ℕ) (top : ℤ) → with_rowid (rowids_for cell top) rows (cast_row cell (mended Abort cell (Null ∷ Int (pos t) ∷ Blob k ∷ Blob v ∷ []))) ≡ Int (next_rowid rows) ∷ Int (pos t) ∷ Blob k ∷ Blob v ∷ []
 new_row rows t k v top = rw (cast_null, cast_int) refl
@@ -59,24 +63,24 @@ or_false true = refl
 or_false false = refl
 
 -- a row that conflicts is that of the cell's place
-has_missed : (new : Stored) (xs : List Stored) (r : Row) → new.key < 2 ^ 64 → AllByRecursion Fits xs → AllByRecursion (Misses (cell_of new)) xs → Has (map cell_row xs) r
-    → conflicts (Some (1 ∷ 2 ∷ [])) (cell_index ∷ []) cell (cell_row new) r ≡ true → ⊥
-has_missed new [] r low fits misses has is = has
-has_missed new (x ∷ xs) r low fits misses (inl here) is =
+has_missed : (version : StoreVersion) (new : Stored) (xs : List Stored) (r : Row) → new.key < 2 ^ 64 → AllByRecursion Fits xs → AllByRecursion (Misses (cell_of new)) xs → Has (map cell_row xs) r
+    → conflicts (Some (1 ∷ 2 ∷ [])) (store_schema version).indexes cell (cell_row new) r ≡ true → ⊥
+has_missed version new [] r low fits misses has is = has
+has_missed version new (x ∷ xs) r low fits misses (inl here) is =
     let no = finds_not new.table new.key x low fits.0 misses.0 in
-    let yes = sym (or_false _) ∙ sym (conflict_is new x) ∙ ap (conflicts (Some (1 ∷ 2 ∷ [])) (cell_index ∷ []) cell (cell_row new)) (sym here) ∙ is in
+    let yes = sym (or_false _) ∙ sym (conflict_is version new x) ∙ ap (conflicts (Some (1 ∷ 2 ∷ [])) (store_schema version).indexes cell (cell_row new)) (sym here) ∙ is in
     cc (no, yes)
-has_missed new (x ∷ xs) r low fits misses (inr there) is = has_missed new xs r low fits.1 misses.1 there is
+has_missed version new (x ∷ xs) r low fits misses (inr there) is = has_missed version new xs r low fits.1 misses.1 there is
 
-has_placed : (new at : Stored) (front back : List Stored) (r : Row) → new.key < 2 ^ 64 → AllByRecursion Fits (front ++ at ∷ back) → AllByRecursion (Misses (cell_of new)) front → AllByRecursion (Misses (cell_of new)) back
-    → Has (map cell_row (front ++ at ∷ back)) r → conflicts (Some (1 ∷ 2 ∷ [])) (cell_index ∷ []) cell (cell_row new) r ≡ true → r ≡ cell_row at
-has_placed new at [] back r low fits none later (inl here) is = here
-has_placed new at [] back r low fits none later (inr there) is = absurd (has_missed new back r low fits.1 later there is)
-has_placed new at (x ∷ xs) back r low fits none later (inl here) is =
+has_placed : (version : StoreVersion) (new at : Stored) (front back : List Stored) (r : Row) → new.key < 2 ^ 64 → AllByRecursion Fits (front ++ at ∷ back) → AllByRecursion (Misses (cell_of new)) front → AllByRecursion (Misses (cell_of new)) back
+    → Has (map cell_row (front ++ at ∷ back)) r → conflicts (Some (1 ∷ 2 ∷ [])) (store_schema version).indexes cell (cell_row new) r ≡ true → r ≡ cell_row at
+has_placed version new at [] back r low fits none later (inl here) is = here
+has_placed version new at [] back r low fits none later (inr there) is = absurd (has_missed version new back r low fits.1 later there is)
+has_placed version new at (x ∷ xs) back r low fits none later (inl here) is =
     let no = finds_not new.table new.key x low fits.0 none.0 in
-    let yes = sym (or_false _) ∙ sym (conflict_is new x) ∙ ap (conflicts (Some (1 ∷ 2 ∷ [])) (cell_index ∷ []) cell (cell_row new)) (sym here) ∙ is in
+    let yes = sym (or_false _) ∙ sym (conflict_is version new x) ∙ ap (conflicts (Some (1 ∷ 2 ∷ [])) (store_schema version).indexes cell (cell_row new)) (sym here) ∙ is in
     absurd (let e : true ≡ false = sym yes ∙ no in cc)
-has_placed new at (x ∷ xs) back r low fits none later (inr there) is = has_placed new at xs back r low fits.1 none.1 later there is
+has_placed version new at (x ∷ xs) back r low fits none later (inr there) is = has_placed version new at xs back r low fits.1 none.1 later there is
 
 has_at : (front back : List Stored) (at : Stored) → Has (map cell_row (front ++ at ∷ back)) (cell_row at)
 has_at [] back at = inl refl
@@ -92,12 +96,12 @@ pub record HasWritten (db next : Trees) (t k v : ℕ) : Type 0 where
 kept_value : (v : ℕ) → v ≢ 0 → kept v ≡ Some v
 kept_value v apart = grind (arith, nat_tests)
 
-module _ (limit : Option ℕ) (keys : Keys) (db : Trees) (t k v : ℕ) (low : k < 2 ^ 64) (fits : v < 2 ^ 64) (apart : v ≢ 0) where
+module _ (version : StoreVersion) (limit : Option ℕ) (keys : Keys) (db : Trees) (t k v : ℕ) (low : k < 2 ^ 64) (fits : v < 2 ^ 64) (apart : v ≢ 0) where
   abbrev params : Row
   params = Int (pos t) ∷ Blob (to_be_bytes w64 k) ∷ Blob (to_be_bytes w64 v) ∷ []
 
   abbrev task : Task
-  task = record { limit = limit; keys = keys; schema = store_schema; table = cell; params = params }
+  task = record { limit = limit; keys = keys; schema = store_schema version; table = cell; params = params }
 
   abbrev new : Stored
   new = record { id = next_rowid (db 2); table = t; key = k; value = v }
@@ -140,7 +144,7 @@ module _ (limit : Option ℕ) (keys : Keys) (db : Trees) (t k v : ℕ) (low : k 
       → (one.trees 0 ≡ db 0) × (one.trees 1 ≡ db 1) × HoldsCells (one.trees 2) (with_value cells t k v)
   puts one did cells h none =
       let written = went did in
-      let step = one_step store_schema keys db written.0 (edit_of db cell [] Given 0 (cell_row new ∷ [])) refl written.1 in
+      let step = step_in version keys db written.0 (edit_of db cell [] Given 0 (cell_row new ∷ [])) written.1 in
       let trees : one.trees ≡ written.0 = ap (λ (it : Written). it.trees) (same_value written.2) in
       let at = λ (t : ℕ). ap (λ (all : Trees). all t) trees in
       let rows : one.trees 2 ≡ put_row (cell_row new) (db 2) = at 2 ∙ step.rows ∙ ap (λ r. put_row r (db 2)) (cast_again new) in
@@ -171,7 +175,7 @@ module _ (limit : Option ℕ) (keys : Keys) (db : Trees) (t k v : ℕ) (low : k 
       (others_not p.at.id p.front (apart_below p.front p.at.id (ids_before p.front p.back p.at up)))
       (ap (λ b. b && true) (ints_alike p.at.id p.at.id refl))
       (others_not p.at.id p.back (apart_above p.back p.at.id (ids_after p.front p.back p.at up))) in
-      let step = one_step store_schema keys db written.0 (edit_of db cell (ids_of found.0) Given 1 found.0) refl written.1 in
+      let step = step_in version keys db written.0 (edit_of db cell (ids_of found.0) Given 1 found.0) written.1 in
       let trees : one.trees ≡ written.0 = ap (λ (it : Written). it.trees) (same_value written.2) in
       let at = λ (t : ℕ). ap (λ (all : Trees). all t) trees in
       let edit : edited db (edit_of db cell (ids_of found.0) Given 1 found.0) ≡ put_row (cell_row (record p.at { value = v })) (without_rowid p.at.id (db 2)) =
@@ -198,19 +202,19 @@ module _ (limit : Option ℕ) (keys : Keys) (db : Trees) (t k v : ℕ) (low : k 
       → (one.trees 0 ≡ db 0) × (one.trees 1 ≡ db 1) × HoldsCells (one.trees 2) (with_value cells t k v)
   upserts one did cells h = go (place_of h.stored (t, k) h.apart) did.0 did.1 did.2
     where
-      go : AllByRecursion (Misses (t, k)) h.stored ⊎ Place h.stored (t, k) → (found : List Row) → AreConflicts (Some (1 ∷ 2 ∷ [])) (cell_index ∷ []) cell (db 2) (cell_row new) found
+      go : AllByRecursion (Misses (t, k)) h.stored ⊎ Place h.stored (t, k) → (found : List Row) → AreConflicts (Some (1 ∷ 2 ∷ [])) (store_schema version).indexes cell (db 2) (cell_row new) found
           → Meets task (Upserts task Abort (cell_row new) db []) (cell_row new) db put_clause found (Ok one) → (one.trees 0 ≡ db 0) × (one.trees 1 ≡ db 1) × HoldsCells (one.trees 2) (with_value cells t k v)
       go (inl none) [] all meets = puts one (clears one meets.0 meets.2) cells h none
       go (inl none) (there ∷ more) all meets =
-          let s = all.sound there (inl refl) in absurd (has_missed new h.stored s.0 low h.fit none (subst (λ rows. Has rows s.0) h.rows_are s.1) s.2)
+          let s = all.sound there (inl refl) in absurd (has_missed version new h.stored s.0 low h.fit none (subst (λ rows. Has rows s.0) h.rows_are s.1) s.2)
       go (inr p) [] all meets =
           let row = cell_row p.at in
           let here : Has (db 2) row = subst (λ rows. Has rows row) (sym (h.rows_are ∙ ap (map cell_row) p.is)) (has_at p.front p.back p.at) in
-          absurd (all.complete row here (conflict_is new p.at ∙ or_false _ ∙ finds_it t k p.at p.same))
+          absurd (all.complete row here (conflict_is version new p.at ∙ or_false _ ∙ finds_it t k p.at p.same))
       go (inr p) (there ∷ more) all meets =
           let s = all.sound there (inl refl) in
           let has : db 2 ≡ map cell_row (p.front ++ p.at ∷ p.back) = h.rows_are ∙ ap (map cell_row) p.is in
-          let row : s.0 ≡ cell_row p.at = has_placed new p.at p.front p.back s.0 low (subst (AllByRecursion Fits) p.is h.fit) p.before p.after (subst (λ rows. Has rows s.0) has s.1) s.2 in
+          let row : s.0 ≡ cell_row p.at = has_placed version new p.at p.front p.back s.0 low (subst (AllByRecursion Fits) p.is h.fit) p.before p.after (subst (λ rows. Has rows s.0) has s.1) s.2 in
           let there_is : there ≡ Int p.at.id ∷ [] = s.3 ∙ ap (λ r. rowid r ∷ []) row in
           updates one cells h p (subst (λ r. Updates task (record { lets = []; body = put_query }) (params ++ rowid r ∷ Int new.id ∷ Int (pos t) ∷ Blob (to_be_bytes w64 k) ∷ Blob (to_be_bytes w64 v) ∷ []) db (Ok one)) there_is meets)
 
@@ -224,29 +228,29 @@ module _ (limit : Option ℕ) (keys : Keys) (db : Trees) (t k v : ℕ) (low : k 
       go (Some why) did = absurd (let e : Ok one ≡ Err (Some (edit_error why)) = did in cc)
 
 -- the other tables stay, whatever rows the cells have
-module _ (limit : Option ℕ) (keys : Keys) (db : Trees) (params : Row) (new : Row) (one : Written) where
+module _ (version : StoreVersion) (limit : Option ℕ) (keys : Keys) (db : Trees) (params : Row) (new : Row) (one : Written) where
   abbrev job : Task
-  job = record { limit = limit; keys = keys; schema = store_schema; table = cell; params = params }
+  job = record { limit = limit; keys = keys; schema = store_schema version; table = cell; params = params }
 
   abbrev Stays : Type 0
-  Stays = (one.trees 0 ≡ db 0) × (one.trees 1 ≡ db 1) × (one.trees catalog_tree ≡ db catalog_tree)
+  Stays = (one.trees 0 ≡ db 0) × (one.trees 1 ≡ db 1) × (one.trees catalog_tree ≡ db catalog_tree) × (one.trees 4 ≡ db 4)
 
   stays_put : Puts job new db (Ok one) → Stays
   stays_put did =
       let written = went did in
-      let step = one_step store_schema keys db written.0 (edit_of db cell [] Given 0 (new ∷ [])) refl written.1 in
+      let step = step_in version keys db written.0 (edit_of db cell [] Given 0 (new ∷ [])) written.1 in
       let trees : one.trees ≡ written.0 = ap (λ (it : Written). it.trees) (same_value written.2) in
       let at = λ (t : ℕ). ap (λ (all : Trees). all t) trees in
-      (at 0 ∙ step.tables.0 (λ e. omega arith), at 1 ∙ step.tables.1.0 (λ e. omega arith), at catalog_tree ∙ step.others catalog_tree (λ e. omega arith) ((λ e. omega arith), tt))
+      (at 0 ∙ step.tables.0 (λ e. omega arith), at 1 ∙ step.tables.1.0 (λ e. omega arith), at catalog_tree ∙ step.others catalog_tree (λ e. omega arith) (no_index_of_catalog version), at 4 ∙ step.others 4 (λ e. omega arith) (no_index_of_acted version))
 
   stays_updated : (given : Row) → Updates job (record { lets = []; body = put_query }) given db (Ok one) → Stays
   stays_updated given did =
       let found = went did in
       let written = went found.2 in
-      let step = one_step store_schema keys db written.0 (edit_of db cell (ids_of found.0) Given 1 found.0) refl written.1 in
+      let step = step_in version keys db written.0 (edit_of db cell (ids_of found.0) Given 1 found.0) written.1 in
       let trees : one.trees ≡ written.0 = ap (λ (it : Written). it.trees) (same_value written.2) in
       let at = λ (t : ℕ). ap (λ (all : Trees). all t) trees in
-      (at 0 ∙ step.tables.0 (λ e. omega arith), at 1 ∙ step.tables.1.0 (λ e. omega arith), at catalog_tree ∙ step.others catalog_tree (λ e. omega arith) ((λ e. omega arith), tt))
+      (at 0 ∙ step.tables.0 (λ e. omega arith), at 1 ∙ step.tables.1.0 (λ e. omega arith), at catalog_tree ∙ step.others catalog_tree (λ e. omega arith) (no_index_of_catalog version), at 4 ∙ step.others 4 (λ e. omega arith) (no_index_of_acted version))
 
   stays_cleared : (found : List Row) → Clears job Abort new db found (Ok one) → Stays
   stays_cleared [] did = stays_put did
@@ -264,14 +268,14 @@ module _ (limit : Option ℕ) (keys : Keys) (db : Trees) (params : Row) (new : R
       go None did = stays_met did.0 did.2
       go (Some why) did = absurd (let e : Ok one ≡ Err (Some (edit_error why)) = did in cc)
 
-pub writes : (old new : State) (t k v count : ℕ) → k < 2 ^ 64 → v < 2 ^ 64 → v ≢ 0 → old.now.schema ≡ store_schema
+pub writes : (old new : State) (version : StoreVersion) (t k v count : ℕ) → k < 2 ^ 64 → v < 2 ^ 64 → v ≢ 0 → old.now.schema ≡ store_schema version
     → ExecutesInside 0 put_text (Int (pos t) ∷ Blob (to_be_bytes w64 k) ∷ Blob (to_be_bytes w64 v) ∷ []) old new (Ok count) → WritesCells old new (λ cells. with_value cells t k v)
-writes old new t k v count low fits apart has h =
+writes old new version t k v count low fits apart has h =
     let params : Row = Int (pos t) ∷ Blob (to_be_bytes w64 k) ∷ Blob (to_be_bytes w64 v) ∷ [] in
     let db = old.now.trees in
     let command = InsertOr 2 Abort (Values put_terms 4) (put_clause ∷ []) in
-    let w = runs_as put_text params old new store_schema has command put_is put_plain count h.0 in
-    let text = statement_of put_text (understood store_schema put_text) in
+    let w = runs_as put_text params old new (store_schema version) has command (put_is version) (put_plain version) count h.0 in
+    let text = statement_of put_text (understood (store_schema version) put_text) in
     let done = went (subst (λ s. Does old.step_limit (mode_of old) params (record old.now { schema = s }) text None command (Ok (w.tally, new.now))) has w.changed) in
     let now = ap (λ (p : Tally × Rows). p.1) (same_value (went (went done.2).2).2) in
     let given = went done.1 in
@@ -279,22 +283,23 @@ writes old new t k v count low fits apart has h =
     let tried = went counter.2 in
     let counts = went tried.2 in
     let top = count_of counter.0 in
-    let job : Task = record { limit = old.step_limit; keys = (mode_of old).keys; schema = store_schema; table = cell; params = params } in
+    let job : Task = record { limit = old.step_limit; keys = (mode_of old).keys; schema = store_schema version; table = cell; params = params } in
     let one = went (subst (λ rows. TriesEach job Abort (put_clause ∷ []) rows top (nothing db) (Ok tried.0)) given.1.1 tried.1) in
     let did = subst (λ r. Tries job Abort (put_clause ∷ []) r db (Ok one.0)) (new_row (db 2) t (to_be_bytes w64 k) (to_be_bytes w64 v) top) one.1 in
-    let wrote = tries old.step_limit (mode_of old).keys db t k v low fits apart one.0 did in
-    let other = stays old.step_limit (mode_of old).keys db params _ one.0 did in
+    let wrote = tries version old.step_limit (mode_of old).keys db t k v low fits apart one.0 did in
+    let other = stays version old.step_limit (mode_of old).keys db params _ one.0 did in
     let trees : done.0.trees ≡ one.0.trees =
     ap (λ (it : Written). it.trees) (same_value counts.2) ∙ same_value counts.1 ∙ ap (λ (it : Written × ℤ). it.0.trees) (same_value one.2) in
     let at = λ (t : ℕ). ap (λ (d : Rows). d.trees t) now ∙ ap (λ (all : Trees). all t) trees in
     record {
-      on = record { shown = h.1; schema = ap (λ (d : Rows). d.schema) now; catalog = at catalog_tree ∙ other.2 };
+      on = record { shown = h.1; schema = ap (λ (d : Rows). d.schema) now ∙ sym has; catalog = at catalog_tree ∙ other.2 };
       meta = at 0 ∙ other.0;
       entries = at 1 ∙ other.1;
       cells = λ cells held. subst (λ rows. HoldsCells rows (with_value cells t k v)) (sym (at 2)) (wrote cells held).2;
+      acted = at 4 ∙ other.3;
     }
 
-pub writes_or_fails : (old new : State) (t k v : ℕ) (r : Result ℕ Error) → k < 2 ^ 64 → v < 2 ^ 64 → v ≢ 0 → old.now.schema ≡ store_schema
+pub writes_or_fails : (old new : State) (version : StoreVersion) (t k v : ℕ) (r : Result ℕ Error) → k < 2 ^ 64 → v < 2 ^ 64 → v ≢ 0 → old.now.schema ≡ store_schema version
     → ExecutesInside 0 put_text (Int (pos t) ∷ Blob (to_be_bytes w64 k) ∷ Blob (to_be_bytes w64 v) ∷ []) old new r → OnOk r (WritesCells old new (λ cells. with_value cells t k v))
-writes_or_fails old new t k v (Err e) low fits apart has h = tt
-writes_or_fails old new t k v (Ok count) low fits apart has h = writes old new t k v count low fits apart has h
+writes_or_fails old new version t k v (Err e) low fits apart has h = tt
+writes_or_fails old new version t k v (Ok count) low fits apart has h = writes old new version t k v count low fits apart has h

@@ -23,7 +23,8 @@ use Rattle.sqlite.specs.Clock.{timed}
 use Rattle.sqlite.proofs.Callers.{IsPlain, reads_as, never_commits}
 use Rattle.sqlite.proofs.StateLemmas.{survives_weaker}
 use Rattle.lynx_cells.specs.Database.{Database}
-use Rattle.lynx_tables.specs.Tables.{store_schema}
+use Rattle.lynx_tables.specs.Tables.{store_schema, IsStoreSchema}
+use Rattle.lynx_tables.specs.Acts.{version_of}
 use Rattle.lynx_tables.specs.Rows.{meta_rows, shown_meta, entry_row, entry_rows, shown_entries}
 use Rattle.lynx_tables.specs.Texts.{titles_text, entries_text, cells_text}
 use Rattle.lynx_tables.specs.Cells.{Stored, cell_row, shown_cell, HoldsCells, ShowsCells}
@@ -92,11 +93,12 @@ answers db rows bodies a has =
 pub entries_shown : (old new : State) (rows : List Row) (contents : Contents) → old.now ≡ old.committed → Keeps old contents
     → Shown entries_text [] old new rows → rows ≡ shown_entries 0 contents.bodies
 entries_shown old new rows contents settled keeps h =
-    let got = reads_as entries_text [] old new store_schema keeps.schema _ entries_is.0 entries_plain entries_is.1 rows h in
+    let version = version_of contents.acted in
+    let got = reads_as entries_text [] old new (store_schema version) keeps.schema _ (entries_is version).0 (entries_plain version) (entries_is version).1 rows h in
     answers old.now.trees rows contents.bodies (got.answer Null) (ap (λ d. d.trees 1) settled ∙ keeps.tables.entries)
 
-pub plain_in : (s : State) → s.now.schema ≡ store_schema → IsPlain (understood s.now.schema entries_text)
-plain_in s has = subst (λ schema. IsPlain (understood schema entries_text)) (sym has) entries_plain
+pub plain_in : (s : State) → IsStoreSchema s.now.schema → IsPlain (understood s.now.schema entries_text)
+plain_in s has = subst (λ schema. IsPlain (understood schema entries_text)) (sym has.is) (entries_plain has.version)
 
 pub if_ok : {A E : Type 0} {P Q : A → Type 0} (r : Result A E) → ((x : A) → P x → Q x) → IfOk r P → IfOk r Q
 if_ok (Ok x) f p = f x p
@@ -108,8 +110,8 @@ on_if_ok (Err e) f p = tt
 
 -- ---- cells
 
-pub cells_plain_in : (s : State) → s.now.schema ≡ store_schema → IsPlain (understood s.now.schema cells_text)
-cells_plain_in s has = subst (λ schema. IsPlain (understood schema cells_text)) (sym has) cells_plain
+pub cells_plain_in : (s : State) → IsStoreSchema s.now.schema → IsPlain (understood s.now.schema cells_text)
+cells_plain_in s has = subst (λ schema. IsPlain (understood schema cells_text)) (sym has.is) (cells_plain has.version)
 
 staged_cells : (stored : List Stored) → map (λ (o : Output). o.1) (map (output cells_query) (flat_map picks (map cell_row stored))) ≡ map shown_cell stored
 staged_cells [] = refl
@@ -132,14 +134,15 @@ cell_answers db rows cells a h =
 pub cells_shown : (old new : State) (rows : List Row) (contents : Contents) → old.now ≡ old.committed → Keeps old contents
     → Shown cells_text [] old new rows → ShowsCells rows contents.cells
 cells_shown old new rows contents settled keeps h =
-    let got = reads_as cells_text [] old new store_schema keeps.schema _ cells_is.0 cells_plain cells_is.1 rows h in
+    let version = version_of contents.acted in
+    let got = reads_as cells_text [] old new (store_schema version) keeps.schema _ (cells_is version).0 (cells_plain version) (cells_is version).1 rows h in
     cell_answers old.now.trees rows contents.cells (got.answer Null)
     (subst (λ d. HoldsCells (d.trees 2) contents.cells) (sym settled) keeps.tables.cells)
 
 -- ---- the title
 
-pub titles_plain_in : (s : State) → s.now.schema ≡ store_schema → IsPlain (understood s.now.schema titles_text)
-titles_plain_in s has = subst (λ schema. IsPlain (understood schema titles_text)) (sym has) titles_plain
+pub titles_plain_in : (s : State) → IsStoreSchema s.now.schema → IsPlain (understood s.now.schema titles_text)
+titles_plain_in s has = subst (λ schema. IsPlain (understood schema titles_text)) (sym has.is) (titles_plain has.version)
 
 abbrev title_outs : Title → List Output
 title_outs title =
@@ -168,5 +171,6 @@ title_answers db rows title a has =
 pub title_shown : (old new : State) (rows : List Row) (contents : Contents) → old.now ≡ old.committed → Keeps old contents
     → Shown titles_text [] old new rows → rows ≡ shown_meta contents.title
 title_shown old new rows contents settled keeps h =
-    let got = reads_as titles_text [] old new store_schema keeps.schema _ titles_is.0 titles_plain titles_is.1 rows h in
+    let version = version_of contents.acted in
+    let got = reads_as titles_text [] old new (store_schema version) keeps.schema _ (titles_is version).0 (titles_plain version) (titles_is version).1 rows h in
     title_answers old.now.trees rows contents.title (got.answer Null) (ap (λ d. d.trees 0) settled ∙ keeps.tables.meta)

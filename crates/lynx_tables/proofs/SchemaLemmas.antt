@@ -9,6 +9,7 @@ use Rattle.sqlite_catalog.proofs.ReadLemmas.{read_once, reads}
 use Rattle.sqlite_trees.specs.Objects.{catalog_tree}
 use Rattle.lynx_tables.specs.Contents.{Contents}
 use Rattle.lynx_tables.specs.Tables.{store_schema}
+use Rattle.lynx_tables.specs.Acts.{version_of}
 use Rattle.lynx_tables.specs.Steps.{Holds, Keeps}
 
 pub one_schema : (objects : List Row) (a b : Schema) → Lists objects a → Lists objects b → a ≡ b
@@ -18,5 +19,5 @@ one_schema objects a b p q = let r = reads objects a p in read_once _ a b r.tabl
 pub keeps_found : (s : State) (contents : Contents) → IsTrue s.is_open → IsLive s → s.now ≡ s.committed → Holds s.committed.trees contents
     → Keeps s contents
 keeps_found s contents up live settled h =
-    let found = subst (λ (d : Found). Lists (d.trees catalog_tree) store_schema) (sym settled) h.catalog in
+    let found = subst (λ (d : Found). Lists (d.trees catalog_tree) (store_schema (version_of contents.acted))) (sym settled) h.catalog in
     record { is_open = up; schema = one_schema (s.now.trees catalog_tree) _ _ (live up).0.lists found; tables = h }

@@ -20,6 +20,7 @@ use Rattle.sqlite.specs.Kind.TheVariants.{Text as TextKind, Blob as BlobKind}
 use Rattle.sqlite.specs.Program.{overlay}
 use Rattle.sqlite.specs.Query.{IsAnswer, output, output_cmp, page, Output}
 use Rattle.lynx_tables.specs.Contents.{Title}
+use Rattle.lynx_tables.specs.declared.version.StoreVersion.{StoreVersion}
 use Rattle.lynx_tables.specs.Tables.{key_column, column_of, meta, entry, store_schema}
 use Rattle.lynx_tables.specs.Rows.{meta_row, meta_rows, shown_meta, entry_row, entry_rows, shown_entries}
 use Rattle.lynx_tables.proofs.Understood.{titles_query, entries_query, cells_query}
@@ -149,7 +150,7 @@ texts_answered db rows a up =
 
 -- ---- tables that obey the schema
 
-module _ (db : Trees) (sound : IsSound store_schema db) (rise : (t : ℕ) → t < 3 → IsTable (db t) × AllByRecursion (λ r. IsTrue (is_int (rowid r))) (db t)) where
+module _ (version : StoreVersion) (db : Trees) (sound : IsSound (store_schema version) db) (rise : (t : ℕ) → t < 3 → IsTable (db t) × AllByRecursion (λ r. IsTrue (is_int (rowid r))) (db t)) where
   typed : (cols : List Column) (rows : List Row) → AllByRecursion (λ row. (are_typed (Some 0) 0 cols (drop 1 row) && true) ≡ true) rows
       → AllByRecursion (λ row. are_typed (Some 0) 0 cols (drop 1 row) ≡ true) rows
   typed cols [] h = tt

@@ -113,7 +113,7 @@ none_picked : (filter : List Term) (params : Row) (xs : List Stored) → AllByRe
 none_picked filter params [] h = tt
 none_picked filter params (x ∷ xs) h = (ap (λ b. cond b ((params ∷ cell_row x ∷ []) ∷ []) []) h.0, none_picked filter params xs h.1)
 
-no_rows : {X : Type 0} (ys : List X) → IsPermutation [] ys → ys ≡ []
+pub no_rows : {X : Type 0} (ys : List X) → IsPermutation [] ys → ys ≡ []
 no_rows [] h = refl
 no_rows (y ∷ ys) h = absurd (let e = length_permutation [] (y ∷ ys) h in cc)
 

@@ -3,6 +3,7 @@ pub mod Tables
 pub mod Texts
 pub mod Rows
 pub mod Cells
+pub mod Acts
 pub mod Shown
 pub mod Steps
 pub mod Reading

@@ -7,21 +7,25 @@ use Rattle.sqlite_trees.specs.Objects.{catalog_tree}
 use Rattle.lynx_tables.specs.declared.reading.StoredRows.{StoredRows}
 use Rattle.lynx_tables.specs.Contents.{Contents}
 use Rattle.lynx_tables.specs.Tables.{store_schema}
+use Rattle.lynx_tables.specs.declared.version.StoreVersion.{StoreVersion}
+use Rattle.lynx_tables.specs.Acts.{ShowActed}
 use Rattle.lynx_tables.specs.Rows.{shown_meta, shown_entries}
 use Rattle.lynx_tables.specs.Shown.{cells_in, AreCells}
 
 -- an open connection between two transactions, to a database with the tables of a store
 pub record IsStore (s : State) : Type 0 where
   pub is_open : IsTrue s.is_open
-  pub schema : s.now.schema ≡ store_schema
-  pub catalog : Lists (s.committed.trees catalog_tree) store_schema
+  pub version : StoreVersion
+  pub schema : s.now.schema ≡ store_schema version
+  pub catalog : Lists (s.committed.trees catalog_tree) (store_schema version)
 
--- both have committed the same
-abbrev pub SameCommitted : State → State → Type 0
-SameCommitted old new = new.committed ≡ old.committed
+-- both see the same, and have committed the same
+abbrev pub SameTables : State → State → Type 0
+SameTables old new = (new.now ≡ old.now) × (new.committed ≡ old.committed)
 
 -- the rows show this
 pub record ShowRows (rows : StoredRows) (contents : Contents) : Type 0 where
   pub title : rows.title.items ≡ shown_meta contents.title
   pub entries : rows.entries.items ≡ shown_entries 0 contents.bodies
   pub cells : cells_in rows.cells.items ≡ contents.cells
+  pub acted : ShowActed rows.acted contents.acted

@@ -11,6 +11,8 @@ use Rattle.sqlite_schema.specs.declared.schema.Index.{Index}
 use Rattle.sqlite.specs.Schema.{Schema}
 use Rattle.sqlite.specs.Kind.{Kind}
 use Rattle.sqlite.specs.Kind.TheVariants.{Integer, Text, Blob}
+use Rattle.lynx_tables.specs.declared.version.StoreVersion.{StoreVersion}
+use Rattle.lynx_tables.specs.declared.version.StoreVersion.TheVariants.{One, Two}
 
 abbrev pub meta_text : List ℕ
 meta_text = codes "CREATE TABLE meta(id INTEGER PRIMARY KEY, txt TEXT NOT NULL) STRICT"
@@ -20,6 +22,9 @@ entry_text = codes "CREATE TABLE entry(place INTEGER PRIMARY KEY, body BLOB NOT 
 
 abbrev pub cell_text : List ℕ
 cell_text = codes "CREATE TABLE cell(tab INTEGER NOT NULL, k BLOB NOT NULL, v BLOB NOT NULL, PRIMARY KEY(tab, k)) STRICT"
+
+abbrev pub acted_text : List ℕ
+acted_text = codes "CREATE TABLE acted(origin INTEGER NOT NULL, idx BLOB NOT NULL, hop INTEGER NOT NULL, place INTEGER NOT NULL UNIQUE, PRIMARY KEY(origin, idx, hop)) STRICT"
 
 abbrev pub key_column : List ℕ → Column
 key_column name = record { name = name; kind = Integer; is_strict = true; not_null = false; default = Null; collation = Binary }
@@ -70,8 +75,46 @@ cell = record {
 abbrev pub cell_index : Index
 cell_index = record { name = codes "sqlite_autoindex_" ++ (codes "cell" ++ (codes "_" ++ decimal 1)); tree = 3; table = 2; columns = 1 ∷ 2 ∷ []; order = plain; is_unique = true }
 
-abbrev pub store_schema : Schema
-store_schema = record { tables = meta ∷ entry ∷ cell ∷ []; indexes = cell_index ∷ []; views = [] }
+-- the fourth table, which a store of version 2 has
+abbrev pub acted : Table
+acted = record {
+  name = codes "acted";
+  tree = 4;
+  columns = column_of (codes "origin") Integer ∷ column_of (codes "idx") Blob ∷ column_of (codes "hop") Integer ∷ column_of (codes "place") Integer ∷ [];
+  key = None;
+  primary = 1 ∷ 2 ∷ 3 ∷ [];
+  uniques = (4 ∷ []) ∷ (1 ∷ 2 ∷ 3 ∷ []) ∷ [];
+  orders = plain ∷ plain ∷ [];
+  checks = [];
+  references = [];
+  computed = [];
+  stamps = record { places = []; terms = []; formats = [] };
+  is_counted = false;
+}
+
+-- its index of places, and that of its primary key
+abbrev pub place_index : Index
+place_index = record { name = codes "sqlite_autoindex_" ++ (codes "acted" ++ (codes "_" ++ decimal 1)); tree = 5; table = 4; columns = 4 ∷ []; order = plain; is_unique = true }
+
+abbrev pub hop_index : Index
+hop_index = record { name = codes "sqlite_autoindex_" ++ (codes "acted" ++ (codes "_" ++ decimal 2)); tree = 6; table = 4; columns = 1 ∷ 2 ∷ 3 ∷ []; order = plain; is_unique = true }
+
+-- what a version has beside the three tables
+abbrev pub more_tables : StoreVersion → List Table
+more_tables One = []
+more_tables Two = acted ∷ []
+
+abbrev pub more_indexes : StoreVersion → List Index
+more_indexes One = []
+more_indexes Two = place_index ∷ hop_index ∷ []
+
+abbrev pub store_schema : StoreVersion → Schema
+store_schema version = record { tables = meta ∷ entry ∷ cell ∷ more_tables version; indexes = cell_index ∷ more_indexes version; views = [] }
+
+-- the schema is that of a store, of one version or the other
+pub record IsStoreSchema (schema : Schema) : Type 0 where
+  pub version : StoreVersion
+  pub is : schema ≡ store_schema version
 
 -- the schemas on the way to it
 abbrev pub no_schema : Schema

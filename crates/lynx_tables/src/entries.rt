@@ -2,6 +2,7 @@
 ghost use Rattle.std.specs.Prelude.{◌≡◌, IsTrue, OnOk};
 ghost use Rattle.sqlite.specs.Held.{state};
 ghost use Rattle.sqlite.specs.State.{HasCleanDisk, Survives};
+ghost use Rattle.lynx_tables.specs.declared.version.StoreVersion.{StoreVersion};
 ghost use Rattle.lynx_tables.specs.Tables.{store_schema};
 ghost use Rattle.lynx_tables.specs.Steps.{AddsEntry};
 
@@ -14,7 +15,7 @@ pub fn insert_entry<S: Alter>(
     body: &[u8],
 ) -> Result<usize, Error>
     ensures same_reference { tx.new.conn.ghost_name ≡ tx.old.conn.ghost_name }
-    ensures ok { HasCleanDisk (state S.Store tx.new.conn.now) → IsTrue (state S.Store tx.old.conn.now).in_transaction → (state S.Store tx.old.conn.now).now.schema ≡ store_schema
+    ensures ok { HasCleanDisk (state S.Store tx.new.conn.now) → IsTrue (state S.Store tx.old.conn.now).in_transaction → (version : StoreVersion) → (state S.Store tx.old.conn.now).now.schema ≡ store_schema version
         → OnOk result (AddsEntry (state S.Store tx.old.conn.now) (state S.Store tx.new.conn.now) place body.now) }
     ensures survives { Survives (state S.Store tx.old.conn.now) (state S.Store tx.new.conn.now) (λ _. ⊥) }
 {

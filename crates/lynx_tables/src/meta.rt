@@ -3,8 +3,9 @@ ghost use Rattle.std.specs.Prelude.{◌≡◌, [], IsTrue, OnOk};
 ghost use Rattle.sqlite.specs.Held.{state};
 ghost use Rattle.sqlite.specs.State.{HasCleanDisk, Survives};
 ghost use Rattle.lynx_tables.specs.Contents.{title_of};
+ghost use Rattle.lynx_tables.specs.declared.version.StoreVersion.{StoreVersion};
 ghost use Rattle.lynx_tables.specs.Tables.{store_schema};
-ghost use Rattle.lynx_tables.specs.Steps.{AddsText, WritesTitle};
+ghost use Rattle.lynx_tables.specs.Steps.{AddsText, WritesTitle, SetsText};
 
 use sqlite::types::{ToSql, ValueRef};
 use sqlite::{Alter, Error, Transaction};
@@ -18,7 +19,7 @@ pub fn insert_text<S: Alter>(
     ensures same_reference { tx.new.conn.ghost_name ≡ tx.old.conn.ghost_name }
     ensures ok { HasCleanDisk (state S.Store tx.new.conn.now)
         → IsTrue (state S.Store tx.old.conn.now).in_transaction
-        → (state S.Store tx.old.conn.now).now.schema ≡ store_schema
+        → (tables : StoreVersion) → (state S.Store tx.old.conn.now).now.schema ≡ store_schema tables
         → OnOk result (AddsText (state S.Store tx.old.conn.now) (state S.Store tx.new.conn.now) id text.now) }
     ensures survives { Survives (state S.Store tx.old.conn.now) (state S.Store tx.new.conn.now) (λ _. ⊥) }
 {
@@ -38,7 +39,7 @@ pub fn write_title<S: Alter>(
     ensures same_reference { tx.new.conn.ghost_name ≡ tx.old.conn.ghost_name }
     ensures ok { HasCleanDisk (state S.Store tx.new.conn.now)
         → IsTrue (state S.Store tx.old.conn.now).in_transaction
-        → (state S.Store tx.old.conn.now).now.schema ≡ store_schema
+        → (tables : StoreVersion) → (state S.Store tx.old.conn.now).now.schema ≡ store_schema tables
         → (state S.Store tx.old.conn.now).now.trees 0 ≡ []
         → OnOk result (WritesTitle (state S.Store tx.old.conn.now) (state S.Store tx.new.conn.now)
         (title_of version.now server.now set.now)) }
@@ -48,4 +49,19 @@ pub fn write_title<S: Alter>(
     insert_text(tx, 2, server)?;
     insert_text(tx, 3, set)?;
     Ok(())
+}
+
+/// Changes the text under a number.
+pub fn set_text<S: Alter>(tx: &mut Transaction<'_, S>, id: u32, text: &[u8]) -> Result<usize, Error>
+    ensures same_reference { tx.new.conn.ghost_name ≡ tx.old.conn.ghost_name }
+    ensures ok { HasCleanDisk (state S.Store tx.new.conn.now)
+        → IsTrue (state S.Store tx.old.conn.now).in_transaction
+        → (tables : StoreVersion) → (state S.Store tx.old.conn.now).now.schema ≡ store_schema tables
+        → OnOk result (SetsText (state S.Store tx.old.conn.now) (state S.Store tx.new.conn.now) id text.now) }
+    ensures survives { Survives (state S.Store tx.old.conn.now) (state S.Store tx.new.conn.now) (λ _. ⊥) }
+{
+    tx.execute(
+        "UPDATE meta SET txt = ?2 WHERE id = ?1",
+        &[id.to_sql(), ValueRef::Text(text)],
+    )
 }

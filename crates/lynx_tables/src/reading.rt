@@ -1,5 +1,5 @@
 //! The rows of a store, read back.
-ghost use Rattle.std.specs.Prelude.{◌≡◌, ◌≤◌, ℕ, List, IfOk, OnOk};
+ghost use Rattle.std.specs.Prelude.{◌≡◌, ◌≤◌, ℕ, List, Option, map, length, IfOk, OnOk};
 ghost use Rattle.sqlite_trees.specs.View.{doubt};
 ghost use Rattle.sqlite.specs.Tree.{Trees};
 ghost use Rattle.sqlite.specs.Held.{state};
@@ -8,11 +8,15 @@ ghost use Rattle.lynx_tables.specs.Contents.{Title, Contents};
 ghost use Rattle.lynx_tables.specs.Rows.{meta_rows, shown_meta, entry_rows, shown_entries};
 ghost use Rattle.lynx_tables.specs.Steps.{Keeps};
 ghost use Rattle.lynx_tables.specs.Cells.{HoldsCells};
+ghost use Rattle.lynx_tables.specs.declared.acts.Acted.{Acted};
+ghost use Rattle.lynx_tables.specs.declared.version.StoreVersion.{StoreVersion};
+ghost use Rattle.lynx_tables.specs.Acts.{HoldsActs, HoldsActed, ShowActed, ArePlaced, shown_act, acts_in, version_of};
+ghost use Rattle.lynx_tables.specs.Tables.{store_schema};
 ghost use Rattle.lynx_tables.specs.Shown.{AreCells, cells_in};
-ghost use Rattle.lynx_tables.specs.Reading.{IsStore, SameCommitted, ShowRows};
+ghost use Rattle.lynx_tables.specs.Reading.{IsStore, SameTables, ShowRows};
 
 use crate::rising::Rising;
-use crate::schema::is_store;
+use crate::schema::{is_first, is_second, is_store};
 use sqlite::{Connection, Error, ErrorCode, Row};
 
 /// The texts of `meta` by number: each a number and a text.
@@ -25,7 +29,7 @@ fn read_title<S: Rising>(conn: &mut Connection<S>) -> Result<Vec<Row>, Error>
         → (state S.Store conn.new).committed.trees 0 ≡ meta_rows title) }
     ensures store { HasCleanDisk (state S.Store conn.new) → OnOk result (IsStore (state S.Store conn.new)) }
     ensures same { HasCleanDisk (state S.Store conn.new)
-        → OnOk result (SameCommitted (state S.Store conn.old) (state S.Store conn.new)) }
+        → OnOk result (SameTables (state S.Store conn.old) (state S.Store conn.new)) }
     ensures stop { HasCleanDisk (state S.Store conn.new) → (db : Trees)
         → (state S.Store conn.new).may_leave db → (state S.Store conn.old).may_leave db }
 {
@@ -45,7 +49,7 @@ fn read_entries<S: Rising>(conn: &mut Connection<S>) -> Result<Vec<Row>, Error>
         → (state S.Store conn.new).committed.trees 1 ≡ entry_rows 0 bodies) }
     ensures store { HasCleanDisk (state S.Store conn.new) → OnOk result (IsStore (state S.Store conn.new)) }
     ensures same { HasCleanDisk (state S.Store conn.new)
-        → OnOk result (SameCommitted (state S.Store conn.old) (state S.Store conn.new)) }
+        → OnOk result (SameTables (state S.Store conn.old) (state S.Store conn.new)) }
     ensures stop { HasCleanDisk (state S.Store conn.new) → (db : Trees)
         → (state S.Store conn.new).may_leave db → (state S.Store conn.old).may_leave db }
 {
@@ -64,7 +68,7 @@ fn read_cells<S: Rising>(conn: &mut Connection<S>) -> Result<Vec<Row>, Error>
         → HoldsCells ((state S.Store conn.new).committed.trees 2) (cells_in rows.items)) }
     ensures store { HasCleanDisk (state S.Store conn.new) → OnOk result (IsStore (state S.Store conn.new)) }
     ensures same { HasCleanDisk (state S.Store conn.new)
-        → OnOk result (SameCommitted (state S.Store conn.old) (state S.Store conn.new)) }
+        → OnOk result (SameTables (state S.Store conn.old) (state S.Store conn.new)) }
     ensures stop { HasCleanDisk (state S.Store conn.new) → (db : Trees)
         → (state S.Store conn.new).may_leave db → (state S.Store conn.old).may_leave db }
 {
@@ -74,12 +78,60 @@ fn read_cells<S: Rising>(conn: &mut Connection<S>) -> Result<Vec<Row>, Error>
     conn.query_all("SELECT tab, k, v FROM cell ORDER BY tab, k", &[])
 }
 
+/// The hops by place, in a store of version 2: each an origin, an index, a hop and a place.
+fn read_places<S: Rising>(conn: &mut Connection<S>) -> Result<Vec<Row>, Error>
+    ensures clean { doubt (state S.Store conn.old).is_clean ≤ doubt (state S.Store conn.new).is_clean }
+    ensures version { HasCleanDisk (state S.Store conn.new) → OnOk result (((state S.Store conn.old).now.schema ≡ store_schema StoreVersion.Two)
+        × ((state S.Store conn.new).now.schema ≡ store_schema StoreVersion.Two)) }
+    ensures ok { HasCleanDisk (state S.Store conn.new) → IfOk result (λ rows. (contents : Contents)
+        → Keeps (state S.Store conn.old) contents → rows.items ≡ map shown_act (acts_in contents.acted)) }
+    ensures back { HasCleanDisk (state S.Store conn.new) → IfOk result (λ rows. (acts : List Acted) (places : ℕ)
+        → ArePlaced acts places → rows.items ≡ map shown_act acts
+        → HoldsActs ((state S.Store conn.new).committed.trees 4) acts) }
+    ensures kept { HasCleanDisk (state S.Store conn.new) → OnOk result ((contents : Contents)
+        → Keeps (state S.Store conn.old) contents → Keeps (state S.Store conn.new) contents) }
+    ensures stop { HasCleanDisk (state S.Store conn.new) → (db : Trees)
+        → (state S.Store conn.new).may_leave db → (state S.Store conn.old).may_leave db }
+{
+    if !conn.is_autocommit() || !is_second(conn.schema()) {
+        return Err(Error::SqliteFailure(ErrorCode::NotADatabase));
+    }
+    conn.query_all(
+        "SELECT origin, idx, hop, place FROM acted ORDER BY place",
+        &[],
+    )
+}
+
+/// The hops by place, None in a store of version 1, which has no such rows.
+#[tactic(auto, using(crate::proofs::KeptBack::first_shown, crate::proofs::KeptBack::first_back, crate::proofs::KeptBack::second_shown, crate::proofs::KeptBack::second_back))]
+fn read_acted<S: Rising>(conn: &mut Connection<S>) -> Result<Option<Vec<Row>>, Error>
+    ensures clean { doubt (state S.Store conn.old).is_clean ≤ doubt (state S.Store conn.new).is_clean }
+    ensures ok { HasCleanDisk (state S.Store conn.new) → IfOk result (λ rows. (contents : Contents)
+        → Keeps (state S.Store conn.old) contents → ShowActed rows contents.acted) }
+    ensures back { HasCleanDisk (state S.Store conn.new) → IfOk result (λ rows. (acted : Option (List Acted)) (places : ℕ)
+        → ArePlaced (acts_in acted) places → ShowActed rows acted
+        → HoldsActed ((state S.Store conn.new).committed.trees 4) acted
+        × ((state S.Store conn.new).now.schema ≡ store_schema (version_of acted))) }
+    ensures kept { HasCleanDisk (state S.Store conn.new) → OnOk result ((contents : Contents)
+        → Keeps (state S.Store conn.old) contents → Keeps (state S.Store conn.new) contents) }
+    ensures stop { HasCleanDisk (state S.Store conn.new) → (db : Trees)
+        → (state S.Store conn.new).may_leave db → (state S.Store conn.old).may_leave db }
+{
+    if is_first(conn.schema()) {
+        return Ok(None);
+    }
+    let rows = read_places(conn)?;
+    Ok(Some(rows))
+}
+
 /// All rows of a store, as the queries show them.
 #[derive(Drop)]
 pub struct StoredRows {
     pub title: Vec<Row>,
     pub entries: Vec<Row>,
     pub cells: Vec<Row>,
+    /// The hops that ran, None in a store of version 1.
+    pub acted: Option<Vec<Row>>,
 }
 
 /// Reads all rows of a store. An error where the database has not its tables, or fails.
@@ -90,13 +142,14 @@ pub fn read_rows<S: Rising>(conn: &mut Connection<S>) -> Result<StoredRows, Erro
         → Keeps (state S.Store conn.old) contents → ShowRows rows contents) }
     // What the rows show is kept.
     ensures back { HasCleanDisk (state S.Store conn.new) → IfOk result (λ rows. (contents : Contents)
-        → AreCells rows.cells.items → ShowRows rows contents
+        → AreCells rows.cells.items → ArePlaced (acts_in contents.acted) (length contents.bodies) → ShowRows rows contents
         → Keeps (state S.Store conn.new) contents) }
     ensures kept { HasCleanDisk (state S.Store conn.new) → OnOk result ((contents : Contents)
         → Keeps (state S.Store conn.old) contents → Keeps (state S.Store conn.new) contents) }
     ensures stop { HasCleanDisk (state S.Store conn.new) → (db : Trees)
         → (state S.Store conn.new).may_leave db → (state S.Store conn.old).may_leave db }
 {
+    let acted = read_acted(conn)?;
     let title = read_title(conn)?;
     let entries = read_entries(conn)?;
     let cells = read_cells(conn)?;
@@ -104,5 +157,6 @@ pub fn read_rows<S: Rising>(conn: &mut Connection<S>) -> Result<StoredRows, Erro
         title,
         entries,
         cells,
+        acted,
     })
 }

@@ -16,10 +16,10 @@ loop-table-preserved g c =
     record {
       same_reference = c.write_cell.ensures.same_reference ∙ c.loop-table.invariant.same_reference;
       survives = survives_then first mid now _ _ (λ _. ⊥) (λ _ db none. none) (λ _ db none. none) c.loop-table.invariant.survives c.write_cell.ensures.survives;
-      changed = λ clean up inside has.
+      changed = λ clean up inside version has.
           let before : HasCleanDisk mid = omega (arith, c.write_cell.ensures.survives.clean) in
-          let so_far = c.loop-table.invariant.changed before up inside has in
-          let step = c.in_ok-write_cell.ensures.ok clean so_far.on.shown.mode so_far.on.schema in
+          let so_far = c.loop-table.invariant.changed before up inside version has in
+          let step = c.in_ok-write_cell.ensures.ok clean so_far.on.shown.mode version (so_far.on.schema ∙ has) in
           let low : c.loop-table.table-index < length c.args.changes.now = omega arith in
           let at : c.from.result ≡ c.loop-table-item.result.0 = c.from.ensures ∙ c.number.ensures.value in
           changes_same first now _ _ (written_next c.args.changes.now c.loop-table.table-index c.from.result c.loop-table-item.result low c.loop-table-item.is at) (changes_then first mid now _ _ so_far step);

@@ -3,6 +3,7 @@ use Rattle.sqlite.specs.Held.{state}
 use Rattle.sqlite.specs.State.{HasCleanDisk, Survives}
 use Rattle.lynx_cells.specs.Database.{written}
 use Rattle.lynx_cells.specs.Triples.{entries_of}
+use Rattle.lynx_tables.specs.declared.version.StoreVersion.{StoreVersion}
 use Rattle.lynx_tables.specs.Tables.{store_schema}
 use Rattle.lynx_tables.specs.Steps.{WritesCells}
 use Rattle.lynx_tables.proofs.cells.write_cells.Given as goal
@@ -14,5 +15,5 @@ invariant-loop-table g l =
     record {
       same_reference : l.tx.conn.ghost_name ≡ l.fn.tx.conn.ghost_name;
       survives : Survives first now (λ _. ⊥);
-      changed : HasCleanDisk now → IsTrue first.is_open → IsTrue first.in_transaction → first.now.schema ≡ store_schema → WritesCells first now (written (entries_of (take l.table-index l.changes)));
+      changed : HasCleanDisk now → IsTrue first.is_open → IsTrue first.in_transaction → (version : StoreVersion) → first.now.schema ≡ store_schema version → WritesCells first now (written (entries_of (take l.table-index l.changes)));
     }

@@ -12,6 +12,7 @@ use Rattle.lynx_tables.proofs.making.make_store.Goals as goal
 
 pub returns-clause-ok : goal.returns-clause-ok
 returns-clause-ok g c clean has =
+    let tables = c.args.tables in
     let title = title_of c.args.version.now c.args.server.now c.args.set.now in
     let old = c.args.conn.now in
     let tx = c.transaction-tx.result.conn.now in
@@ -22,13 +23,14 @@ returns-clause-ok g c clean has =
     let late : HasCleanDisk (state g.S.Store end) = search rules in
     let last_clean : HasCleanDisk (state g.S.Store last) = omega (arith, c.commit.ensures.survives.clean) in
     let one_clean : HasCleanDisk (state g.S.Store one) = omega (arith, c.write_title.ensures.survives.clean) in
-    let there = store_made g.S.Store old tx one last title c.transaction-tx.ensures.begun
-    (c.in_ok-make_tables.ensures.ok one_clean) (c.in_ok-write_title.ensures.ok last_clean) has in
+    let there = store_made g.S.Store old tx one last tables title c.transaction-tx.ensures.begun
+    (c.in_ok-make_tables.ensures.ok one_clean) (λ inside has. c.in_ok-write_title.ensures.ok last_clean inside tables has) has in
     on_ok c.commit.result (λ done.
-    subst (λ h. Keeps (state g.S.Store h) (titled title)) same (kept_after (state g.S.Store last) (state g.S.Store end) _ done.1 there)) (c.commit.ensures.ok late)
+    subst (λ h. Keeps (state g.S.Store h) (titled tables title)) same (kept_after (state g.S.Store last) (state g.S.Store end) _ done.1 there)) (c.commit.ensures.ok late)
 
 pub returns-clause-stop : goal.returns-clause-stop
 returns-clause-stop g c clean has db may =
+    let tables = c.args.tables in
     let title = title_of c.args.version.now c.args.server.now c.args.set.now in
     let old = c.args.conn.now in
     let tx = c.transaction-tx.result.conn.now in
@@ -40,9 +42,9 @@ returns-clause-stop g c clean has db may =
     let late : HasCleanDisk (state g.S.Store end) = search rules in
     let last_clean : HasCleanDisk (state g.S.Store last) = omega (arith, c.commit.ensures.survives.clean) in
     let one_clean : HasCleanDisk (state g.S.Store one) = omega (arith, c.write_title.ensures.survives.clean) in
-    let there = store_made g.S.Store old tx one last title begun
-    (c.in_ok-make_tables.ensures.ok one_clean) (c.in_ok-write_title.ensures.ok last_clean) has in
-    let P = λ (trees : Trees). Holds trees (titled title) in
+    let there = store_made g.S.Store old tx one last tables title begun
+    (c.in_ok-make_tables.ensures.ok one_clean) (λ inside has. c.in_ok-write_title.ensures.ok last_clean inside tables has) has in
+    let P = λ (trees : Trees). Holds trees (titled tables title) in
     let inside = survives_then (state g.S.Store tx) (state g.S.Store one) (state g.S.Store last) _ _ (λ _. ⊥) (λ _ db none. none) (λ _ db none. none)
     c.make_tables.ensures.survives c.write_title.ensures.survives in
     let whole = survives_then (state g.S.Store old) (state g.S.Store last) (state g.S.Store end) _ _ P (λ _ db none. absurd none) (λ _ db is. subst P (sym is) there.0)

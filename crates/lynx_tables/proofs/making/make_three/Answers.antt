@@ -3,7 +3,7 @@ use Rattle.sqlite.specs.State.{HasCleanDisk}
 use Rattle.sqlite.specs.Held.{state}
 use Rattle.sqlite.proofs.StateLemmas.{survives_then}
 use Rattle.lynx_tables.proofs.CreateLemmas.{all_made}
-use Rattle.lynx_tables.proofs.making.make_tables.Goals as goal
+use Rattle.lynx_tables.proofs.making.make_three.Goals as goal
 
 pub returns-clause-ok : goal.returns-clause-ok
 returns-clause-ok g c clean inside has =

@@ -1,5 +1,5 @@
 -- What a commit keeps, and what a stop leaves of it.
-use Rattle.std.proofs.Common.{◌≡◌, ◌⊎◌, inl, inr, ℕ, suc, ◌+◌, true, List, [], ◌∷◌, ◌++◌, length, refl, sym, ap, subst, ◌∙◌, arith, length-append}
+use Rattle.std.proofs.Common.{Option, ◌≡◌, ◌⊎◌, inl, inr, ℕ, suc, ◌+◌, true, List, [], ◌∷◌, ◌++◌, length, refl, sym, ap, subst, ◌∙◌, arith, length-append}
 use Rattle.std.specs.List.{AllByRecursion}
 use Rattle.sqlite.specs.Tree.{Trees}
 use Rattle.sqlite.specs.State.{State}
@@ -8,9 +8,15 @@ use Rattle.lynx_entry.specs.declared.entry.Entry.{Entry}
 use Rattle.lynx_entry.specs.Entry.{History}
 use Rattle.lynx_keep.specs.Kept.{KeptState, nothing_kept, with_entry}
 use Rattle.lynx_keep.specs.Stored.{form_of, HasForm}
-use Rattle.lynx_tables.specs.Contents.{Title, Contents, title_of, titled, with_body}
+use Rattle.lynx_tables.specs.declared.acts.Acted.{Acted}
+use Rattle.lynx_tables.specs.declared.version.StoreVersion.{StoreVersion}
+use Rattle.lynx_tables.specs.declared.version.StoreVersion.TheVariants.{One, Two}
+use Rattle.lynx_tables.specs.Acts.{ArePlaced, acts_in, with_acted}
+use Rattle.lynx_tables.specs.Contents.{Contents, title_of, titled, with_body}
 use Rattle.lynx_tables.specs.Steps.{Holds, Keeps}
-use Rattle.lynx_store.specs.Stored.{bodies_of, contents_of, version_text, IsKept}
+use Rattle.lynx_store.specs.Acts.{act_at, acted_of}
+use Rattle.lynx_store.specs.Stored.{bodies_of, contents_of, version_text, title_for, Owner, IsKept}
+use Rattle.lynx_store.proofs.ActLemmas.{acted-append, acts_placed}
 
 pub bodies-append : (entries : History) (entry : Entry) → bodies_of entries ++ form_of entry ∷ [] ≡ bodies_of (entries ++ entry ∷ [])
 bodies-append [] entry = refl
@@ -24,46 +30,67 @@ pub formed-append : (entries : History) (entry : Entry) → AllByRecursion HasFo
 formed-append [] entry all formed = (formed, tt)
 formed-append (e ∷ es) entry all formed = (all.0, formed-append es entry all.1 formed)
 
--- a commit of one entry, whose body is its form
-module _ (old new : State) (title : Title) (count : ℕ) (entry : Entry) (body : List ℕ) (changes : ChangeSet) (is : body ≡ form_of entry) where
-  same_contents : (before : KeptState) → with_body (contents_of title before) body changes ≡ contents_of title (with_entry before entry changes)
-  same_contents before =
+-- a commit of one entry, whose body is its form, and of its hop
+module _ (old new : State) (owner : Owner) (count : ℕ) (entry : Entry) (body : List ℕ) (changes : ChangeSet) (acted : Option Acted)
+    (is : body ≡ form_of entry) (hop : acted ≡ act_at count entry) where
+  same_contents : (before : KeptState) → count ≡ length before.entries
+      → with_body (contents_of owner before) body changes acted ≡ contents_of owner (with_entry before entry changes)
+  same_contents before counted =
       let all : bodies_of before.entries ++ body ∷ [] ≡ bodies_of (before.entries ++ entry ∷ []) =
       ap (λ b. bodies_of before.entries ++ b ∷ []) is ∙ bodies-append before.entries entry in
-      λ i. record { title = title; bodies = all i; cells = applied changes before.cells }
+      let acts : with_acted (acted_of owner.version before.entries) acted ≡ acted_of owner.version (before.entries ++ entry ∷ []) =
+      ap (with_acted (acted_of owner.version before.entries)) hop ∙ acted-append owner.version before.entries entry count counted in
+      λ i. record { title = title_for owner; bodies = all i; cells = applied changes before.cells; acted = acts i }
 
-  pub kept_with : ((contents : Contents) → Keeps old contents → count ≡ length contents.bodies → Keeps new (with_body contents body changes))
-      → HasForm entry → (before : KeptState) → IsKept old title count before → IsKept new title (count + 1) (with_entry before entry changes)
+  pub kept_with : ((contents : Contents) → Keeps old contents → count ≡ length contents.bodies → Keeps new (with_body contents body changes acted))
+      → HasForm entry → (before : KeptState) → IsKept old owner count before → IsKept new owner (count + 1) (with_entry before entry changes)
   kept_with wrote formed before kept = record {
-    tables = subst (Keeps new) (same_contents before)
-        (wrote (contents_of title before) kept.tables (kept.counted ∙ sym (length-bodies before.entries)));
+    tables = subst (Keeps new) (same_contents before kept.counted)
+        (wrote (contents_of owner before) kept.tables (kept.counted ∙ sym (length-bodies before.entries)));
     counted = omega (arith, kept.counted, length-append before.entries (entry ∷ []));
     formed = formed-append before.entries entry kept.formed formed;
   }
 
   pub left_with : ((contents : Contents) → Keeps old contents → count ≡ length contents.bodies → (db : Trees) → new.may_leave db
-      → old.may_leave db ⊎ Holds db (with_body contents body changes))
-      → ((db : Trees) → old.is_open ≡ true → old.may_leave db → db ≡ old.committed.trees) → (before : KeptState) → IsKept old title count before
-      → (db : Trees) → new.may_leave db → Holds db (contents_of title before) ⊎ Holds db (contents_of title (with_entry before entry changes))
+      → old.may_leave db ⊎ Holds db (with_body contents body changes acted))
+      → ((db : Trees) → old.is_open ≡ true → old.may_leave db → db ≡ old.committed.trees) → (before : KeptState) → IsKept old owner count before
+      → (db : Trees) → new.may_leave db → Holds db (contents_of owner before) ⊎ Holds db (contents_of owner (with_entry before entry changes))
   left_with stop settled before kept db may =
-      elim (stop (contents_of title before) kept.tables (kept.counted ∙ sym (length-bodies before.entries)) db may) [
-        | inl earlier ↦ inl (subst (λ trees. Holds trees (contents_of title before)) (sym (settled db kept.tables.is_open earlier)) kept.tables.tables)
-        | inr whole ↦ inr (subst (Holds db) (same_contents before) whole)
+      elim (stop (contents_of owner before) kept.tables (kept.counted ∙ sym (length-bodies before.entries)) db may) [
+        | inl earlier ↦ inl (subst (λ trees. Holds trees (contents_of owner before)) (sym (settled db kept.tables.is_open earlier)) kept.tables.tables)
+        | inr whole ↦ inr (subst (Holds db) (same_contents before kept.counted) whole)
       ]
 
+-- what a new store holds is nothing
+new_contents : (version : StoreVersion) (server set : List ℕ) → titled version (title_of (version_text version) server set)
+    ≡ contents_of (record { version = version; server = server; set = set }) nothing_kept
+new_contents One server set = refl
+new_contents Two server set = refl
+
+-- hops of entries that have forms are placed among their bodies
+pub placed : (version : StoreVersion) (entries : History) → AllByRecursion HasForm entries
+    → ArePlaced (acts_in (acted_of version entries)) (length (bodies_of entries))
+placed version entries formed = acts_placed version entries (length (bodies_of entries)) (length-bodies entries) formed
+
 -- a new store keeps nothing
-pub new_kept : (s : State) (own_server server own_set set : List ℕ) → server ≡ own_server → set ≡ own_set
-    → Keeps s (titled (title_of version_text server set)) → IsKept s (title_of version_text own_server own_set) 0 nothing_kept
-new_kept s own_server server own_set set same_server same_set keeps = record {
-  tables = subst (λ other. Keeps s (titled (title_of version_text own_server other))) same_set
-      (subst (λ other. Keeps s (titled (title_of version_text other set))) same_server keeps);
+pub new_kept : (s : State) (version : StoreVersion) (own_server server own_set set text : List ℕ) → server ≡ own_server → set ≡ own_set
+    → text ≡ version_text version → Keeps s (titled version (title_of text server set))
+    → IsKept s (record { version = version; server = own_server; set = own_set }) 0 nothing_kept
+new_kept s version own_server server own_set set text same_server same_set same_text keeps = record {
+  tables = subst (Keeps s) (new_contents version own_server own_set)
+      (subst (λ other. Keeps s (titled version (title_of (version_text version) own_server other))) same_set
+      (subst (λ other. Keeps s (titled version (title_of (version_text version) other set))) same_server
+      (subst (λ other. Keeps s (titled version (title_of other server set))) same_text keeps)));
   counted = refl;
   formed = tt;
 }
 
--- the same texts are one title
-pub retitled : (s : State) (count : ℕ) (kept : KeptState) (own_server server own_set set : List ℕ) → own_server ≡ server → own_set ≡ set
-    → IsKept s (title_of version_text server set) count kept → IsKept s (title_of version_text own_server own_set) count kept
-retitled s count kept own_server server own_set set same_server same_set is =
-    subst (λ other. IsKept s (title_of version_text own_server other) count kept) (sym same_set)
-    (subst (λ other. IsKept s (title_of version_text other set) count kept) (sym same_server) is)
+-- the same owner
+pub reowned : (s : State) (count : ℕ) (kept : KeptState) (own other : Owner) → own ≡ other → IsKept s other count kept → IsKept s own count kept
+reowned s count kept own other same is = subst (λ owner. IsKept s owner count kept) (sym same) is
+
+pub same_owner : (own_version version : StoreVersion) (own_server server own_set set : List ℕ)
+    → own_version ≡ version → own_server ≡ server → own_set ≡ set
+    → ◌≡◌ {A = Owner} (record { version = own_version; server = own_server; set = own_set }) (record { version = version; server = server; set = set })
+same_owner own_version version own_server server own_set set same_version same_server same_set =
+    λ i. record { version = same_version i; server = same_server i; set = same_set i }

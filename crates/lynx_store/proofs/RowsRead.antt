@@ -13,12 +13,11 @@ use Rattle.lynx_forms.proofs.Feeds.{no_form_begins_another}
 use Rattle.lynx_keep.specs.Kept.{KeptState}
 use Rattle.lynx_keep.specs.Stored.{form_of, HasForm}
 use Rattle.lynx_keep.proofs.Keeping.{same_kept}
-use Rattle.lynx_tables.specs.Contents.{Title}
 use Rattle.lynx_tables.specs.declared.reading.StoredRows.{StoredRows}
 use Rattle.lynx_tables.specs.Rows.{shown_entries}
 use Rattle.lynx_tables.specs.Reading.{ShowRows}
 use Rattle.lynx_tables.specs.Shown.{AreCells, FitsRow, row_of, entry_in}
-use Rattle.lynx_store.specs.Stored.{bodies_of, contents_of, Tells}
+use Rattle.lynx_store.specs.Stored.{bodies_of, contents_of, Owner, Tells}
 use Rattle.lynx_store.proofs.Kept.{bodies-append, length-bodies}
 
 pub take_whole : {A : Type 0} (xs : List A) (i : ℕ) → length xs ≤ i → take i xs ≡ xs
@@ -95,9 +94,9 @@ same_entries (a ∷ ours) (b ∷ theirs) formed others same =
     ap (λ x. x ∷ ours) (same_entry a b formed.0 others.0 here) ∙ ap (λ xs. b ∷ xs) (same_entries ours theirs formed.1 others.1 rest)
 
 -- rows tell one state
-pub one_state : (rows : StoredRows) (title : Title) (ours theirs : KeptState) → AllByRecursion HasForm ours.entries → ShowRows rows (contents_of title ours)
-    → Tells rows title theirs → ours ≡ theirs
-one_state rows title ours theirs formed shown tells =
+pub one_state : (rows : StoredRows) (owner : Owner) (ours theirs : KeptState) → AllByRecursion HasForm ours.entries → ShowRows rows (contents_of owner ours)
+    → Tells rows owner theirs → ours ≡ theirs
+one_state rows owner ours theirs formed shown tells =
     let entries : ours.entries ≡ theirs.entries =
     same_entries ours.entries theirs.entries formed tells.formed (same_bodies 0 _ _ (sym shown.entries ∙ tells.shown.entries)) in
     same_kept ours.entries theirs.entries ours.cells theirs.cells entries (sym shown.cells ∙ tells.shown.cells)

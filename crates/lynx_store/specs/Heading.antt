@@ -1,7 +1,6 @@
--- The title that a heading stands for.
-use Rattle.lynx_tables.specs.Contents.{Title, title_of}
+-- The owner that a heading stands for.
 use Rattle.lynx_store.specs.declared.heading.Heading.{Heading}
-use Rattle.lynx_store.specs.Stored.{version_text}
+use Rattle.lynx_store.specs.Stored.{Owner}
 
-abbrev pub title_in : Heading → Title
-title_in heading = title_of version_text heading.server.items heading.set.items
+abbrev pub owner_in : Heading → Owner
+owner_in heading = record { version = heading.version; server = heading.server.items; set = heading.set.items }

@@ -1,3 +1,4 @@
+pub mod Acts
 pub mod Premise
 pub mod Stored
 pub mod Heading

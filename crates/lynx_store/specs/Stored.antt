@@ -9,7 +9,14 @@ use Rattle.lynx_keep.specs.Kept.{KeptState, nothing_kept}
 use Rattle.lynx_keep.specs.Stored.{form_of, HasForm}
 use Rattle.lynx_store.specs.declared.fault.StoreFault.{StoreFault}
 use Rattle.lynx_store.specs.declared.fault.StoreFault.TheVariants.{OtherSet, OtherVersion}
+use Rattle.lynx_set.specs.Set.{Set}
+use Rattle.lynx_set.specs.Text.{text_of}
+use Rattle.lynx_set.specs.declared.version.Version.{Version}
+use Rattle.lynx_set.specs.declared.version.Version.TheVariants as sets
+use Rattle.lynx_store.specs.Acts.{acted_of}
 use Rattle.lynx_tables.specs.Contents.{Title, Contents, title_of}
+use Rattle.lynx_tables.specs.declared.version.StoreVersion.{StoreVersion}
+use Rattle.lynx_tables.specs.declared.version.StoreVersion.TheVariants.{One, Two}
 use Rattle.lynx_tables.specs.declared.reading.StoredRows.{StoredRows}
 use Rattle.lynx_tables.specs.Shown.{AreCells}
 use Rattle.lynx_tables.specs.Tables.{no_schema}
@@ -17,44 +24,65 @@ use Rattle.lynx_tables.specs.Reading.{ShowRows}
 use Rattle.lynx_tables.specs.Steps.{Holds, Keeps}
 
 -- the version of the tables, as the first row of `meta` has it
-abbrev pub version_text : List ℕ
-version_text = codes "lynx store 1"
+abbrev pub version_text : StoreVersion → List ℕ
+version_text One = codes "lynx store 1"
+version_text Two = codes "lynx store 2"
 
--- the title of a server's store: its number in decimal, and the text of its set
-abbrev pub server_title : ℕ → List ℕ → Title
-server_title server set = title_of version_text (decimal server) set
+-- the version of the stores of a set
+abbrev pub version_for : Version → StoreVersion
+version_for sets.One = One
+version_for sets.Two = Two
+
+-- whose a store is: its version, the number of its server in decimal, and the text of its set
+pub record Owner : Type 0 where
+  pub version : StoreVersion
+  pub server : List ℕ
+  pub set : List ℕ
+
+-- the texts that `meta` has of it
+abbrev pub title_for : Owner → Title
+title_for owner = title_of (version_text owner.version) owner.server owner.set
+
+-- a server of a set owns its store
+abbrev pub owner_for : ℕ → Set → Owner
+owner_for server chains = record { version = version_for chains.version; server = decimal server; set = text_of chains }
 
 -- the forms of entries, a body each
 abbrev pub bodies_of : History → List (List ℕ)
 bodies_of entries = map form_of entries
 
--- what is kept, under a title
-abbrev pub contents_of : Title → KeptState → Contents
-contents_of title kept = record { title = title; bodies = bodies_of kept.entries; cells = kept.cells }
+-- what the tables of an owner hold of what is kept
+abbrev pub contents_of : Owner → KeptState → Contents
+contents_of owner kept = record {
+  title = title_for owner;
+  bodies = bodies_of kept.entries;
+  cells = kept.cells;
+  acted = acted_of owner.version kept.entries;
+}
 
 -- the tables of an open store stand for this, and the next place is known
-pub record IsKept (s : State) (title : Title) (count : ℕ) (kept : KeptState) : Type 0 where
-  pub tables : Keeps s (contents_of title kept)
+pub record IsKept (s : State) (owner : Owner) (count : ℕ) (kept : KeptState) : Type 0 where
+  pub tables : Keeps s (contents_of owner kept)
   pub counted : count ≡ length kept.entries
   -- without that two entries might have one form
   pub formed : AllByRecursion HasForm kept.entries
 
 -- whatever a stop leaves stands for one or the other
-abbrev pub LeavesOneOf : (Trees → Type 0) → Title → KeptState → KeptState → Type 0
-LeavesOneOf may_leave title one other =
-    (db : Trees) → may_leave db → Holds db (contents_of title one) ⊎ Holds db (contents_of title other)
+abbrev pub LeavesOneOf : (Trees → Type 0) → Owner → KeptState → KeptState → Type 0
+LeavesOneOf may_leave owner one other =
+    (db : Trees) → may_leave db → Holds db (contents_of owner one) ⊎ Holds db (contents_of owner other)
 
 -- the fault says that the store is another's
 abbrev pub IsOther : StoreFault → Type 0
 IsOther fault = (fault ≡ OtherSet) ⊎ (fault ≡ OtherVersion)
 
 -- a stop leaves what it could leave before, or of a database without tables the whole new store
-abbrev pub LeavesOpened : State → State → Title → Type 0
-LeavesOpened old new title = (db : Trees) → new.may_leave db
-    → old.may_leave db ⊎ ((old.now.schema ≡ no_schema) × Holds db (contents_of title nothing_kept))
+abbrev pub LeavesOpened : State → State → Owner → Type 0
+LeavesOpened old new owner = (db : Trees) → new.may_leave db
+    → old.may_leave db ⊎ ((old.now.schema ≡ no_schema) × Holds db (contents_of owner nothing_kept))
 
--- the rows tell this under a title, and nothing else
-pub record Tells (rows : StoredRows) (title : Title) (kept : KeptState) : Type 0 where
+-- the rows tell this of an owner, and nothing else
+pub record Tells (rows : StoredRows) (owner : Owner) (kept : KeptState) : Type 0 where
   pub cells : AreCells rows.cells.items
-  pub shown : ShowRows rows (contents_of title kept)
+  pub shown : ShowRows rows (contents_of owner kept)
   pub formed : AllByRecursion HasForm kept.entries

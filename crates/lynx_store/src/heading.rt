@@ -3,22 +3,42 @@ ghost use Rattle.std.specs.Fmt.{decimal};
 ghost use Rattle.sqlite_value.specs.declared.value.Value.TheVariants.{Int, Text};
 ghost use Rattle.lynx_set.specs.Text.{text_of};
 ghost use Rattle.lynx_tables.specs.Rows.{shown_meta};
-ghost use Rattle.lynx_store.specs.Heading.{title_in};
+ghost use Rattle.lynx_store.specs.Heading.{owner_in};
+ghost use Rattle.lynx_store.specs.Stored.{title_for, version_for, version_text};
 
 use crate::columns::{is_number, is_text};
 use lynx_names::{Memory, ServerId};
-use lynx_set::ChainSet;
+use lynx_set::{ChainSet, Version};
+use lynx_tables::StoreVersion;
 use lynx_text::print;
 use lynx_text::printing::put_number;
 use sqlite::Row;
 use std::alloc::Global;
 
-/// The first text of `meta`.
-pub const VERSION: &[u8] = b"lynx store 1";
+/// The first text of `meta` in a store of a version.
+pub(crate) fn version_text(version: StoreVersion) -> &'static [u8]
+    ensures { result.now ≡ version_text version }
+{
+    match version {
+        StoreVersion::One => b"lynx store 1",
+        StoreVersion::Two => b"lynx store 2",
+    }
+}
 
-/// The server and the set of a store, as `meta` has them.
+/// The version of the stores of a set.
+pub(crate) fn version_for(version: Version) -> StoreVersion
+    ensures { result ≡ version_for version }
+{
+    match version {
+        Version::One => StoreVersion::One,
+        Version::Two => StoreVersion::Two,
+    }
+}
+
+/// The version, the server and the set of a store, as `meta` has them.
 #[derive(Debug, Drop)]
 pub struct Heading {
+    pub version: StoreVersion,
     /// The server's number in decimal.
     pub server: Vec<u8>,
     /// The text of the set.
@@ -28,24 +48,34 @@ pub struct Heading {
 impl Heading {
     /// That of a server of a set.
     pub fn new(alloc: Global, set: &ChainSet, server: ServerId) -> Result<Heading, Memory>
+        ensures version { IfOk result (λ heading. heading.version ≡ version_for set.now.version) }
         ensures server { IfOk result (λ heading. heading.server.items ≡ decimal server) }
         ensures set { IfOk result (λ heading. heading.set.items ≡ text_of set.now) }
     {
         let mut number = Vec::new(alloc);
         put_number(alloc, &mut number, u64::from(server.number()))?;
+        let version = version_for(set.version());
         let set = print(alloc, set)?;
         Ok(Heading {
+            version,
             server: number,
             set,
         })
     }
 
     /// That of these texts.
-    pub(crate) fn copied(alloc: Global, server: &[u8], set: &[u8]) -> Result<Heading, Memory>
+    pub(crate) fn copied(
+        alloc: Global,
+        version: StoreVersion,
+        server: &[u8],
+        set: &[u8],
+    ) -> Result<Heading, Memory>
+        ensures version { IfOk result (λ heading. heading.version ≡ version) }
         ensures server { IfOk result (λ heading. heading.server.items ≡ server.now) }
         ensures set { IfOk result (λ heading. heading.set.items ≡ set.now) }
     {
         Ok(Heading {
+            version,
             server: Vec::from_slice(alloc, server)?,
             set: Vec::from_slice(alloc, set)?,
         })
@@ -53,12 +83,12 @@ impl Heading {
 
     /// Whether the rows of `meta` are its texts.
     pub(crate) fn is_shown(&self, rows: &[Row]) -> bool
-        ensures { IsTrue result ↔ (rows.now ≡ shown_meta (title_in self.now)) }
+        ensures { IsTrue result ↔ (rows.now ≡ shown_meta (title_for (owner_in self.now))) }
     {
         let [version, server, set] = rows else {
             return false;
         };
-        is_meta_row(version, 1, VERSION)
+        is_meta_row(version, 1, version_text(self.version))
             && is_meta_row(server, 2, self.server.as_slice())
             && is_meta_row(set, 3, self.set.as_slice())
     }

@@ -9,19 +9,19 @@ ghost use Rattle.sqlite.specs.Tree.{Trees};
 ghost use Rattle.sqlite.specs.Held.{state};
 ghost use Rattle.lynx_keep.specs.Kept.{kept_in};
 ghost use Rattle.lynx_set.specs.Text.{text_of};
-ghost use Rattle.lynx_store.specs.Heading.{title_in};
+ghost use Rattle.lynx_store.specs.Heading.{owner_in};
 ghost use Rattle.lynx_store.specs.Premise.{IsUndisturbed};
-ghost use Rattle.lynx_store.specs.Stored.{IsKept, server_title};
+ghost use Rattle.lynx_store.specs.Stored.{IsKept, owner_for};
 
 use crate::columns::{is_number, text_in};
 use crate::fault::StoreFault;
-use crate::heading::{Heading, VERSION, is_meta_row};
+use crate::heading::{Heading, is_meta_row, version_for, version_text};
 use crate::keeper::loaded_of;
 use lynx_keep::{KeepFault, Loaded};
 use lynx_names::{Memory, ServerId};
 use lynx_set::ChainSet;
 use lynx_tables::schema::is_store;
-use lynx_tables::{Rising, read_rows};
+use lynx_tables::{Rising, StoreVersion, read_rows};
 use lynx_text::{FaultKind, parse};
 use lynx_words::number::number;
 use sqlite::{Connection, Row};
@@ -35,6 +35,17 @@ pub struct Inspected {
     pub loaded: Loaded,
 }
 
+/// The version that the first row of `meta` tells.
+fn version_in(row: &Row) -> Option<StoreVersion> {
+    if is_meta_row(row, 1, version_text(StoreVersion::One)) {
+        return Some(StoreVersion::One);
+    }
+    if is_meta_row(row, 1, version_text(StoreVersion::Two)) {
+        return Some(StoreVersion::Two);
+    }
+    None
+}
+
 /// The heading that the rows of `meta` tell.
 fn heading_in(alloc: Global, rows: &[Row]) -> Result<Heading, StoreFault> {
     let [version, server, set] = rows else {
@@ -43,13 +54,13 @@ fn heading_in(alloc: Global, rows: &[Row]) -> Result<Heading, StoreFault> {
     if !is_number(version, 0, 1) || !is_number(server, 0, 2) || !is_number(set, 0, 3) {
         return Err(StoreFault::Damaged);
     }
-    if !is_meta_row(version, 1, VERSION) {
+    let Some(version) = version_in(version) else {
         return Err(StoreFault::OtherVersion);
-    }
+    };
     let (Some(server), Some(set)) = (text_in(server, 1), text_in(set, 1)) else {
         return Err(StoreFault::Damaged);
     };
-    Ok(Heading::copied(alloc, server, set)?)
+    Ok(Heading::copied(alloc, version, server, set)?)
 }
 
 /// The server that a text is the number of.
@@ -71,11 +82,15 @@ fn set_in(alloc: Global, text: &[u8]) -> Result<ChainSet, StoreFault>
     }
 }
 
-/// The set and the server of a heading, which is one of the set's.
+/// The set and the server of a heading, which is one of the set's, as its version is.
+#[tactic(auto, using(crate::proofs::Kept::same_owner))]
 fn owner_of(alloc: Global, heading: &Heading) -> Result<(ChainSet, ServerId), StoreFault>
-    ensures { IfOk result (λ owner. title_in heading.now ≡ server_title owner.1 (text_of owner.0)) }
+    ensures { IfOk result (λ owner. owner_in heading.now ≡ owner_for owner.1 owner.0) }
 {
     let set = set_in(alloc, heading.set.as_slice())?;
+    if version_for(set.version()) != heading.version {
+        return Err(StoreFault::Damaged);
+    }
     match server_in(heading.server.as_slice()) {
         Some(server) if set.has_server(server) => Ok((set, server)),
         _ => Err(StoreFault::Damaged),
@@ -86,7 +101,7 @@ fn owner_of(alloc: Global, heading: &Heading) -> Result<(ChainSet, ServerId), St
 pub fn inspect<S: Rising>(alloc: Global, conn: &mut Connection<S>) -> Result<Inspected, StoreFault>
     ensures clean { doubt (state S.Store conn.old).is_clean ≤ doubt (state S.Store conn.new).is_clean }
     ensures ok { IsUndisturbed (state S.Store conn.new) → IfOk result (λ held.
-        IsKept (state S.Store conn.new) (server_title held.server (text_of held.set))
+        IsKept (state S.Store conn.new) (owner_for held.server held.set)
         (length held.loaded.entries.items) (kept_in held.loaded)) }
     ensures stop { IsUndisturbed (state S.Store conn.new) → (db : Trees)
         → (state S.Store conn.new).may_leave db → (state S.Store conn.old).may_leave db }

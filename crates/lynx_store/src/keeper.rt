@@ -3,10 +3,11 @@ ghost use Rattle.sqlite_trees.specs.View.{doubt};
 ghost use Rattle.sqlite.specs.Tree.{Trees};
 ghost use Rattle.sqlite.specs.Held.{state};
 ghost use Rattle.lynx_keep.specs.Kept.{KeptState, kept_in};
-ghost use Rattle.lynx_store.specs.Heading.{title_in};
+ghost use Rattle.lynx_store.specs.Heading.{owner_in};
 ghost use Rattle.lynx_store.specs.Premise.{IsUndisturbed};
 ghost use Rattle.lynx_store.specs.Stored.{IsKept, Tells};
 
+use crate::acts::{act_at, are_acts_shown};
 use crate::body::body_of;
 use crate::heading::Heading;
 use crate::loading::{cells_of, entries_of};
@@ -18,7 +19,8 @@ use lynx_tables::{Rising, StoredRows, read_rows};
 use sqlite::Connection;
 use std::alloc::Global;
 
-/// Keeps a server's entries and cells in a database. Each commit is one transaction.
+/// Keeps a server's entries and cells in a database, and in a store of version 2 the hops that its entries are of. Each commit
+/// is one transaction.
 ///
 /// What it says of what is kept rests on a premise: nobody else writes the file, and the disk has given back what was
 /// written to it, so far.
@@ -37,7 +39,7 @@ pub(crate) fn loaded_of(
     heading: &Heading,
     rows: &StoredRows,
 ) -> Result<Loaded, KeepFault>
-    ensures { IfOk result (λ loaded. Tells rows.now (title_in heading.now) (kept_in loaded)) }
+    ensures { IfOk result (λ loaded. Tells rows.now (owner_in heading.now) (kept_in loaded)) }
 {
     if !heading.is_shown(rows.title.as_slice()) {
         return Err(KeepFault::Failed);
@@ -48,6 +50,9 @@ pub(crate) fn loaded_of(
     let Some(cells) = cells_of(alloc, rows.cells.as_slice())? else {
         return Err(KeepFault::Failed);
     };
+    if !are_acts_shown(alloc, heading.version, entries.as_slice(), &rows.acted)? {
+        return Err(KeepFault::Failed);
+    }
     Ok(Loaded { entries, cells })
 }
 
@@ -59,12 +64,12 @@ fn read<S: Rising>(
 ) -> Result<Loaded, KeepFault>
     ensures clean { doubt (state S.Store conn.old).is_clean ≤ doubt (state S.Store conn.new).is_clean }
     ensures ok { IsUndisturbed (state S.Store conn.new) → IfOk result (λ loaded.
-        IsKept (state S.Store conn.new) (title_in heading.now) (length loaded.entries.items) (kept_in loaded)) }
+        IsKept (state S.Store conn.new) (owner_in heading.now) (length loaded.entries.items) (kept_in loaded)) }
     ensures all { IsUndisturbed (state S.Store conn.new) → IfOk result (λ loaded. (count : ℕ) (kept : KeptState)
-        → IsKept (state S.Store conn.old) (title_in heading.now) count kept → kept ≡ kept_in loaded) }
+        → IsKept (state S.Store conn.old) (owner_in heading.now) count kept → kept ≡ kept_in loaded) }
     ensures memory { IsUndisturbed (state S.Store conn.new) → IsErrOf result KeepFault.Memory
-        → (count : ℕ) (kept : KeptState) → IsKept (state S.Store conn.old) (title_in heading.now) count kept
-        → IsKept (state S.Store conn.new) (title_in heading.now) count kept }
+        → (count : ℕ) (kept : KeptState) → IsKept (state S.Store conn.old) (owner_in heading.now) count kept
+        → IsKept (state S.Store conn.new) (owner_in heading.now) count kept }
     ensures stop { IsUndisturbed (state S.Store conn.new) → (db : Trees)
         → (state S.Store conn.new).may_leave db → (state S.Store conn.old).may_leave db }
 {
@@ -97,15 +102,15 @@ impl<S: Rising> SqlKeeper<S> {
 
 impl<S: Rising> Keeper for SqlKeeper<S> {
     ghost use Rattle.sqlite.specs.Held.{state};
-    ghost use Rattle.lynx_store.specs.Heading.{title_in};
+    ghost use Rattle.lynx_store.specs.Heading.{owner_in};
     ghost use Rattle.lynx_store.specs.Premise.{IsUndisturbed};
     ghost use Rattle.lynx_store.specs.Stored.{IsKept, LeavesOneOf};
     ghost use Rattle.lynx_store.specs.Laws.{leaves_kept, leaves_either};
 
     ghost terms = { record {
       sound = λ keeper. IsUndisturbed (state S.Store keeper.conn);
-      keeps = λ keeper kept. IsKept (state S.Store keeper.conn) (title_in keeper.heading) keeper.count kept;
-      leaves = λ keeper one other. LeavesOneOf (state S.Store keeper.conn).may_leave (title_in keeper.heading) one other;
+      keeps = λ keeper kept. IsKept (state S.Store keeper.conn) (owner_in keeper.heading) keeper.count kept;
+      leaves = λ keeper one other. LeavesOneOf (state S.Store keeper.conn).may_leave (owner_in keeper.heading) one other;
       counted = λ keeper. keeper.faults;
     } };
 
@@ -115,7 +120,8 @@ impl<S: Rising> Keeper for SqlKeeper<S> {
             self.faults = self.faults.saturating_add(1);
             return Err(KeepFault::Failed);
         }
-        match write_entry(&mut self.conn, self.count, body.as_slice(), changes) {
+        let acted = act_at(self.count, entry);
+        match write_entry(&mut self.conn, self.count, body.as_slice(), changes, acted) {
             Ok(()) => {
                 self.count += 1;
                 Ok(())
@@ -150,9 +156,9 @@ impl<S: Rising> Keeper for SqlKeeper<S> {
     }
 
     ghost settled = { λ keeper kept sound keeps. leaves_kept (S.Store.recovers keeper.conn.store)
-        (S.Store.view keeper.conn.store).committed (title_in keeper.heading) kept kept
+        (S.Store.view keeper.conn.store).committed (owner_in keeper.heading) kept kept
         (λ db may. S.Store.settled keeper.conn.store db keeps.tables.is_open may) keeps.tables.tables };
 
     ghost weaker = { λ keeper kept other left. leaves_either (S.Store.recovers keeper.conn.store)
-        (title_in keeper.heading) kept other left };
+        (owner_in keeper.heading) kept other left };
 }

@@ -6,6 +6,7 @@ pub use heading::Heading;
 pub use inspecting::{Inspected, inspect};
 pub use keeper::SqlKeeper;
 
+mod acts;
 mod body;
 mod columns;
 pub mod fault;

@@ -1,24 +1,22 @@
 //! Opens a store, or makes a new one.
-ghost use Rattle.std.specs.Prelude.{◌≡◌, ◌≤◌, ℕ, ◌≢◌, IfOk, IfErr, IfNone, IfSome, IsErrAnd};
+ghost use Rattle.std.specs.Prelude.{◌≡◌, ◌≤◌, ℕ, ◌≢◌, IfOk, IfErr, IfNone, IfSome};
 ghost use Rattle.sqlite_trees.specs.View.{doubt};
 ghost use Rattle.sqlite.specs.Tree.{Trees};
 ghost use Rattle.sqlite.specs.Held.{state};
 ghost use Rattle.lynx_keep.specs.Kept.{KeptState, nothing_kept};
-ghost use Rattle.lynx_set.specs.Text.{text_of};
-ghost use Rattle.lynx_set.specs.declared.version.Version.{Version};
 ghost use Rattle.lynx_tables.specs.Rows.{shown_meta};
 ghost use Rattle.lynx_tables.specs.Tables.{no_schema};
-ghost use Rattle.lynx_store.specs.Heading.{title_in};
+ghost use Rattle.lynx_store.specs.Heading.{owner_in};
 ghost use Rattle.lynx_store.specs.Premise.{IsUndisturbed};
-ghost use Rattle.lynx_store.specs.Stored.{IsKept, IsOther, LeavesOpened, server_title};
+ghost use Rattle.lynx_store.specs.Stored.{IsKept, IsOther, LeavesOpened, owner_for, title_for};
 
 use crate::columns::is_number;
 use crate::fault::StoreFault;
-use crate::heading::{Heading, VERSION, is_meta_row};
+use crate::heading::{Heading, is_meta_row, version_text};
 use crate::keeper::{SqlKeeper, loaded_of};
 use lynx_keep::KeepFault;
 use lynx_names::ServerId;
-use lynx_set::{ChainSet, Version};
+use lynx_set::ChainSet;
 use lynx_tables::making::make_store;
 use lynx_tables::schema::{is_empty, is_store};
 use lynx_tables::{Rising, read_rows};
@@ -27,8 +25,8 @@ use std::alloc::Global;
 
 /// What is wrong with the rows of `meta`, if they are not those of the heading.
 fn heading_fault(heading: &Heading, rows: &[Row]) -> Option<StoreFault>
-    ensures none { IfNone result (rows.now ≡ shown_meta (title_in heading.now)) }
-    ensures some { IfSome result (λ fault. rows.now ≢ shown_meta (title_in heading.now)) }
+    ensures none { IfNone result (rows.now ≡ shown_meta (title_for (owner_in heading.now))) }
+    ensures some { IfSome result (λ fault. rows.now ≢ shown_meta (title_for (owner_in heading.now))) }
 {
     let [version, server, set] = rows else {
         return Some(StoreFault::Damaged);
@@ -36,7 +34,7 @@ fn heading_fault(heading: &Heading, rows: &[Row]) -> Option<StoreFault>
     if !is_number(version, 0, 1) || !is_number(server, 0, 2) || !is_number(set, 0, 3) {
         return Some(StoreFault::Damaged);
     }
-    if !is_meta_row(version, 1, VERSION) {
+    if !is_meta_row(version, 1, version_text(heading.version)) {
         return Some(StoreFault::OtherVersion);
     }
     if heading.is_shown(rows) {
@@ -54,12 +52,12 @@ fn count_kept<S: Rising>(
 ) -> Result<u32, StoreFault>
     ensures clean { doubt (state S.Store conn.old).is_clean ≤ doubt (state S.Store conn.new).is_clean }
     ensures kept { IsUndisturbed (state S.Store conn.new) → IfOk result (λ count. (kept : KeptState)
-        × IsKept (state S.Store conn.new) (title_in heading.now) count kept) }
+        × IsKept (state S.Store conn.new) (owner_in heading.now) count kept) }
     ensures same { IsUndisturbed (state S.Store conn.new) → IfOk result (λ count. (before : ℕ) (kept : KeptState)
-        → IsKept (state S.Store conn.old) (title_in heading.now) before kept
-        → IsKept (state S.Store conn.new) (title_in heading.now) count kept) }
+        → IsKept (state S.Store conn.old) (owner_in heading.now) before kept
+        → IsKept (state S.Store conn.new) (owner_in heading.now) count kept) }
     ensures other { IsUndisturbed (state S.Store conn.new) → IfErr result (λ fault. IsOther fault → (before : ℕ) (kept : KeptState)
-        → IsKept (state S.Store conn.old) (title_in heading.now) before kept → ⊥) }
+        → IsKept (state S.Store conn.old) (owner_in heading.now) before kept → ⊥) }
     ensures stop { IsUndisturbed (state S.Store conn.new) → (db : Trees)
         → (state S.Store conn.new).may_leave db → (state S.Store conn.old).may_leave db }
 {
@@ -85,47 +83,43 @@ fn count_kept<S: Rising>(
 }
 
 impl<S: Rising> SqlKeeper<S> {
-    /// A keeper over the store of a server of a set; an empty database is made a new store, whole or not at all. A set of
-    /// version 2 has no stores yet, and is answered OtherVersion.
+    /// A keeper over the store of a server of a set; an empty database is made a new store, whole or not at all. A store of
+    /// the other version is answered OtherVersion.
     pub fn open(
         alloc: Global,
         mut conn: Connection<S>,
         set: &ChainSet,
         server: ServerId,
     ) -> Result<SqlKeeper<S>, (StoreFault, Connection<S>)>
-        ensures title { IfOk result (λ keeper. title_in keeper.heading ≡ server_title server (text_of set.now)) }
+        ensures owner { IfOk result (λ keeper. owner_in keeper.heading ≡ owner_for server set.now) }
         // The tables stand for something, whatever the database held.
         ensures kept { IfOk result (λ keeper. IsUndisturbed (state S.Store keeper.conn) → (kept : KeptState)
-            × IsKept (state S.Store keeper.conn) (title_in keeper.heading) keeper.count kept) }
+            × IsKept (state S.Store keeper.conn) (owner_in keeper.heading) keeper.count kept) }
         // A new store keeps nothing.
         ensures new { IfOk result (λ keeper. IsUndisturbed (state S.Store keeper.conn)
             → (state S.Store conn).now.schema ≡ no_schema
-            → IsKept (state S.Store keeper.conn) (title_in keeper.heading) keeper.count nothing_kept) }
+            → IsKept (state S.Store keeper.conn) (owner_in keeper.heading) keeper.count nothing_kept) }
         // Another keeps what its tables hold.
         ensures same { IfOk result (λ keeper. IsUndisturbed (state S.Store keeper.conn) → (count : ℕ) (kept : KeptState)
-            → IsKept (state S.Store conn) (title_in keeper.heading) count kept
-            → IsKept (state S.Store keeper.conn) (title_in keeper.heading) keeper.count kept) }
-        // A set of version 2 has no stores yet.
-        ensures version { set.now.version ≡ Version.Two → IsErrAnd result (λ failed. failed.0 ≡ StoreFault.OtherVersion) }
+            → IsKept (state S.Store conn) (owner_in keeper.heading) count kept
+            → IsKept (state S.Store keeper.conn) (owner_in keeper.heading) keeper.count kept) }
         // A store of this set, server and version is called no other.
-        ensures other { set.now.version ≡ Version.One → IfErr result (λ failed. IsUndisturbed (state S.Store failed.1) → IsOther failed.0 → (count : ℕ) (kept : KeptState)
-            → IsKept (state S.Store conn) (server_title server (text_of set.now)) count kept → ⊥) }
+        ensures other { IfErr result (λ failed. IsUndisturbed (state S.Store failed.1) → IsOther failed.0 → (count : ℕ) (kept : KeptState)
+            → IsKept (state S.Store conn) (owner_for server set.now) count kept → ⊥) }
         // A stop leaves what was there, or of an empty database the whole new store.
         ensures stop { IfOk result (λ keeper. IsUndisturbed (state S.Store keeper.conn)
-            → LeavesOpened (state S.Store conn) (state S.Store keeper.conn) (server_title server (text_of set.now))) }
+            → LeavesOpened (state S.Store conn) (state S.Store keeper.conn) (owner_for server set.now)) }
         ensures stop_err { IfErr result (λ failed. IsUndisturbed (state S.Store failed.1)
-            → LeavesOpened (state S.Store conn) (state S.Store failed.1) (server_title server (text_of set.now))) }
+            → LeavesOpened (state S.Store conn) (state S.Store failed.1) (owner_for server set.now)) }
     {
-        if set.version() == Version::Two {
-            return Err((StoreFault::OtherVersion, conn));
-        }
         let Ok(heading) = Heading::new(alloc, set, server) else {
             return Err((StoreFault::Memory, conn));
         };
         if is_empty(conn.schema()) {
             let made = make_store(
                 &mut conn,
-                VERSION,
+                heading.version,
+                version_text(heading.version),
                 heading.server.as_slice(),
                 heading.set.as_slice(),
             );

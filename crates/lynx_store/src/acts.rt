@@ -1,0 +1,128 @@
+//! The hops that entries are of.
+ghost use Rattle.std.specs.Prelude.{◌≡◌, IfOk, IfSome, IsTrue, OnOk, map};
+ghost use Rattle.lynx_store.specs.Acts.{act_at, acted_of, acts_from, added, ShowsAt};
+ghost use Rattle.lynx_tables.specs.Acts.{ShowActed, shown_act};
+
+use crate::columns::{is_number, number_in};
+use lynx_entry::Entry;
+use lynx_names::Memory;
+use lynx_tables::{Acted, StoreVersion};
+use sqlite::Row;
+use std::alloc::Global;
+
+/// The hop of the entry at that place; none of a request that was refused.
+pub(crate) fn act_at(place: u32, entry: &Entry) -> Option<Acted>
+    ensures { result ≡ act_at place entry.now }
+{
+    match entry {
+        Entry::Begun(begun) => Some(Acted {
+            origin: u32::from(begun.chain.origin.number()),
+            index: begun.chain.index,
+            hop: 0,
+            place,
+        }),
+        Entry::Refused(_) => None,
+        Entry::Hop(ran) => Some(Acted {
+            origin: u32::from(ran.message.chain.origin.number()),
+            index: ran.message.chain.index,
+            hop: u32::from(ran.message.hop),
+            place,
+        }),
+    }
+}
+
+/// Puts a hop behind others, if there is one.
+fn push_act(acts: &mut Vec<Acted>, act: Option<Acted>) -> Result<(), Memory>
+    ensures { OnOk result (acts.new.items ≡ added acts.old.items act) }
+{
+    match act {
+        Some(hop) => {
+            acts.push(hop)?;
+            Ok(())
+        }
+        None => Ok(()),
+    }
+}
+
+/// The hops of the entries, by place. None where a place has no number of 32 bits.
+pub(crate) fn acts_of(alloc: Global, entries: &[Entry]) -> Result<Option<Vec<Acted>>, Memory>
+    ensures { IfOk result (λ found. IfSome found (λ acts. acts.items ≡ acts_from 0 entries.now)) }
+{
+    let mut acts = Vec::new(alloc);
+    let mut place = 0u32;
+    for entry in entries {
+        push_act(&mut acts, act_at(place, entry))?;
+        if place == u32::MAX {
+            return Ok(None);
+        }
+        place += 1;
+    }
+    Ok(Some(acts))
+}
+
+/// Whether a row is that of the hop.
+fn is_act_row(row: &Row, act: Acted) -> bool
+    ensures { IsTrue result → row.now ≡ shown_act act }
+{
+    if row.column_count() != 4 {
+        return false;
+    }
+    let Some(index) = number_in(row, 1) else {
+        return false;
+    };
+    index == act.index
+        && is_number(row, 0, act.origin)
+        && is_number(row, 2, act.hop)
+        && is_number(row, 3, act.place)
+}
+
+/// Whether the row at a place is that of the hop there.
+#[tactic(auto, using(crate::proofs::ActLemmas::shows_at))]
+fn is_act_at(acts: &[Acted], rows: &[Row], place: usize) -> bool
+    ensures { IsTrue result → ShowsAt acts.now rows.now place }
+{
+    let Some(act) = acts.get(place) else {
+        return false;
+    };
+    let Some(row) = rows.get(place) else {
+        return false;
+    };
+    is_act_row(row, *act)
+}
+
+/// Whether the rows are those of the hops, one for each, in order.
+fn are_act_rows(acts: &[Acted], rows: &[Row]) -> bool
+    ensures { IsTrue result → rows.now ≡ map shown_act acts.now }
+{
+    if acts.len() != rows.len() {
+        return false;
+    }
+    for place in 0..acts.len() {
+        if !is_act_at(acts, rows, place) {
+            return false;
+        }
+    }
+    true
+}
+
+/// Whether the rows of a store of that version are those of the hops of its entries.
+#[tactic(auto, using(crate::proofs::ActLemmas::none_shown, crate::proofs::ActLemmas::some_shown))]
+pub(crate) fn are_acts_shown(
+    alloc: Global,
+    version: StoreVersion,
+    entries: &[Entry],
+    rows: &Option<Vec<Row>>,
+) -> Result<bool, Memory>
+    ensures { IfOk result (λ shown. IsTrue shown → ShowActed rows.now (acted_of version entries.now)) }
+{
+    let Some(rows) = rows else {
+        return Ok(version == StoreVersion::One);
+    };
+    if version == StoreVersion::One {
+        return Ok(false);
+    }
+    let Some(acts) = acts_of(alloc, entries)? else {
+        return Ok(false);
+    };
+    Ok(are_act_rows(acts.as_slice(), rows.as_slice()))
+}

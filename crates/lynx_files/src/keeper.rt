@@ -1,4 +1,4 @@
-ghost use Rattle.lynx_store.specs.Heading.{title_in};
+ghost use Rattle.lynx_store.specs.Heading.{owner_in};
 ghost use Rattle.lynx_store.specs.Laws.{leaves_either, leaves_kept};
 ghost use Rattle.lynx_store.specs.Premise.{IsUndisturbed};
 ghost use Rattle.lynx_store.specs.Stored.{IsKept, LeavesOneOf};
@@ -39,8 +39,8 @@ impl FileKeeper {
 impl Keeper for FileKeeper {
     ghost terms = { record {
       sound = λ keeper. IsUndisturbed (file_state keeper.keeper.conn);
-      keeps = λ keeper kept. IsKept (file_state keeper.keeper.conn) (title_in keeper.keeper.heading) keeper.keeper.count kept;
-      leaves = λ keeper one other. LeavesOneOf (file_state keeper.keeper.conn).may_leave (title_in keeper.keeper.heading) one other;
+      keeps = λ keeper kept. IsKept (file_state keeper.keeper.conn) (owner_in keeper.keeper.heading) keeper.keeper.count kept;
+      leaves = λ keeper one other. LeavesOneOf (file_state keeper.keeper.conn).may_leave (owner_in keeper.keeper.heading) one other;
       counted = λ keeper. keeper.keeper.faults;
     } };
 
@@ -56,7 +56,7 @@ impl Keeper for FileKeeper {
         self.keeper.faults()
     }
 
-    ghost settled = { λ keeper kept sound keeps. leaves_kept (recovers keeper.keeper.conn.store) (view keeper.keeper.conn.store).committed (title_in keeper.keeper.heading) kept kept (λ db may. settled_at keeper.keeper.conn.store (λ file. inl refl) db keeps.tables.is_open may) keeps.tables.tables };
+    ghost settled = { λ keeper kept sound keeps. leaves_kept (recovers keeper.keeper.conn.store) (view keeper.keeper.conn.store).committed (owner_in keeper.keeper.heading) kept kept (λ db may. settled_at keeper.keeper.conn.store (λ file. inl refl) db keeps.tables.is_open may) keeps.tables.tables };
 
-    ghost weaker = { λ keeper kept other left. leaves_either (recovers keeper.keeper.conn.store) (title_in keeper.keeper.heading) kept other left };
+    ghost weaker = { λ keeper kept other left. leaves_either (recovers keeper.keeper.conn.store) (owner_in keeper.keeper.heading) kept other left };
 }

@@ -11,11 +11,10 @@ use Rattle.lynx_entry.specs.Entry.{History}
 use Rattle.lynx_keep.specs.Kept.{KeptState}
 use Rattle.lynx_set.specs.Lookups.{table_name}
 use Rattle.lynx_set.specs.Set.{Set}
-use Rattle.lynx_set.specs.Text.{text_of}
 use Rattle.lynx_io.specs.Written.{AppendsPart}
 use Rattle.lynx_print.specs.Printed.{entry_text}
 use Rattle.lynx_words.specs.Lines.{with_feed}
-use Rattle.lynx_store.specs.Stored.{IsKept, server_title}
+use Rattle.lynx_store.specs.Stored.{IsKept, owner_for}
 
 -- the server's line, and that of how many entries it has
 abbrev pub head_lines : ℕ → ℕ → List ℕ
@@ -47,13 +46,13 @@ AreInTables chains cells = All (λ cell. cell.0 < length chains.tables) (triples
 -- the listing of what the store holds was written
 abbrev pub Lists : State → Option (List ℕ) → Option (List ℕ) → Type 0
 Lists s old new = (chains : Set) × (server : ℕ) × (kept : KeptState)
-    × IsKept s (server_title server (text_of chains)) (length kept.entries) kept
+    × IsKept s (owner_for server chains) (length kept.entries) kept
     × AreInTables chains kept.cells
     × Appends old new (listing_of chains server kept)
 
 -- a beginning of it was written
 abbrev pub BeginsListing : State → Option (List ℕ) → Option (List ℕ) → Type 0
 BeginsListing s old new = (chains : Set) × (server : ℕ) × (kept : KeptState)
-    × IsKept s (server_title server (text_of chains)) (length kept.entries) kept
+    × IsKept s (owner_for server chains) (length kept.entries) kept
     × AreInTables chains kept.cells
     × AppendsPart old new (listing_of chains server kept)

@@ -96,7 +96,9 @@ const CASES: &[(&str, Result<(), ShowFault>)] = &[
     ("", Ok(())),
     // What is lawful, a listing doesn't judge.
     ("UPDATE cell SET v = x'0000000000000047'", Ok(())),
-    ("UPDATE meta SET txt = 'lynx store 2' WHERE id = 1", Err(ShowFault::OtherVersion)),
+    ("UPDATE meta SET txt = 'lynx store 3' WHERE id = 1", Err(ShowFault::OtherVersion)),
+    // A set of version 1, and three tables.
+    ("UPDATE meta SET txt = 'lynx store 2' WHERE id = 1", Err(ShowFault::Damaged)),
     ("UPDATE meta SET txt = '1' WHERE id = 2", Ok(())),
     ("UPDATE meta SET txt = '2' WHERE id = 2", Err(ShowFault::Damaged)),
     ("UPDATE meta SET txt = '00' WHERE id = 2", Err(ShowFault::Damaged)),

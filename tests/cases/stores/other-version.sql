@@ -1,1 +1,1 @@
-UPDATE meta SET txt = 'lynx store 2' WHERE id = 1;
+UPDATE meta SET txt = 'lynx store 3' WHERE id = 1;

@@ -1,3 +1,4 @@
 pub mod ActLemmas
 pub mod Kept
 pub mod RowsRead
+pub mod Upgraded

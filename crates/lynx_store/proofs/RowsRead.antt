@@ -14,10 +14,12 @@ use Rattle.lynx_keep.specs.Kept.{KeptState}
 use Rattle.lynx_keep.specs.Stored.{form_of, HasForm}
 use Rattle.lynx_keep.proofs.Keeping.{same_kept}
 use Rattle.lynx_tables.specs.declared.reading.StoredRows.{StoredRows}
-use Rattle.lynx_tables.specs.Rows.{shown_entries}
+use Rattle.lynx_tables.specs.Rows.{shown_entries, shown_meta}
+use Rattle.lynx_tables.specs.declared.version.StoreVersion.{StoreVersion}
+use Rattle.lynx_tables.specs.declared.version.StoreVersion.TheVariants.{One, Two}
 use Rattle.lynx_tables.specs.Reading.{ShowRows}
 use Rattle.lynx_tables.specs.Shown.{AreCells, FitsRow, row_of, entry_in}
-use Rattle.lynx_store.specs.Stored.{bodies_of, contents_of, Owner, Tells}
+use Rattle.lynx_store.specs.Stored.{bodies_of, contents_of, title_for, version_text, Owner, Tells}
 use Rattle.lynx_store.proofs.Kept.{bodies-append, length-bodies}
 
 pub take_whole : {A : Type 0} (xs : List A) (i : ℕ) → length xs ≤ i → take i xs ≡ xs
@@ -100,3 +102,22 @@ one_state rows owner ours theirs formed shown tells =
     let entries : ours.entries ≡ theirs.entries =
     same_entries ours.entries theirs.entries formed tells.formed (same_bodies 0 _ _ (sym shown.entries ∙ tells.shown.entries)) in
     same_kept ours.entries theirs.entries ours.cells theirs.cells entries (sym shown.cells ∙ tells.shown.cells)
+
+one_version : (a b : StoreVersion) → version_text a ≡ version_text b → a ≡ b
+one_version One One same = refl
+one_version Two Two same = refl
+one_version One Two same = let last : 49 ≡ 50 = ap (λ text. get_or text 11 0) same in absurd (omega (arith, last))
+one_version Two One same = let last : 50 ≡ 49 = ap (λ text. get_or text 11 0) same in absurd (omega (arith, last))
+
+one_title : (owner other : Owner) → shown_meta (title_for owner) ≡ shown_meta (title_for other) → owner ≡ other
+one_title owner other same =
+    let texts : version_text owner.version ≡ version_text other.version = let e = same in cc in
+    let version : owner.version ≡ other.version = one_version owner.version other.version texts in
+    let server : owner.server ≡ other.server = let e = same in cc in
+    let set : owner.set ≡ other.set = let e = same in cc in
+    λ i. record { version = version i; server = server i; set = set i }
+
+-- rows tell one owner
+pub one_owner : (rows : StoredRows) (owner other : Owner) (ours theirs : KeptState) → ShowRows rows (contents_of owner ours)
+    → ShowRows rows (contents_of other theirs) → owner ≡ other
+one_owner rows owner other ours theirs shown tells = one_title owner other (sym shown.title ∙ tells.title)

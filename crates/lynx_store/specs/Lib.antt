@@ -3,3 +3,4 @@ pub mod Premise
 pub mod Stored
 pub mod Heading
 pub mod Laws
+pub mod Upgrades

@@ -22,6 +22,11 @@ pub enum StoreFault {
 }
 
 impl From<Memory> for StoreFault {
+    ghost use Rattle.std.specs.Prelude.{◌≡◌};
+    ghost use Rattle.lynx_store.specs.declared.fault.StoreFault.TheVariants.{Memory as NoMemory};
+
+    ghost from_gives = { λ _ fault. fault ≡ NoMemory };
+
     fn from(_: Memory) -> StoreFault {
         StoreFault::Memory
     }

@@ -1,27 +1,26 @@
 //! What a store holds, whatever server and set it is of.
-ghost use Rattle.std.specs.Prelude.{◌≡◌, ◌≤◌, ℕ, length, IfOk, IfSome};
+ghost use Rattle.std.specs.Prelude.{◌≡◌, ◌≢◌, ◌≤◌, ◌∷◌, [], ℕ, pos, length, IfErr, IfNone, IfOk, IfSome};
 ghost use Rattle.sqlite_trees.specs.View.{doubt};
-ghost use Rattle.sqlite_value.specs.declared.value.Value.TheVariants.{Text};
-ghost use Rattle.sqlite_value.specs.Order.{column};
-ghost use Rattle.sqlite_value.specs.Value.{owned};
+ghost use Rattle.sqlite_value.specs.declared.value.Value.TheVariants.{Int, Text};
 ghost use Rattle.std.specs.Fmt.{decimal};
 ghost use Rattle.sqlite.specs.Tree.{Trees};
 ghost use Rattle.sqlite.specs.Held.{state};
-ghost use Rattle.lynx_keep.specs.Kept.{kept_in};
+ghost use Rattle.lynx_keep.specs.Kept.{KeptState, kept_in};
 ghost use Rattle.lynx_set.specs.Text.{text_of};
 ghost use Rattle.lynx_store.specs.Heading.{owner_in};
+ghost use Rattle.lynx_tables.specs.Rows.{shown_meta};
 ghost use Rattle.lynx_store.specs.Premise.{IsUndisturbed};
-ghost use Rattle.lynx_store.specs.Stored.{IsKept, owner_for};
+ghost use Rattle.lynx_store.specs.Stored.{IsKept, Owner, Tells, owner_for, title_for, version_text};
 
 use crate::columns::{is_number, text_in};
 use crate::fault::StoreFault;
 use crate::heading::{Heading, is_meta_row, version_for, version_text};
 use crate::keeper::loaded_of;
 use lynx_keep::{KeepFault, Loaded};
-use lynx_names::{Memory, ServerId};
+use lynx_names::ServerId;
 use lynx_set::ChainSet;
 use lynx_tables::schema::is_store;
-use lynx_tables::{Rising, StoreVersion, read_rows};
+use lynx_tables::{Rising, StoreVersion, StoredRows, read_rows};
 use lynx_text::{FaultKind, parse};
 use lynx_words::number::number;
 use sqlite::{Connection, Row};
@@ -36,7 +35,11 @@ pub struct Inspected {
 }
 
 /// The version that the first row of `meta` tells.
-fn version_in(row: &Row) -> Option<StoreVersion> {
+#[tactic(auto, using(crate::proofs::Kept::neither_version))]
+fn version_in(row: &Row) -> Option<StoreVersion>
+    ensures some { IfSome result (λ version. row.now ≡ Int (pos 1) ∷ Text (version_text version) ∷ []) }
+    ensures none { IfNone result ((version : StoreVersion) → row.now ≢ Int (pos 1) ∷ Text (version_text version) ∷ []) }
+{
     if is_meta_row(row, 1, version_text(StoreVersion::One)) {
         return Some(StoreVersion::One);
     }
@@ -46,8 +49,11 @@ fn version_in(row: &Row) -> Option<StoreVersion> {
     None
 }
 
-/// The heading that the rows of `meta` tell.
-fn heading_in(alloc: Global, rows: &[Row]) -> Result<Heading, StoreFault> {
+/// The heading that the rows of `meta` tell. OtherVersion only where they are not those of a store of either version.
+fn heading_in(alloc: Global, rows: &[Row]) -> Result<Heading, StoreFault>
+    ensures other { IfErr result (λ fault. fault ≡ StoreFault.OtherVersion → (owner : Owner)
+        → rows.now ≢ shown_meta (title_for owner)) }
+{
     let [version, server, set] = rows else {
         return Err(StoreFault::Damaged);
     };
@@ -73,7 +79,8 @@ fn server_in(text: &[u8]) -> Option<ServerId>
 
 /// The set that a text spells.
 fn set_in(alloc: Global, text: &[u8]) -> Result<ChainSet, StoreFault>
-    ensures { IfOk result (λ set. text.now ≡ text_of set) }
+    ensures ok { IfOk result (λ set. text.now ≡ text_of set) }
+    ensures fault { IfErr result (λ fault. fault ≢ StoreFault.OtherVersion) }
 {
     match parse(alloc, text) {
         Ok(set) => Ok(set),
@@ -85,7 +92,8 @@ fn set_in(alloc: Global, text: &[u8]) -> Result<ChainSet, StoreFault>
 /// The set and the server of a heading, which is one of the set's, as its version is.
 #[tactic(auto, using(crate::proofs::Kept::same_owner))]
 fn owner_of(alloc: Global, heading: &Heading) -> Result<(ChainSet, ServerId), StoreFault>
-    ensures { IfOk result (λ owner. owner_in heading.now ≡ owner_for owner.1 owner.0) }
+    ensures ok { IfOk result (λ owner. owner_in heading.now ≡ owner_for owner.1 owner.0) }
+    ensures fault { IfErr result (λ fault. fault ≢ StoreFault.OtherVersion) }
 {
     let set = set_in(alloc, heading.set.as_slice())?;
     if version_for(set.version()) != heading.version {
@@ -97,24 +105,15 @@ fn owner_of(alloc: Global, heading: &Heading) -> Result<(ChainSet, ServerId), St
     }
 }
 
-/// What a store holds, and of which server and set it is. Nothing is written. Takes the memory of all of it.
-pub fn inspect<S: Rising>(alloc: Global, conn: &mut Connection<S>) -> Result<Inspected, StoreFault>
-    ensures clean { doubt (state S.Store conn.old).is_clean ≤ doubt (state S.Store conn.new).is_clean }
-    ensures ok { IsUndisturbed (state S.Store conn.new) → IfOk result (λ held.
-        IsKept (state S.Store conn.new) (owner_for held.server held.set)
-        (length held.loaded.entries.items) (kept_in held.loaded)) }
-    ensures stop { IsUndisturbed (state S.Store conn.new) → (db : Trees)
-        → (state S.Store conn.new).may_leave db → (state S.Store conn.old).may_leave db }
+/// What the rows of a store tell, whatever server and set they are of.
+fn told_by(alloc: Global, rows: &StoredRows) -> Result<Inspected, StoreFault>
+    ensures ok { IfOk result (λ held. Tells rows.now (owner_for held.server held.set) (kept_in held.loaded)) }
+    ensures other { IfErr result (λ fault. fault ≡ StoreFault.OtherVersion → (owner : Owner)
+        → rows.now.title.items ≢ shown_meta (title_for owner)) }
 {
-    if !is_store(conn.schema()) {
-        return Err(StoreFault::Damaged);
-    }
-    let Ok(rows) = read_rows(conn) else {
-        return Err(StoreFault::Store);
-    };
     let heading = heading_in(alloc, rows.title.as_slice())?;
     let (set, server) = owner_of(alloc, &heading)?;
-    match loaded_of(alloc, &heading, &rows) {
+    match loaded_of(alloc, &heading, rows) {
         Ok(loaded) => Ok(Inspected {
             set,
             server,
@@ -122,5 +121,35 @@ pub fn inspect<S: Rising>(alloc: Global, conn: &mut Connection<S>) -> Result<Ins
         }),
         Err(KeepFault::Memory) => Err(StoreFault::Memory),
         Err(KeepFault::Failed) => Err(StoreFault::Damaged),
+    }
+}
+
+/// What a store holds, and of which server and set it is. Nothing is written. Takes the memory of all of it.
+pub fn inspect<S: Rising>(alloc: Global, conn: &mut Connection<S>) -> Result<Inspected, StoreFault>
+    ensures clean { doubt (state S.Store conn.old).is_clean ≤ doubt (state S.Store conn.new).is_clean }
+    // What is told is kept.
+    ensures ok { IsUndisturbed (state S.Store conn.new) → IfOk result (λ held.
+        IsKept (state S.Store conn.new) (owner_for held.server held.set)
+        (length held.loaded.entries.items) (kept_in held.loaded)) }
+    // What was kept is told.
+    ensures all { IsUndisturbed (state S.Store conn.new) → IfOk result (λ held. (owner : Owner) (count : ℕ) (kept : KeptState)
+        → IsKept (state S.Store conn.old) owner count kept
+        → (owner ≡ owner_for held.server held.set) × (kept ≡ kept_in held.loaded)) }
+    // It stays kept, whatever fault there is but one of the database.
+    ensures same { IsUndisturbed (state S.Store conn.new) → IfErr result (λ fault. fault ≢ StoreFault.Store
+        → (owner : Owner) (count : ℕ) (kept : KeptState) → IsKept (state S.Store conn.old) owner count kept
+        → IsKept (state S.Store conn.new) owner count kept) }
+    // A store of either version is called of no other.
+    ensures other { IsUndisturbed (state S.Store conn.new) → IfErr result (λ fault. fault ≡ StoreFault.OtherVersion
+        → (owner : Owner) (count : ℕ) (kept : KeptState) → IsKept (state S.Store conn.old) owner count kept → ⊥) }
+    ensures stop { IsUndisturbed (state S.Store conn.new) → (db : Trees)
+        → (state S.Store conn.new).may_leave db → (state S.Store conn.old).may_leave db }
+{
+    if !is_store(conn.schema()) {
+        return Err(StoreFault::Damaged);
+    }
+    match read_rows(conn) {
+        Ok(rows) => told_by(alloc, &rows),
+        Err(_) => Err(StoreFault::Store),
     }
 }

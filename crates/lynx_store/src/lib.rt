@@ -5,6 +5,7 @@ pub use fault::StoreFault;
 pub use heading::Heading;
 pub use inspecting::{Inspected, inspect};
 pub use keeper::SqlKeeper;
+pub use upgrading::upgrade_store;
 
 mod acts;
 mod body;
@@ -15,3 +16,4 @@ pub mod inspecting;
 pub mod keeper;
 mod loading;
 pub mod opening;
+pub mod upgrading;

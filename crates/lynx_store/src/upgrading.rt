@@ -1,0 +1,84 @@
+//! Stores of version 1 made stores of version 2.
+ghost use Rattle.std.specs.Prelude.{◌≡◌, ◌≢◌, ◌≤◌, ℕ, IfErr, IfOk, OnOk};
+ghost use Rattle.sqlite_trees.specs.View.{doubt};
+ghost use Rattle.sqlite.specs.Held.{state};
+ghost use Rattle.lynx_keep.specs.Kept.{KeptState};
+ghost use Rattle.lynx_set.specs.Text.{text_of};
+ghost use Rattle.lynx_store.specs.Acts.{acts_from};
+ghost use Rattle.lynx_store.specs.Premise.{IsUndisturbed};
+ghost use Rattle.lynx_store.specs.Stored.{IsKept, Owner};
+ghost use Rattle.lynx_store.specs.Upgrades.{IsSecond, LeavesUpgraded, Upgrades, second_of};
+
+use crate::acts::acts_of;
+use crate::fault::StoreFault;
+use crate::heading::version_text;
+use crate::inspecting::{Inspected, inspect};
+use lynx_set::{ChainSet, Version, upgrade_set};
+use lynx_tables::upgrade::upgrade_tables;
+use lynx_tables::{Acted, Rising, StoreVersion};
+use lynx_text::print;
+use sqlite::Connection;
+use std::alloc::Global;
+
+/// What a store is to get: the text of its set at version 2, and the hops that its entries are of.
+#[derive(Drop)]
+struct Added {
+    set: Vec<u8>,
+    acts: Vec<Acted>,
+}
+
+/// What a store of version 1 is to get. OtherVersion only where it is one of version 2.
+fn added_to(alloc: Global, held: &Inspected) -> Result<Added, StoreFault>
+    ensures first { OnOk result (held.now.set.version ≡ Version.One) }
+    ensures set { IfOk result (λ added. added.set.items ≡ text_of (second_of held.now.set)) }
+    ensures acts { IfOk result (λ added. added.acts.items ≡ acts_from 0 held.now.loaded.entries.items) }
+    ensures other { IfErr result (λ fault. fault ≡ StoreFault.OtherVersion → held.now.set.version ≡ Version.Two) }
+{
+    match held.set.version() {
+        Version::One => {}
+        Version::Two => return Err(StoreFault::OtherVersion),
+    }
+    let set = upgrade_set(alloc, &held.set)?;
+    let Some(acts) = acts_of(alloc, held.loaded.entries.as_slice())? else {
+        return Err(StoreFault::Damaged);
+    };
+    Ok(Added {
+        set: print(alloc, &set)?,
+        acts,
+    })
+}
+
+/// Makes a store of version 1 one of version 2, in one transaction: it keeps the same entries and cells, under the text
+/// of its set at version 2, and the hops that its entries are of. Gives the count of its entries. No server may have the
+/// store open. OtherVersion where it is of version 2 already, or of one that isn't known. After Store it is as it was or
+/// of version 2, whole; after every other fault as it was. Takes the memory of all that it holds.
+pub fn upgrade_store<S: Rising>(
+    alloc: Global,
+    conn: &mut Connection<S>,
+) -> Result<usize, StoreFault>
+    ensures clean { doubt (state S.Store conn.old).is_clean ≤ doubt (state S.Store conn.new).is_clean }
+    // Entries and cells are what they were, of the same server, and of the same set at version 2.
+    ensures ok { IsUndisturbed (state S.Store conn.new) → IfOk result (λ count.
+        Upgrades (state S.Store conn.old) (state S.Store conn.new) count) }
+    // A store of version 2 is there, whatever the database held.
+    ensures second { IsUndisturbed (state S.Store conn.new) → IfOk result (λ count. IsSecond (state S.Store conn.new) count) }
+    // A fault but that of the database leaves what was kept.
+    ensures same { IsUndisturbed (state S.Store conn.new) → IfErr result (λ fault. fault ≢ StoreFault.Store
+        → (owner : Owner) (count : ℕ) (kept : KeptState) → IsKept (state S.Store conn.old) owner count kept
+        → IsKept (state S.Store conn.new) owner count kept) }
+    // A store of version 1 is called of no other.
+    ensures other { IsUndisturbed (state S.Store conn.new) → IfErr result (λ fault. fault ≡ StoreFault.OtherVersion
+        → (owner : Owner) (count : ℕ) (kept : KeptState) → IsKept (state S.Store conn.old) owner count kept
+        → owner.version ≡ StoreVersion.Two) }
+    // A stop leaves the store as it was, or the whole store of version 2.
+    ensures stop { IsUndisturbed (state S.Store conn.new)
+        → LeavesUpgraded (state S.Store conn.old) (state S.Store conn.new) }
+{
+    let held = inspect(alloc, conn)?;
+    let added = added_to(alloc, &held)?;
+    let version = version_text(StoreVersion::Two);
+    match upgrade_tables(conn, version, added.set.as_slice(), added.acts.as_slice()) {
+        Ok(()) => Ok(held.loaded.entries.len()),
+        Err(_) => Err(StoreFault::Store),
+    }
+}

@@ -22,10 +22,9 @@ pub enum ShowFault {
 }
 
 impl From<StoreFault> for ShowFault {
-    ghost use Rattle.std.specs.Prelude.{◌≢◌};
-    ghost use Rattle.lynx_show.specs.declared.fault.ShowFault.TheVariants.{Write};
+    ghost use Rattle.lynx_show.specs.Upgraded.{ShownAs};
 
-    ghost from_gives = { λ _ fault. fault ≢ Write };
+    ghost from_gives = { λ fault shown. ShownAs fault shown };
 
     fn from(fault: StoreFault) -> ShowFault {
         match fault {

@@ -1,4 +1,4 @@
-//! Tests of stores, with ample memory: made, kept, opened again, damaged by hand, and stopped.
+//! Tests of stores, with ample memory: made, kept, opened again, upgraded, damaged by hand, and stopped.
 #![tactic(auto)]
 
 #[cfg(test)]
@@ -11,5 +11,7 @@ mod shown;
 mod stops;
 #[cfg(test)]
 mod stores;
+#[cfg(test)]
+mod upgrades;
 #[cfg(test)]
 mod worked;

@@ -14,17 +14,18 @@ use std::alloc::Global;
 use std::test::Fail;
 
 /// The files of one store, which stop.
-type Disks = Files<Fuse<File>>;
+pub type Disks = Files<Fuse<File>>;
 
 /// Files whose log passes so many calls on, and whose database so many.
-fn disks(alloc: Global, log: u64, db: u64) -> Disks {
+pub fn disks(alloc: Global, log: u64, db: u64) -> Disks {
     Files {
         log: Fuse::new(File::new(alloc), log),
         db: Fuse::new(File::new(alloc), db),
     }
 }
 
-fn connect<D: Disk + Drop>(
+/// A database on the disks, or the disks.
+pub fn connect<D: Disk + Drop>(
     alloc: Global,
     disks: Files<D>,
 ) -> Result<Connection<FileStore<D>>, Files<D>> {
@@ -56,7 +57,7 @@ fn disks_of<D: Disk + Drop>(keeper: SqlKeeper<FileStore<D>>) -> Files<D> {
 }
 
 /// The machine stops and comes back.
-fn crashed(mut disks: Disks) -> Disks {
+pub fn crashed(mut disks: Disks) -> Disks {
     disks.log.crash();
     disks.db.crash();
     disks
@@ -88,7 +89,7 @@ fn run_over<K: Keeper + Drop>(
 }
 
 /// How many of the two begins were answered, and the disks.
-fn run<D: Disk + Drop>(
+pub fn run<D: Disk + Drop>(
     alloc: Global,
     set: &ChainSet,
     disks: Files<D>,

@@ -1,0 +1,128 @@
+//! Upgrades of a store, with a stop at each call, one after another.
+use crate::made::{Fault, paid};
+use crate::stops::{Disks, connect, crashed, run};
+use lynx_names::Memory;
+use lynx_samples::cells::{Cell, are_cells};
+use lynx_samples::texts::{PAYMENT, set_of};
+use lynx_set::Version;
+use lynx_show::{ShowFault, upgrade_and_tell};
+use lynx_store::{Inspected, inspect, upgrade_store};
+use sqlite::Files;
+use sqlite_disk::{Disk, Fuse, Memory as File};
+use std::alloc::Global;
+use std::test::Fail;
+
+/// What the payer's store holds after the worked payment.
+const PAID: &[Cell] = &[(0, 0, 70)];
+
+/// The files of the payer's store, whose log passes so many calls on, and whose database so many.
+fn paid_disks(alloc: Global, log: u64, db: u64) -> Result<Disks, Memory> {
+    let set = set_of(alloc, PAYMENT)?;
+    let blank = Files {
+        log: File::new(alloc),
+        db: File::new(alloc),
+    };
+    let (_, made) = run(alloc, &set, blank)?;
+    Ok(Files {
+        log: Fuse::new(made.log, log),
+        db: Fuse::new(made.db, db),
+    })
+}
+
+/// The upgrade of the store on these disks: how many entries it told, and the disks.
+fn upgrade<D: Disk + Drop>(alloc: Global, disks: Files<D>) -> (Option<usize>, Files<D>) {
+    match connect(alloc, disks) {
+        Ok(mut conn) => {
+            let told = upgrade_store(alloc, &mut conn).ok();
+            (told, conn.into_store().close())
+        }
+        Err(disks) => (None, disks),
+    }
+}
+
+/// Whether a store holds what the payer's does.
+fn is_paid(alloc: Global, held: &Inspected) -> Result<bool, Memory> {
+    let cells = held.loaded.cells.list(alloc)?;
+    Ok(held.loaded.entries.len() == 2 && are_cells(cells.as_slice(), PAID))
+}
+
+/// The version of the payer's store on these disks. None where it isn't there, whole.
+fn version_on<D: Disk + Drop>(alloc: Global, disks: Files<D>) -> Result<Option<Version>, Memory> {
+    let Ok(mut conn) = connect(alloc, disks) else {
+        return Ok(None);
+    };
+    match inspect(alloc, &mut conn) {
+        Ok(held) if is_paid(alloc, &held)? => Ok(Some(held.set.version())),
+        _ => Ok(None),
+    }
+}
+
+/// What came of a stop.
+#[derive(Clone, Copy)]
+struct Survival {
+    /// The machine did stop.
+    stopped: bool,
+    /// The store is of one version or the other, whole, and of the second where the upgrade was answered.
+    is_right: bool,
+}
+
+/// An upgrade with a stop at that call.
+fn survive(alloc: Global, log: u64, db: u64) -> Result<Survival, Memory> {
+    let (told, left) = upgrade(alloc, paid_disks(alloc, log, db)?);
+    let stopped = !left.may_be_used();
+    let version = version_on(alloc, crashed(left))?;
+    let is_right = match told {
+        Some(count) => count == 2 && version == Some(Version::Two),
+        None => stopped && version.is_some(),
+    };
+    Ok(Survival { stopped, is_right })
+}
+
+/// How many stops an upgrade meets at the calls of the log, or of the database. None where the store doesn't survive one.
+fn stops(alloc: Global, of_log: bool) -> Result<Option<u64>, Memory> {
+    for calls in 0..1000u64 {
+        let survival = if of_log {
+            survive(alloc, calls, u64::MAX)?
+        } else {
+            survive(alloc, u64::MAX, calls)?
+        };
+        if !survival.is_right {
+            return Ok(None);
+        }
+        if !survival.stopped {
+            return Ok(Some(calls));
+        }
+    }
+    Ok(None)
+}
+
+#[test]
+fn each_stop_of_an_upgrade_is_survived(rt: HostRuntime) -> Result<(), Fail> {
+    for (of_log, least) in [(true, 10), (false, 2)] {
+        let stops = stops(rt.alloc(), of_log)?.unwrap_or(0);
+        assert!(rt; stops >= least, "{of_log}: {stops} stops");
+    }
+    Ok(())
+}
+
+/// What an upgrade of the payer's store tells, and what another answers after it.
+fn upgraded_twice(alloc: Global) -> Result<(Vec<u8>, Result<(), ShowFault>), Fault> {
+    let mut conn = paid(alloc)?;
+    let mut told = Vec::new(alloc);
+    let first = upgrade_and_tell(alloc, &mut conn, &mut told);
+    let second = upgrade_and_tell(alloc, &mut conn, &mut told);
+    match first {
+        Ok(()) => Ok((told, second)),
+        Err(_) => Err(Fault::Database),
+    }
+}
+
+#[test]
+fn a_store_is_upgraded_once(rt: HostRuntime) -> Result<(), Fail> {
+    let Ok((told, second)) = upgraded_twice(rt.alloc()) else {
+        return Err(Fail::from("not upgraded"));
+    };
+    assert!(rt; told.as_slice() == b"upgraded 2\n".as_slice());
+    assert!(rt; second == Err(ShowFault::OtherVersion));
+    Ok(())
+}

@@ -1,3 +1,6 @@
+pub mod Asked
+pub mod Owing
 pub mod Printed
+pub mod Reaching
 pub mod RunLemmas
 pub mod Stops

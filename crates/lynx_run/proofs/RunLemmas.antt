@@ -1,15 +1,13 @@
 -- One more event of a run.
-use Rattle.std.proofs.Common.{◌≡◌, ℕ, List, [], ◌∷◌, ◌++◌, Option, Some, None, append_assoc, refl, sym, ap, ◌∙◌, subst}
+use Rattle.std.proofs.Common.{◌≡◌, ℕ, List, [], ◌∷◌, ◌++◌, Option, Some, None, refl, sym, ap, ◌∙◌, subst}
 use Rattle.std.specs.List.{flat_map}
 use Rattle.std.proofs.lemmas.Grind.{flat_map-append}
 use Rattle.std.proofs.lemmas.List.{append-nil}
 use Rattle.std.specs.Io.KnownBytes.{Appends}
 use Rattle.std.specs.List.Sorted.{IsPermutation, IsSorted}
-use Rattle.std.specs.Prelude.{Result, Ok, Err, OnOk, IfOk, IfErr}
+use Rattle.std.specs.Prelude.{Result, Ok, Err, OnOk, OnErr, IfOk, IfErr}
 pub use Rattle.lynx_io.proofs.Parts.{appends_both}
-use Rattle.lynx_set.specs.Rules.{IsSet}
 use Rattle.lynx_set.specs.Set.{Set}
-use Rattle.lynx_set.specs.Text.{text_of}
 use Rattle.lynx_world.specs.Tables.{cells_of, triple_cmp}
 use Rattle.lynx_entry.specs.declared.event.Event.{Event}
 use Rattle.lynx_names.specs.declared.limits.TheConstants.{MAX_HELD}
@@ -22,8 +20,7 @@ use Rattle.lynx_words.specs.Lines.{with_feed}
 use Rattle.lynx_order.specs.declared.explained.Explained.{Explained}
 use Rattle.lynx_world.proofs.Growing.{step-set}
 use Rattle.lynx_run.specs.declared.run.Ending.{Ending}
-use Rattle.lynx_run.specs.Runs.{world_after, outcomes_of, outcome_lines, cell_lines, ending_of, explained_line, EndPrints, Explains, IsLate, Prints, RunPrints, StopsFor}
-use Rattle.lynx_script.specs.Scripts.{IsScript, script_of}
+use Rattle.lynx_run.specs.Runs.{world_after, outcomes_of, outcome_lines, cell_lines, ending_of, explained_line, EndPrints, Explains, IsLate, RunPrints, StopsFor}
 
 pub world_after-push : (world : WorldState) (events : List Event) (event : Event) →
     world_after world (events ++ event ∷ []) ≡ (step MAX_HELD (world_after world events) event).world
@@ -42,6 +39,16 @@ outcome_lines-push world events event =
     ap (flat_map (λ outcome. with_feed (outcome_text outcome))) (outcomes_of-push world events event)
     ∙ flat_map-append (λ outcome. with_feed (outcome_text outcome)) (outcomes_of world events) ((step MAX_HELD (world_after world events) event).outcome ∷ [])
     ∙ ap (λ bytes. outcome_lines world events ++ bytes) (append-nil (with_feed (outcome_text (step MAX_HELD (world_after world events) event).outcome)))
+
+-- nothing more
+pub appends_nothing : (a : Option (List ℕ)) → Appends a a []
+appends_nothing None = tt
+appends_nothing (Some bytes) = sym (append-nil bytes)
+
+-- what follows from what holds at a fault
+pub at_err : {X E P Q : Type 0} (r : Result X E) → (P → Q) → OnErr r P → OnErr r Q
+at_err (Ok done) so holds = tt
+at_err (Err fault) so holds = so holds
 
 -- and where the second step may fail
 pub appends_on : (first second third : Option (List ℕ)) (xs ys : List ℕ) (r : Result (Unit {0}) RunFault) → Appends first second xs
@@ -105,26 +112,6 @@ whole_run first second third set events start world (Ok ending) start_is world_i
       appends_both first second third _ _ (subst (λ (w : WorldState). Appends first second (outcome_lines w events)) start_is lines) rest.2,
     )
 whole_run first second third set events start world (Err fault) start_is world_is lines rest = tt
-
--- a run of texts prints what it is to print
-pub texts_print : (first third : Option (List ℕ)) (text script : List ℕ) (set : Set) (events : List Event) (r : Result Ending RunFault) →
-    IsSet set × (text ≡ text_of set) → IsScript set events × (script ≡ script_of set events) →
-    IfOk r (λ ending. (printed : List ℕ) × RunPrints set events ending printed × Appends first third printed) →
-    IfOk r (λ ending. (printed : List ℕ) × Prints text script ending printed × Appends first third printed)
-texts_print first third text script set events (Ok ending) is_set is_script ran = (
-  ran.0,
-  record {
-    chains = set;
-    is_set = is_set.0;
-    set_spelled = is_set.1;
-    events = events;
-    is_script = is_script.0;
-    script_spelled = is_script.1;
-    run = ran.1;
-  },
-  ran.2,
-)
-texts_print first third text script set events (Err fault) is_set is_script ran = tt
 
 -- a late fault needs no reason in the texts
 pub late_stops : (text script : List ℕ) (unwritten : Type 0) (r : Result Ending RunFault) → IfErr r IsLate → IfErr r (StopsFor text script unwritten)

@@ -5,22 +5,19 @@ use Rattle.std.specs.List.Sorted.{IsPermutation, IsSorted}
 use Rattle.std.specs.Io.KnownBytes.{Appends, Keeps}
 use Rattle.std.proofs.lemmas.Grind.{flat_map-append}
 use Rattle.std.proofs.lemmas.List.{append-nil}
-use Rattle.lynx_set.specs.Rules.{IsSet}
 use Rattle.lynx_set.specs.Set.{Set}
-use Rattle.lynx_set.specs.Text.{text_of}
 use Rattle.lynx_entry.specs.declared.event.Event.{Event}
 use Rattle.lynx_entry.specs.declared.event.Outcome.{Outcome}
 use Rattle.lynx_entry.specs.declared.event.Outcome.TheVariants.{Memory}
 use Rattle.lynx_names.specs.declared.limits.TheConstants.{MAX_HELD}
 use Rattle.lynx_order.specs.declared.explained.Explained.{Explained}
 use Rattle.lynx_print.specs.Printed.{outcome_text}
-use Rattle.lynx_script.specs.Scripts.{IsScript, script_of}
 use Rattle.lynx_words.specs.Lines.{with_feed}
 use Rattle.lynx_world.specs.Steps.{step}
 use Rattle.lynx_world.specs.Tables.{cells_of, triple_cmp}
 use Rattle.lynx_world.specs.Worlds.{WorldState, new_world}
 use Rattle.lynx_run.specs.Runs.{Explains, cell_lines, explained_line, outcome_lines, outcomes_of, world_after}
-use Rattle.lynx_run.specs.Written.{AppendsPart, BeginsEnd, BeginsRun, WritesEnd, WritesPart}
+use Rattle.lynx_run.specs.Written.{AppendsPart, BeginsEnd, BeginsRun, WritesEnd}
 use Rattle.lynx_run.proofs.RunLemmas.{appends_both, world_after-set}
 use Rattle.lynx_io.proofs.Parts.{kept_on, part_of_more, part_on}
 
@@ -99,25 +96,3 @@ pub events_cut : (first second : Option (List ℕ)) (set : Set) (events : List E
 events_cut first second set events start start_is part =
     let so = subst (λ (w : WorldState). AppendsPart first second (outcome_lines w events)) start_is part in
     inr (so.0, inl so.1, so.2)
-
--- a run of texts that stopped
-pub texts_cut : {X E : Type 0} (first third : Option (List ℕ)) (text script : List ℕ) (set : Set) (events : List Event) (r : Result X E) →
-    IsSet set × (text ≡ text_of set) → IsScript set events × (script ≡ script_of set events) →
-    OnErr r (Keeps first third ⊎ ((part : List ℕ) × BeginsRun set events part × Appends first third part)) →
-    OnErr r (WritesPart text script first third)
-texts_cut first third text script set events (Ok done) is_set is_script cut = tt
-texts_cut first third text script set events (Err fault) is_set is_script (inl kept) = inl kept
-texts_cut first third text script set events (Err fault) is_set is_script (inr begun) =
-    inr (
-      begun.0,
-      record {
-        chains = set;
-        is_set = is_set.0;
-        set_spelled = is_set.1;
-        events = events;
-        is_script = is_script.0;
-        script_spelled = is_script.1;
-        run = begun.1;
-      },
-      begun.2,
-    )

@@ -10,11 +10,13 @@ ghost use Rattle.lynx_set.specs.Text.{text_of};
 ghost use Rattle.lynx_names.specs.declared.limits.TheConstants.{MAX_HELD};
 ghost use Rattle.lynx_world.specs.Worlds.{new_world};
 ghost use Rattle.std.specs.String.{string_bytes};
-ghost use Rattle.lynx_run.specs.Runs.{world_after, outcome_lines, cell_lines, ending_of, explained_line, EndPrints, Explains, IsNoSet, IsNoScript, IsLate, Prints, RunPrints, StopsFor};
-ghost use Rattle.lynx_run.specs.Written.{AppendsPart, BeginsRun, WritesEnd, WritesPart};
+ghost use Rattle.lynx_run.specs.Runs.{world_after, outcome_lines, cell_lines, ending_of, explained_line, EndPrints, Explains, IsNoSet, IsNoScript, IsLate, StopsFor};
+ghost use Rattle.lynx_run.specs.Options.{BeginsRunWith, PrintsWith, RunPrintsWith, WritesPartWith};
+ghost use Rattle.lynx_run.specs.Written.{AppendsPart, WritesEnd};
 ghost use Rattle.lynx_script.specs.Scripts.{IsScript, script_of};
 ghost use Rattle.std.specs.Io.KnownBytes.{Appends, Keeps};
 
+use crate::options::{RunOptions, write_rest};
 use crate::writing::write_bytes;
 use lynx_names::{Memory, TableId};
 use lynx_order::{Explained, explain};
@@ -240,45 +242,50 @@ fn write_end<W: Write>(alloc: Global, world: &World, writer: &mut W) -> Result<E
 }
 
 /// Runs the events in a new world, and writes the line of each, then those of the cells and the one that explains
-/// the run.
+/// the run, and behind it what is asked for.
 fn run_script<W: Write>(
     alloc: Global,
     set: ChainSet,
     events: Vec<Event>,
+    options: RunOptions,
     writer: &mut W,
 ) -> Result<Ending, RunFault>
     ensures ok { IfOk result (λ ending. (printed : List ℕ)
-        × RunPrints set events.items ending printed
+        × RunPrintsWith options.owed set events.items ending printed
         × Appends (W.contents writer.old) (W.contents writer.new) printed) }
     ensures part { OnErr result (Keeps (W.contents writer.old) (W.contents writer.new)
-        ⊎ ((part : List ℕ) × BeginsRun set events.items part
+        ⊎ ((part : List ℕ) × BeginsRunWith options.owed set events.items part
         × Appends (W.contents writer.old) (W.contents writer.new) part)) }
     ensures late { IfErr result IsLate }
 {
     let keepers = empty_keepers(alloc, &set)?;
     let mut world = World::new(alloc, set, keepers)?;
     run_events(alloc, &mut world, events, writer)?;
-    write_end(alloc, &world, writer)
+    let ending = write_end(alloc, &world, writer)?;
+    write_rest(alloc, &world, options, writer)?;
+    Ok(ending)
 }
 
 /// Judges the set text and then the script, runs the script in a new world, and writes a line for each event, a
-/// line for each nonzero cell, and the line of an order that explains the run, or of a cycle. Where the set is
-/// accepted it is an order. The last line costs the square of the entries, in steps and in bytes.
+/// line for each nonzero cell, and the line of an order that explains the run, or of a cycle; behind it what the
+/// options ask for. Where the set is accepted it is an order. The last lines take n log n steps for n touches of all
+/// entries.
 pub fn run_texts<W: Write>(
     alloc: Global,
     set: &[u8],
     script: &[u8],
+    options: RunOptions,
     writer: &mut W,
 ) -> Result<Ending, RunFault>
     ensures ok { IfOk result (λ ending. (printed : List ℕ)
-        × Prints set.now script.now ending printed
+        × PrintsWith options set.now script.now ending printed
         × Appends (W.contents writer.old) (W.contents writer.new) printed) }
     ensures err { IfErr result (λ fault.
         StopsFor set.now script.now (Keeps (W.contents writer.old) (W.contents writer.new)) fault) }
-    ensures part { OnErr result (WritesPart set.now script.now
+    ensures part { OnErr result (WritesPartWith options set.now script.now
         (W.contents writer.old) (W.contents writer.new)) }
 {
     let set = read_set(alloc, set)?;
     let events = read_script(alloc, &set, script)?;
-    run_script(alloc, set, events, writer)
+    run_script(alloc, set, events, options, writer)
 }

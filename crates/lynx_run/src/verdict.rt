@@ -94,7 +94,7 @@ fn write_accepted<W: Write>(accepted: &AcceptedSet, writer: &mut W) -> Result<()
 }
 
 /// Writes that a set offends, and the conflict edges of the walk.
-fn write_offending<W: Write>(
+pub(crate) fn write_offending<W: Write>(
     alloc: Global,
     set: &ChainSet,
     walk: &[Visit],

@@ -1,0 +1,39 @@
+//! What a run writes behind its last line.
+ghost use Rattle.std.specs.Prelude.{◌≡◌, ℕ, List, IfErr, OnErr, OnOk};
+ghost use Rattle.std.specs.Io.KnownBytes.{Appends};
+ghost use Rattle.lynx_run.specs.Options.{RestPrints, WritesRest};
+ghost use Rattle.lynx_run.specs.Runs.{IsLate};
+
+use crate::owed::write_owed;
+use crate::run::RunFault;
+use lynx_world::World;
+use std::alloc::Global;
+use std::io::Write;
+
+/// What a run writes behind its last line, which is nothing by default.
+#[derive(Clone, Copy, Debug, Default, PartialEq, Eq)]
+pub struct RunOptions {
+    /// A line for each hop that a chain still owes.
+    pub owed: bool,
+}
+
+/// Writes what is asked for behind the last line of a run.
+pub(crate) fn write_rest<W: Write>(
+    alloc: Global,
+    world: &World,
+    options: RunOptions,
+    writer: &mut W,
+) -> Result<(), RunFault>
+    ensures ok { OnOk result ((printed : List ℕ)
+        × RestPrints options.owed world.now.set world.now.list printed
+        × Appends (W.contents writer.old) (W.contents writer.new) printed) }
+    ensures part { OnErr result (WritesRest options.owed world.now.set world.now.list
+        (W.contents writer.old) (W.contents writer.new)) }
+    ensures late { IfErr result IsLate }
+{
+    if options.owed {
+        write_owed(alloc, world, writer)
+    } else {
+        Ok(())
+    }
+}

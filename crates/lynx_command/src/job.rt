@@ -4,6 +4,21 @@ ghost use Rattle.lynx_command.specs.Jobs.{RunsAs};
 
 use thiserror::Error;
 
+/// What a run does besides, none of it by default.
+#[derive(Clone, Copy, Debug, PartialEq, Eq)]
+pub struct RunFlags {
+    /// A set that offends is refused, as by a check.
+    pub checked: bool,
+    /// The hops that chains still owe are told behind the last line.
+    pub owed: bool,
+}
+
+/// A run without flags.
+pub(crate) const NO_FLAGS: RunFlags = RunFlags {
+    checked: false,
+    owed: false,
+};
+
 /// What the words ask for, with files as they were named.
 #[derive(Clone, Copy, Debug, PartialEq, Eq)]
 pub enum Job<'a> {
@@ -19,11 +34,18 @@ pub enum Job<'a> {
     Run {
         set: &'a str,
         script: &'a str,
+        flags: RunFlags,
     },
     /// Run the script of standard input over the set that stands before it.
-    RunInput,
+    RunInput {
+        flags: RunFlags,
+    },
     /// List what a store holds.
     Show {
+        store: &'a str,
+    },
+    /// Make a store of version 1 one of version 2.
+    Upgrade {
         store: &'a str,
     },
     /// Serve clients at the port, over the stores of the set's servers in the folder.
@@ -58,13 +80,17 @@ pub enum CommandFault {
 pub const INPUT: &str = "-";
 
 /// What `run` and its words ask for: `-` alone is standard input, and any other set wants a script.
-pub(crate) fn job_of_run<'a>(set: &'a str, script: Option<&'a str>) -> Result<Job<'a>, CommandFault>
-    ensures { RunsAs set.now (option_map (λ own. own.now) script.entry) result }
+pub(crate) fn job_of_run<'a>(
+    set: &'a str,
+    script: Option<&'a str>,
+    flags: RunFlags,
+) -> Result<Job<'a>, CommandFault>
+    ensures { RunsAs set.now (option_map (λ own. own.now) script.entry) flags result }
 {
     match script {
-        None if set == INPUT => Ok(Job::RunInput),
+        None if set == INPUT => Ok(Job::RunInput { flags }),
         None => Err(CommandFault::NoScript),
         Some(_) if set == INPUT => Err(CommandFault::ScriptTooMany),
-        Some(script) => Ok(Job::Run { set, script }),
+        Some(script) => Ok(Job::Run { set, script, flags }),
     }
 }

@@ -1,10 +1,10 @@
 //! The words of the command line.
 ghost use Rattle.std.specs.Prelude.{◌≡◌, Ok, None};
 ghost use Rattle.clap.specs.Matches.{subcommand_name_of};
-ghost use Rattle.lynx_command.specs.Jobs.{AskedBy};
+ghost use Rattle.lynx_command.specs.Jobs.{AskedBy, no_flags};
 
-use crate::job::{CommandFault, INPUT, Job, job_of_run};
-use clap::{Arg, ArgMatches, Command, value_parser};
+use crate::job::{CommandFault, INPUT, Job, NO_FLAGS, RunFlags, job_of_run};
+use clap::{Arg, ArgAction, ArgMatches, Command, value_parser};
 use std::alloc::{AllocError, Global};
 
 /// The statuses that the program ends with, and the words of faults, as the help tells them.
@@ -13,6 +13,11 @@ const STATUSES: &str =
 
 const FAULTS: &str =
     "A faulty text is told with its line and one of these words: too-long, bad-version, bad-line,\nbad-name, bad-number, repeated, unknown, need-not-first, limit-passed, literal-elsewhere,\nshard-gap, shard-overlap, shard-server.";
+
+/// The options of a run.
+const CHECKED: &str = "checked";
+
+const OWED: &str = "owed";
 
 /// The set of a command that reads files alone.
 fn set_file<'a>(alloc: Global) -> Arg<'a> {
@@ -39,16 +44,36 @@ fn draw_command<'a>(alloc: Global) -> Result<Command<'a>, AllocError> {
         .arg(set_file(alloc))
 }
 
+/// An option without a value.
+fn flag<'a>(alloc: Global, name: &'a str, help: &'a str) -> Arg<'a> {
+    Arg::new(alloc, name)
+        .long(name)
+        .action(ArgAction::SetTrue)
+        .help(help)
+}
+
 fn run_command<'a>(alloc: Global) -> Result<Command<'a>, AllocError> {
     let set = Arg::new(alloc, "SET").required(true).help(
         "The file of the set's text, or - alone for standard input: a set text, a line --, a script",
     );
     let script = Arg::new(alloc, "SCRIPT").help("The file of the script; - is a file of that name");
     Command::new(alloc, "run")
-        .about("Run a script over a set of chain programs, the set unchecked")
-        .after_help("Example: lynx run payment.set payment.script")
+        .about("Run a script over a set of chain programs")
+        .after_help(
+            "The set isn't checked unless --checked is given: an offending one can end with a cycle, status 1.\nExample: lynx run payment.set payment.script",
+        )
         .arg(set)?
-        .arg(script)
+        .arg(script)?
+        .arg(flag(
+            alloc,
+            CHECKED,
+            "Refuse a set that offends, as check does, and run nothing",
+        ))?
+        .arg(flag(
+            alloc,
+            OWED,
+            "Tell behind the last line each hop that a chain still owes",
+        ))
 }
 
 fn show_command<'a>(alloc: Global) -> Result<Command<'a>, AllocError> {
@@ -59,6 +84,18 @@ fn show_command<'a>(alloc: Global) -> Result<Command<'a>, AllocError> {
         .about("List what a store holds: its server, its entries and its cells")
         .after_help(
             "The store is only read. A fault of it is told as other-version, damaged or store.\nExample: lynx show server-0.lynx",
+        )
+        .arg(store)
+}
+
+fn upgrade_command<'a>(alloc: Global) -> Result<Command<'a>, AllocError> {
+    let store = Arg::new(alloc, "STORE")
+        .required(true)
+        .help("The file of the store; its log NAME-wal is read with it");
+    Command::new(alloc, "upgrade")
+        .about("Make a store of version 1 one of version 2, for the same set at version 2")
+        .after_help(
+            "No service may have the store open, and a copy of it should be kept until the new one is in use.\nEntries and cells stay what they are. A fault of it is told as other-version, damaged or store: it is\nthen as it was, or after store as it was or upgraded.\nExample: lynx upgrade server-0.lynx",
         )
         .arg(store)
 }
@@ -100,7 +137,7 @@ fn bare_command<'a>(alloc: Global) -> Command<'a> {
     Command::new(alloc, "lynx")
         .version("0.1.0")
         .about(
-            "Judges, draws and runs sets of chain programs, serves them to clients, and lists stores",
+            "Judges, draws and runs sets of chain programs, serves them to clients, and lists and upgrades stores",
         )
         .before_help(FAULTS)
         .after_help(STATUSES)
@@ -122,6 +159,10 @@ fn with_show<'a>(alloc: Global, command: Command<'a>) -> Result<Command<'a>, All
     command.subcommand(show_command(alloc)?)
 }
 
+fn with_upgrade<'a>(alloc: Global, command: Command<'a>) -> Result<Command<'a>, AllocError> {
+    command.subcommand(upgrade_command(alloc)?)
+}
+
 fn with_serve<'a>(alloc: Global, command: Command<'a>) -> Result<Command<'a>, AllocError> {
     command.subcommand(serve_command(alloc)?)
 }
@@ -134,7 +175,8 @@ fn with_ask<'a>(alloc: Global, command: Command<'a>) -> Result<Command<'a>, Allo
 pub fn command<'a>(alloc: Global) -> Result<Command<'a>, AllocError> {
     let command = with_check(alloc, bare_command(alloc))?;
     let command = with_run(alloc, with_draw(alloc, command)?)?;
-    let command = with_serve(alloc, with_show(alloc, command)?)?;
+    let command = with_upgrade(alloc, with_show(alloc, command)?)?;
+    let command = with_serve(alloc, command)?;
     with_ask(alloc, command)
 }
 
@@ -143,20 +185,31 @@ fn port_of(words: &ArgMatches<'_>) -> u16 {
     words.get_one("PORT").unwrap_or_default()
 }
 
+/// The flags of a run.
+fn flags_of(words: &ArgMatches<'_>) -> RunFlags {
+    RunFlags {
+        checked: words.get_flag(CHECKED),
+        owed: words.get_flag(OWED),
+    }
+}
+
 /// What the words ask for.
 pub fn job_of<'a>(matches: &ArgMatches<'a>) -> Result<Job<'a>, CommandFault>
-    ensures no_words { subcommand_name_of matches.now ≡ None → result ≡ Ok Job.RunInput }
+    ensures no_words { subcommand_name_of matches.now ≡ None → result ≡ Ok (Job.RunInput no_flags) }
     ensures asked { AskedBy (subcommand_name_of matches.now) result }
 {
     let Some((name, words)) = matches.subcommand() else {
-        return Ok(Job::RunInput);
+        return Ok(Job::RunInput { flags: NO_FLAGS });
     };
     let set = words.get_str("SET").unwrap_or(INPUT);
     match name {
         "check" => Ok(Job::Check { set }),
         "draw" => Ok(Job::Draw { set }),
-        "run" => job_of_run(set, words.get_str("SCRIPT")),
+        "run" => job_of_run(set, words.get_str("SCRIPT"), flags_of(words)),
         "show" => Ok(Job::Show {
+            store: words.get_str("STORE").unwrap_or(INPUT),
+        }),
+        "upgrade" => Ok(Job::Upgrade {
             store: words.get_str("STORE").unwrap_or(INPUT),
         }),
         "serve" => Ok(Job::Serve {

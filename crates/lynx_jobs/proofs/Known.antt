@@ -1,12 +1,14 @@
 -- What is done with sources whose bytes are known.
 use Rattle.std.proofs.Common.{◌≡◌, ℕ, List, Option, Some, None, ◌∙◌, subst}
 use Rattle.std.specs.Prelude.{Result, Ok, Err, IfOk, IfSome, take}
-use Rattle.lynx_input.specs.declared.source.TheConstants.{MAX_FILE_BYTES}
+use Rattle.lynx_input.specs.declared.source.TheConstants.{MAX_FILE_BYTES, MAX_INPUT_BYTES}
+use Rattle.lynx_input.specs.Inputs.{IsCut}
 use Rattle.std.specs.Io.KnownBytes.{Appends}
 use Rattle.lynx_run.specs.declared.verdict.Finding.{Finding}
 use Rattle.lynx_run.specs.Checks.{Finds}
 use Rattle.lynx_run.specs.Drawings.{Draws}
-use Rattle.lynx_jobs.specs.Done.{HasChecked, HasDrawn, HasRun, HasRunTexts}
+use Rattle.lynx_jobs.specs.Done.{HasChecked, HasDrawn, HasRun, HasRunAs, HasRunInput}
+use Rattle.lynx_command.specs.declared.job.RunFlags.{RunFlags}
 use Rattle.lynx_jobs.specs.Statuses.{status_of_finding}
 use Rattle.lynx_jobs.specs.Stopped.{IsFront}
 
@@ -39,19 +41,29 @@ drawn_known (Some bytes) text slice old new finding status front same status_is 
 }
 
 -- a run of two
-both_known : (set script set_source script_source : List ℕ) (old new : Option (List ℕ)) (status : ℕ) →
-    set ≡ take MAX_FILE_BYTES set_source → script ≡ take MAX_FILE_BYTES script_source → HasRunTexts set script old new status →
-    HasRun set_source script_source old new status
-both_known set script set_source script_source old new status set_is script_is run =
-    subst (λ (text : List ℕ). HasRunTexts text (take MAX_FILE_BYTES script_source) old new status) set_is
-    (subst (λ (text : List ℕ). HasRunTexts set text old new status) script_is run)
+both_known : (flags : RunFlags) (set script set_source script_source : List ℕ) (old new : Option (List ℕ)) (status : ℕ) →
+    set ≡ take MAX_FILE_BYTES set_source → script ≡ take MAX_FILE_BYTES script_source → HasRunAs flags set script old new status →
+    HasRun flags set_source script_source old new status
+both_known flags set script set_source script_source old new status set_is script_is run =
+    subst (λ (text : List ℕ). HasRunAs flags text (take MAX_FILE_BYTES script_source) old new status) set_is
+    (subst (λ (text : List ℕ). HasRunAs flags set text old new status) script_is run)
 
-pub run_known : {F : Type 0} (result : Result ℕ F) (set_known script_known : Option (List ℕ)) (set script set_slice script_slice : List ℕ) (old new : Option (List ℕ)) →
+pub run_known : {F : Type 0} (flags : RunFlags) (result : Result ℕ F) (set_known script_known : Option (List ℕ)) (set script set_slice script_slice : List ℕ) (old new : Option (List ℕ)) →
     IsFront MAX_FILE_BYTES set_known set → IsFront MAX_FILE_BYTES script_known script → set_slice ≡ set → script_slice ≡ script →
-    IfOk result (λ status. HasRunTexts set_slice script_slice old new status) →
-    IfOk result (λ status. IfSome set_known (λ set_bytes. IfSome script_known (λ script_bytes. HasRun set_bytes script_bytes old new status)))
-run_known (Err fault) set_known script_known set script set_slice script_slice old new set_is script_is s t run = run
-run_known (Ok status) None script_known set script set_slice script_slice old new set_is script_is s t run = set_is
-run_known (Ok status) (Some set_bytes) None set script set_slice script_slice old new set_is script_is s t run = script_is
-run_known (Ok status) (Some set_bytes) (Some script_bytes) set script set_slice script_slice old new set_is script_is s t run =
-    both_known set_slice script_slice set_bytes script_bytes old new status (s ∙ set_is) (t ∙ script_is) run
+    IfOk result (λ status. HasRunAs flags set_slice script_slice old new status) →
+    IfOk result (λ status. IfSome set_known (λ set_bytes. IfSome script_known (λ script_bytes. HasRun flags set_bytes script_bytes old new status)))
+run_known flags (Err fault) set_known script_known set script set_slice script_slice old new set_is script_is s t run = run
+run_known flags (Ok status) None script_known set script set_slice script_slice old new set_is script_is s t run = set_is
+run_known flags (Ok status) (Some set_bytes) None set script set_slice script_slice old new set_is script_is s t run = script_is
+run_known flags (Ok status) (Some set_bytes) (Some script_bytes) set script set_slice script_slice old new set_is script_is s t run =
+    both_known flags set_slice script_slice set_bytes script_bytes old new status (s ∙ set_is) (t ∙ script_is) run
+
+-- a run of the two parts of an input
+pub input_known : {F : Type 0} (result : Result ℕ F) (flags : RunFlags) (known : Option (List ℕ)) (input slice set script : List ℕ) (old new : Option (List ℕ)) →
+    IsFront MAX_INPUT_BYTES known input → slice ≡ input → IsCut slice set script →
+    IfOk result (λ status. HasRunAs flags set script old new status) →
+    IfOk result (λ status. IfSome known (λ bytes. HasRunInput flags bytes old new status))
+input_known (Err fault) flags known input slice set script old new front same cut run = run
+input_known (Ok status) flags None input slice set script old new front same cut run = front
+input_known (Ok status) flags (Some bytes) input slice set script old new front same cut run =
+    record { set = set; script = script; cut = subst (λ (read : List ℕ). IsCut read set script) (same ∙ front) cut; run = run }

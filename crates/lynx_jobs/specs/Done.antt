@@ -1,5 +1,6 @@
 -- What a job that is done has written, where the bytes of its sources are known.
-use Rattle.std.specs.Prelude.{◌≡◌, ℕ, List, Option, take}
+use Rattle.std.specs.Prelude.{◌≡◌, ◌⊎◌, ℕ, List, Option, take}
+use Rattle.std.specs.Bool.{MatchBool}
 use Rattle.std.specs.Io.KnownBytes.{Appends}
 use Rattle.lynx_input.specs.declared.source.TheConstants.{MAX_FILE_BYTES, MAX_INPUT_BYTES}
 use Rattle.lynx_input.specs.Inputs.{IsCut}
@@ -7,7 +8,12 @@ use Rattle.lynx_run.specs.declared.run.Ending.{Ending}
 use Rattle.lynx_run.specs.declared.verdict.Finding.{Finding}
 use Rattle.lynx_run.specs.Checks.{Finds}
 use Rattle.lynx_run.specs.Drawings.{Draws}
-use Rattle.lynx_run.specs.Runs.{Prints}
+use Rattle.lynx_command.specs.declared.job.RunFlags.{RunFlags}
+use Rattle.lynx_run.specs.declared.options.RunOptions.{RunOptions}
+use Rattle.lynx_run.specs.declared.verdict.Finding.TheVariants.{Accepted, Offending}
+use Rattle.lynx_run.specs.Options.{PrintsWith}
+use Rattle.lynx_run.specs.Refusals.{Refuses}
+use Rattle.lynx_verdict.specs.declared.accepted.Reason.{Reason}
 use Rattle.lynx_jobs.specs.Statuses.{status_of_finding, status_of_ending}
 
 -- the verdict on the set that the source begins with is written, and the status is the verdict's
@@ -27,20 +33,46 @@ pub record HasDrawn (source : List ℕ) (old new : Option (List ℕ)) (status : 
   pub status_is : status ≡ status_of_finding finding
 
 -- the lines of a run of this script over this set are written, and the status is that of its ending
-pub record HasRunTexts (set script : List ℕ) (old new : Option (List ℕ)) (status : ℕ) : Type 0 where
+pub record HasRunTexts (options : RunOptions) (set script : List ℕ) (old new : Option (List ℕ)) (status : ℕ) : Type 0 where
   pub ending : Ending
   pub printed : List ℕ
-  pub prints : Prints set script ending printed
+  pub prints : PrintsWith options set script ending printed
   pub written : Appends old new printed
   pub status_is : status ≡ status_of_ending ending
 
+-- the set offends, its verdict is written, and the status is the verdict's
+pub record HasRefused (set : List ℕ) (old new : Option (List ℕ)) (status : ℕ) : Type 0 where
+  pub printed : List ℕ
+  pub refuses : Refuses set Offending printed
+  pub written : Appends old new printed
+  pub status_is : status ≡ status_of_finding Offending
+
+-- the set is accepted
+abbrev pub IsAccepted : List ℕ → Type 0
+IsAccepted set = (reason : Reason) × (printed : List ℕ) × Refuses set (Accepted reason) printed
+
+-- a set that offends is refused, and over another the script is run
+abbrev pub HasRunJudged : RunOptions → List ℕ → List ℕ → Option (List ℕ) → Option (List ℕ) → ℕ → Type 0
+HasRunJudged options set script old new status =
+    HasRefused set old new status ⊎ (IsAccepted set × HasRunTexts options set script old new status)
+
+-- what the flags ask of a run
+abbrev pub options_of : RunFlags → RunOptions
+options_of flags = record { owed = flags.owed }
+
+-- the script is run over the set, which is judged first where the flags ask for that
+abbrev pub HasRunAs : RunFlags → List ℕ → List ℕ → Option (List ℕ) → Option (List ℕ) → ℕ → Type 0
+HasRunAs flags set script old new status = MatchBool flags.checked
+    (HasRunJudged (options_of flags) set script old new status)
+    (HasRunTexts (options_of flags) set script old new status)
+
 -- the same of the texts that two sources begin with
-abbrev pub HasRun : List ℕ → List ℕ → Option (List ℕ) → Option (List ℕ) → ℕ → Type 0
-HasRun set script old new status = HasRunTexts (take MAX_FILE_BYTES set) (take MAX_FILE_BYTES script) old new status
+abbrev pub HasRun : RunFlags → List ℕ → List ℕ → Option (List ℕ) → Option (List ℕ) → ℕ → Type 0
+HasRun flags set script old new status = HasRunAs flags (take MAX_FILE_BYTES set) (take MAX_FILE_BYTES script) old new status
 
 -- the same of the two parts of an input
-pub record HasRunInput (input : List ℕ) (old new : Option (List ℕ)) (status : ℕ) : Type 0 where
+pub record HasRunInput (flags : RunFlags) (input : List ℕ) (old new : Option (List ℕ)) (status : ℕ) : Type 0 where
   pub set : List ℕ
   pub script : List ℕ
   pub cut : IsCut (take MAX_INPUT_BYTES input) set script
-  pub run : HasRunTexts set script old new status
+  pub run : HasRunAs flags set script old new status

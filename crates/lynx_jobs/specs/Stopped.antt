@@ -7,7 +7,12 @@ use Rattle.lynx_run.specs.declared.run.RunFault.TheVariants.{Memory}
 use Rattle.lynx_run.specs.Checks.{BeginsFinding, NoVerdictFor}
 use Rattle.lynx_run.specs.Drawings.{BeginsPicture, NoPictureFor}
 use Rattle.lynx_run.specs.Runs.{StopsFor}
-use Rattle.lynx_run.specs.Written.{WritesPart}
+use Rattle.std.specs.Bool.{MatchBool}
+use Rattle.lynx_command.specs.declared.job.RunFlags.{RunFlags}
+use Rattle.lynx_run.specs.declared.options.RunOptions.{RunOptions}
+use Rattle.lynx_run.specs.Options.{WritesPartWith}
+use Rattle.lynx_run.specs.Refusals.{BeginsRefusal}
+use Rattle.lynx_jobs.specs.Done.{IsAccepted, options_of}
 use Rattle.lynx_jobs.specs.declared.fault.Fault.{Fault}
 use Rattle.lynx_jobs.specs.declared.fault.Fault.TheVariants.{Ask, Command, NoSeparator, Unread, Run, Serve, Store}
 
@@ -50,39 +55,61 @@ StopsDrawing source name old new (Ask fault) = ⊥
 
 -- a run of this script over this set: one of them is faulty, and nothing is written; or memory or the writer fails, and
 -- nothing is written or a beginning of the run's lines
-abbrev pub StopsRunTexts : List ℕ → List ℕ → Option (List ℕ) → Option (List ℕ) → Fault → Type 0
-StopsRunTexts set script old new (Run fault) = StopsFor set script (Keeps old new) fault × WritesPart set script old new
-StopsRunTexts set script old new (Unread shown) = ⊥
-StopsRunTexts set script old new NoSeparator = ⊥
-StopsRunTexts set script old new (Command fault) = ⊥
-StopsRunTexts set script old new (Store fault) = ⊥
-StopsRunTexts set script old new (Serve fault) = ⊥
-StopsRunTexts set script old new (Ask fault) = ⊥
+abbrev pub StopsRunTexts : RunOptions → List ℕ → List ℕ → Option (List ℕ) → Option (List ℕ) → Fault → Type 0
+StopsRunTexts options set script old new (Run fault) = StopsFor set script (Keeps old new) fault × WritesPartWith options set script old new
+StopsRunTexts options set script old new (Unread shown) = ⊥
+StopsRunTexts options set script old new NoSeparator = ⊥
+StopsRunTexts options set script old new (Command fault) = ⊥
+StopsRunTexts options set script old new (Store fault) = ⊥
+StopsRunTexts options set script old new (Serve fault) = ⊥
+StopsRunTexts options set script old new (Ask fault) = ⊥
+
+-- the judging of a set before a run: the set is faulty, and nothing is written; or memory or the writer fails, and nothing
+-- is written or a beginning of the verdict that it offends
+abbrev pub StopsJudging : List ℕ → Option (List ℕ) → Option (List ℕ) → Fault → Type 0
+StopsJudging set old new (Run fault) = NoVerdictFor set (Keeps old new) fault × BeginsRefusal set old new
+StopsJudging set old new (Unread shown) = ⊥
+StopsJudging set old new NoSeparator = ⊥
+StopsJudging set old new (Command fault) = ⊥
+StopsJudging set old new (Store fault) = ⊥
+StopsJudging set old new (Serve fault) = ⊥
+StopsJudging set old new (Ask fault) = ⊥
+
+-- the judging stops, or the run over a set that is accepted
+abbrev pub StopsRunJudged : RunOptions → List ℕ → List ℕ → Option (List ℕ) → Option (List ℕ) → Fault → Type 0
+StopsRunJudged options set script old new fault =
+    StopsJudging set old new fault ⊎ (IsAccepted set × StopsRunTexts options set script old new fault)
+
+-- a run with these flags
+abbrev pub StopsRunAs : RunFlags → List ℕ → List ℕ → Option (List ℕ) → Option (List ℕ) → Fault → Type 0
+StopsRunAs flags set script old new fault = MatchBool flags.checked
+    (StopsRunJudged (options_of flags) set script old new fault)
+    (StopsRunTexts (options_of flags) set script old new fault)
 
 -- a run of two sources: one of them can't be read, and nothing is written; or the run of what was read of them stops
-abbrev pub StopsRun : Option (List ℕ) → List ℕ → Option (List ℕ) → List ℕ → Option (List ℕ) → Option (List ℕ) → Fault → Type 0
-StopsRun set set_name script script_name old new (Unread shown) =
+abbrev pub StopsRun : RunFlags → Option (List ℕ) → List ℕ → Option (List ℕ) → List ℕ → Option (List ℕ) → Option (List ℕ) → Fault → Type 0
+StopsRun flags set set_name script script_name old new (Unread shown) =
     ((shown.name.now ≡ set_name) ⊎ (shown.name.now ≡ script_name)) × Keeps old new
-StopsRun set set_name script script_name old new (Run fault) =
+StopsRun flags set set_name script script_name old new (Run fault) =
     (set_text : List ℕ) × (script_text : List ℕ) × IsFront MAX_FILE_BYTES set set_text × IsFront MAX_FILE_BYTES script script_text
-    × StopsRunTexts set_text script_text old new (Run fault)
-StopsRun set set_name script script_name old new NoSeparator = ⊥
-StopsRun set set_name script script_name old new (Command fault) = ⊥
-StopsRun set set_name script script_name old new (Store fault) = ⊥
-StopsRun set set_name script script_name old new (Serve fault) = ⊥
-StopsRun set set_name script script_name old new (Ask fault) = ⊥
+    × StopsRunAs flags set_text script_text old new (Run fault)
+StopsRun flags set set_name script script_name old new NoSeparator = ⊥
+StopsRun flags set set_name script script_name old new (Command fault) = ⊥
+StopsRun flags set set_name script script_name old new (Store fault) = ⊥
+StopsRun flags set set_name script script_name old new (Serve fault) = ⊥
+StopsRun flags set set_name script script_name old new (Ask fault) = ⊥
 
 -- a run of an input: it can't be read, or memory is wanting for it, or no line of it is `--`, and nothing is written;
 -- or the run of its two parts stops
-abbrev pub StopsRunInput : Option (List ℕ) → List ℕ → Option (List ℕ) → Option (List ℕ) → Fault → Type 0
-StopsRunInput source name old new (Unread shown) = (shown.name.now ≡ name) × Keeps old new
-StopsRunInput source name old new NoSeparator =
+abbrev pub StopsRunInput : RunFlags → Option (List ℕ) → List ℕ → Option (List ℕ) → Option (List ℕ) → Fault → Type 0
+StopsRunInput flags source name old new (Unread shown) = (shown.name.now ≡ name) × Keeps old new
+StopsRunInput flags source name old new NoSeparator =
     (input : List ℕ) × IsFront MAX_INPUT_BYTES source input × HasNoCut input × Keeps old new
-StopsRunInput source name old new (Run fault) =
+StopsRunInput flags source name old new (Run fault) =
     ((fault ≡ Memory) × Keeps old new)
     ⊎ ((input : List ℕ) × (set : List ℕ) × (script : List ℕ) × IsFront MAX_INPUT_BYTES source input × IsCut input set script
-    × StopsRunTexts set script old new (Run fault))
-StopsRunInput source name old new (Command fault) = ⊥
-StopsRunInput source name old new (Store fault) = ⊥
-StopsRunInput source name old new (Serve fault) = ⊥
-StopsRunInput source name old new (Ask fault) = ⊥
+    × StopsRunAs flags set script old new (Run fault))
+StopsRunInput flags source name old new (Command fault) = ⊥
+StopsRunInput flags source name old new (Store fault) = ⊥
+StopsRunInput flags source name old new (Serve fault) = ⊥
+StopsRunInput flags source name old new (Ask fault) = ⊥

@@ -5,16 +5,16 @@ ghost use Rattle.lynx_jobs.specs.Statuses.{finished_as};
 use crate::fault::Fault;
 use crate::serving::{ask_port, serve_file};
 use crate::texts::{DONE, check_source, draw_source, read_text, run_input, run_sources};
-use lynx_command::{INPUT, Job};
+use lynx_command::{INPUT, Job, RunFlags};
 use lynx_input::InputFault;
 use lynx_keep::Keeper;
 use lynx_run::RunFault;
 use lynx_serve::Service;
-use lynx_show::{ShowFault, show_store};
+use lynx_show::{ShowFault, show_store, upgrade_and_tell};
 use lynx_stores::Stores;
-use sqlite::Connection;
+use sqlite::{Connection, File, FileStore};
 use std::alloc::Global;
-use std::io::{BufWriter, Read, Write};
+use std::io::{BufWriter, IsTerminal, Read, Write};
 use std::net::{Net, TcpListener, TcpStream};
 use std::rt::Files;
 use std::sync::Wait;
@@ -45,9 +45,12 @@ pub fn do_job<
     let done = match job {
         Job::Check { set } => check_file(host, set, &mut writer),
         Job::Draw { set } => draw_file(host, set, &mut writer),
-        Job::Run { set, script } => run_files(host, set, script, &mut writer),
-        Job::RunInput => run_input(host.alloc(), INPUT, &mut host.reader(), &mut writer),
+        Job::Run { set, script, flags } => run_files(host, set, script, flags, &mut writer),
+        Job::RunInput { flags } => {
+            run_input(host.alloc(), INPUT, &mut host.reader(), flags, &mut writer)
+        }
         Job::Show { store } => show_file(host, store, &mut writer),
+        Job::Upgrade { store } => upgrade_file(host, store, &mut writer),
         Job::Serve { set, folder, port } => {
             serve_file(host, rt, stores, set, Service { folder, port }, &mut writer)
         }
@@ -96,6 +99,7 @@ fn run_files<'a, R: Files + AllocGlobal, W: Write>(
     rt: &R,
     set: &'a str,
     script: &'a str,
+    flags: RunFlags,
     writer: &mut W,
 ) -> Result<u8, Fault<'a>> {
     let Ok(mut set_file) = fs::open(rt, set) else {
@@ -112,6 +116,7 @@ fn run_files<'a, R: Files + AllocGlobal, W: Write>(
         &mut set_file,
         script,
         &mut script_file,
+        flags,
         writer,
     )
 }
@@ -133,23 +138,61 @@ fn has_log<'a, R: Files>(rt: &R, alloc: Global, store: &'a str) -> Result<bool, 
     }
 }
 
-/// Lists the store of a file. A file without a byte, and without a log beside it, is no store: it isn't opened, which
-/// would make it one.
-fn show_file<'a, W: Write>(
+/// The database of a file that holds a store. A file without a byte, and without a log beside it, is no store: it isn't
+/// opened, which would make it one.
+fn open_store<'a>(
     rt: &HostRuntime,
     store: &'a str,
-    writer: &mut W,
-) -> Result<u8, Fault<'a>> {
+) -> Result<Connection<FileStore<File>>, Fault<'a>> {
     let Some(begun) = has_bytes(rt, store) else {
         return Err(Fault::of_reading(store, InputFault::Read));
     };
     if !begun && !has_log(rt, rt.alloc(), store)? {
         return Err(Fault::Store(ShowFault::Damaged));
     }
-    let Ok(mut conn) = Connection::open(rt, store) else {
-        return Err(Fault::Store(ShowFault::Store));
-    };
+    match Connection::open(rt, store) {
+        Ok(conn) => Ok(conn),
+        Err(_) => Err(Fault::Store(ShowFault::Store)),
+    }
+}
+
+/// Lists the store of a file.
+fn show_file<'a, W: Write>(
+    rt: &HostRuntime,
+    store: &'a str,
+    writer: &mut W,
+) -> Result<u8, Fault<'a>> {
+    let mut conn = open_store(rt, store)?;
     match show_store(rt.alloc(), &mut conn, writer) {
+        Ok(()) => Ok(DONE),
+        Err(fault) => Err(Fault::of_showing(fault)),
+    }
+}
+
+/// What a person at a terminal is told while a store is upgraded, which takes some seconds where it is large ..
+const UPGRADING: &str = "\rlynx: upgrading the store\x1b[K";
+
+/// .. and how that is wiped away.
+const WIPED: &str = "\r\x1b[K";
+
+/// Writes to standard error where that is a terminal.
+fn tell(rt: &HostRuntime, text: &str) {
+    if rt.stderr().is_terminal() {
+        let _ = eprint!(rt; "{text}");
+    }
+}
+
+/// Makes the store of a file one of version 2.
+fn upgrade_file<'a, W: Write>(
+    rt: &HostRuntime,
+    store: &'a str,
+    writer: &mut W,
+) -> Result<u8, Fault<'a>> {
+    let mut conn = open_store(rt, store)?;
+    tell(rt, UPGRADING);
+    let upgraded = upgrade_and_tell(rt.alloc(), &mut conn, writer);
+    tell(rt, WIPED);
+    match upgraded {
         Ok(()) => Ok(DONE),
         Err(fault) => Err(Fault::of_showing(fault)),
     }

@@ -2,12 +2,13 @@
 ghost use Rattle.std.specs.Prelude.{◌≡◌, IfOk, IfErr, IfSome, Ok, Err, take};
 ghost use Rattle.lynx_input.specs.declared.source.TheConstants.{MAX_FILE_BYTES};
 ghost use Rattle.lynx_jobs.specs.Statuses.{status_of_ending, status_of_finding};
-ghost use Rattle.lynx_jobs.specs.Done.{HasChecked, HasDrawn, HasRun, HasRunInput, HasRunTexts};
-ghost use Rattle.lynx_jobs.specs.Stopped.{StopsChecking, StopsDrawing, StopsReading, StopsRun, StopsRunInput, StopsRunTexts};
+ghost use Rattle.lynx_jobs.specs.Done.{HasChecked, HasDrawn, HasRun, HasRunAs, HasRunInput, HasRunJudged, HasRunTexts};
+ghost use Rattle.lynx_jobs.specs.Stopped.{StopsChecking, StopsDrawing, StopsReading, StopsRun, StopsRunAs, StopsRunInput, StopsRunJudged, StopsRunTexts};
 
 use crate::fault::Fault;
+use lynx_command::RunFlags;
 use lynx_input::{MAX_FILE_BYTES, MAX_INPUT_BYTES, read_all, split_input};
-use lynx_run::{Ending, Finding, check_text, draw_text, run_texts};
+use lynx_run::{Ending, Finding, RunOptions, check_text, draw_text, refuse_text, run_texts};
 use std::alloc::Global;
 use std::io::{Read, Write};
 
@@ -96,16 +97,59 @@ fn run_both<'a, W: Write>(
     alloc: Global,
     set: &[u8],
     script: &[u8],
+    options: RunOptions,
     writer: &mut W,
 ) -> Result<u8, Fault<'a>>
     ensures ok { IfOk result (λ status.
-        HasRunTexts set.now script.now (W.contents writer.old) (W.contents writer.new) status) }
-    ensures err { IfErr result (StopsRunTexts set.now script.now
+        HasRunTexts options set.now script.now (W.contents writer.old) (W.contents writer.new) status) }
+    ensures err { IfErr result (StopsRunTexts options set.now script.now
         (W.contents writer.old) (W.contents writer.new)) }
 {
-    match run_texts(alloc, set, script, writer) {
+    match run_texts(alloc, set, script, options, writer) {
         Ok(ending) => Ok(status_of_ending(ending)),
         Err(fault) => Err(Fault::Run(fault)),
+    }
+}
+
+/// Runs a script over a set that is accepted. One that offends is refused: its verdict is written, and the script isn't
+/// read.
+fn run_judged<'a, W: Write>(
+    alloc: Global,
+    set: &[u8],
+    script: &[u8],
+    options: RunOptions,
+    writer: &mut W,
+) -> Result<u8, Fault<'a>>
+    ensures ok { IfOk result (λ status.
+        HasRunJudged options set.now script.now (W.contents writer.old) (W.contents writer.new) status) }
+    ensures err { IfErr result (StopsRunJudged options set.now script.now
+        (W.contents writer.old) (W.contents writer.new)) }
+{
+    match refuse_text(alloc, set, writer) {
+        Ok(Finding::Offending) => Ok(OFFENDING),
+        Ok(Finding::Accepted(_)) => run_both(alloc, set, script, options, writer),
+        Err(fault) => Err(Fault::Run(fault)),
+    }
+}
+
+/// Runs a script over a set as the flags ask for.
+fn run_as<'a, W: Write>(
+    alloc: Global,
+    set: &[u8],
+    script: &[u8],
+    flags: RunFlags,
+    writer: &mut W,
+) -> Result<u8, Fault<'a>>
+    ensures ok { IfOk result (λ status.
+        HasRunAs flags set.now script.now (W.contents writer.old) (W.contents writer.new) status) }
+    ensures err { IfErr result (StopsRunAs flags set.now script.now
+        (W.contents writer.old) (W.contents writer.new)) }
+{
+    let options = RunOptions { owed: flags.owed };
+    if flags.checked {
+        run_judged(alloc, set, script, options, writer)
+    } else {
+        run_both(alloc, set, script, options, writer)
     }
 }
 
@@ -116,17 +160,18 @@ pub fn run_sources<'a, R: Read, S: Read, W: Write>(
     set: &mut R,
     script_name: &'a str,
     script: &mut S,
+    flags: RunFlags,
     writer: &mut W,
 ) -> Result<u8, Fault<'a>>
     ensures ok { IfOk result (λ status. IfSome (R.remaining set.old) (λ set_bytes.
         IfSome (S.remaining script.old) (λ script_bytes.
-        HasRun set_bytes script_bytes (W.contents writer.old) (W.contents writer.new) status))) }
-    ensures err { IfErr result (StopsRun (R.remaining set.old) set_name.now
+        HasRun flags set_bytes script_bytes (W.contents writer.old) (W.contents writer.new) status))) }
+    ensures err { IfErr result (StopsRun flags (R.remaining set.old) set_name.now
         (S.remaining script.old) script_name.now (W.contents writer.old) (W.contents writer.new)) }
 {
     let set = read_text(alloc, set_name, set)?;
     let script = read_text(alloc, script_name, script)?;
-    run_both(alloc, set.as_slice(), script.as_slice(), writer)
+    run_as(alloc, set.as_slice(), script.as_slice(), flags, writer)
 }
 
 /// Runs the script of an input over the set that stands before it.
@@ -134,11 +179,12 @@ pub fn run_input<'a, R: Read, W: Write>(
     alloc: Global,
     name: &'a str,
     source: &mut R,
+    flags: RunFlags,
     writer: &mut W,
 ) -> Result<u8, Fault<'a>>
     ensures ok { IfOk result (λ status. IfSome (R.remaining source.old) (λ bytes.
-        HasRunInput bytes (W.contents writer.old) (W.contents writer.new) status)) }
-    ensures err { IfErr result (StopsRunInput (R.remaining source.old) name.now
+        HasRunInput flags bytes (W.contents writer.old) (W.contents writer.new) status)) }
+    ensures err { IfErr result (StopsRunInput flags (R.remaining source.old) name.now
         (W.contents writer.old) (W.contents writer.new)) }
 {
     let input = match read_all(alloc, source, MAX_INPUT_BYTES) {
@@ -148,5 +194,5 @@ pub fn run_input<'a, R: Read, W: Write>(
     let Some((set, script)) = split_input(input.as_slice()) else {
         return Err(Fault::NoSeparator);
     };
-    run_both(alloc, set, script, writer)
+    run_as(alloc, set, script, flags, writer)
 }

@@ -1,5 +1,5 @@
 //! Each job from sources in memory, with ample memory.
-use lynx_command::{Job, command, job_of};
+use lynx_command::{Job, RunFlags, command, job_of};
 use lynx_jobs::{check_source, draw_source, run_input, run_sources};
 use lynx_samples::rows::PAYMENT;
 use lynx_samples::texts::{CROSSING, PAY_AND_NOTE};
@@ -32,24 +32,45 @@ fn a_picture_has_the_status_of_its_verdict(rt: HostRuntime) {
     assert_eq!(rt; status_of_picture(rt.alloc(), CROSSING), Some(1));
 }
 
-/// Whether the payment runs, and prints its lines.
-fn is_run(alloc: Global) -> bool {
+/// A run without flags.
+const PLAIN: RunFlags = RunFlags {
+    checked: false,
+    owed: false,
+};
+
+/// A run with both.
+const BOTH: RunFlags = RunFlags {
+    checked: true,
+    owed: true,
+};
+
+/// Whether the payment runs with these flags, and prints its lines, which are all: it owes nothing in the end.
+fn is_run(alloc: Global, flags: RunFlags) -> bool {
     let mut printed = Vec::new(alloc);
     let (mut set, mut script) = (PAYMENT.set.as_bytes(), PAYMENT.script.as_bytes());
-    let status = run_sources(alloc, "set", &mut set, "script", &mut script, &mut printed);
+    let status = run_sources(
+        alloc,
+        "set",
+        &mut set,
+        "script",
+        &mut script,
+        flags,
+        &mut printed,
+    );
     status.ok() == Some(0) && printed.as_slice() == PAYMENT.printed.as_bytes()
 }
 
 #[test]
 fn two_sources_are_run(rt: HostRuntime) {
-    assert!(rt; is_run(rt.alloc()));
+    assert!(rt; is_run(rt.alloc(), PLAIN));
+    assert!(rt; is_run(rt.alloc(), BOTH));
 }
 
 /// Whether an input is run that has a set without programs, and no event.
 fn is_input_run(alloc: Global) -> bool {
     let mut printed = Vec::new(alloc);
     let mut input = b"lynx 1\nservers 1\n--\n".as_slice();
-    run_input(alloc, "-", &mut input, &mut printed).ok() == Some(0)
+    run_input(alloc, "-", &mut input, PLAIN, &mut printed).ok() == Some(0)
         && printed.as_slice() == b"order -\n".as_slice()
 }
 
@@ -68,7 +89,20 @@ fn ask_for(alloc: Global, words: &[&str], want: Job) -> Result<bool, Fail> {
 
 #[test]
 fn words_ask_for_jobs(rt: HostRuntime) -> Result<(), Fail> {
-    assert!(rt; ask_for(rt.alloc(), &["lynx"], Job::RunInput)?);
+    let input = Job::RunInput { flags: PLAIN };
+    assert!(rt; ask_for(rt.alloc(), &["lynx"], input)?);
+    let run = Job::Run {
+        set: "a",
+        script: "b",
+        flags: BOTH,
+    };
+    assert!(rt;
+        ask_for(
+            rt.alloc(),
+            &["lynx", "run", "--owed", "a", "--checked", "b"],
+            run
+        )?
+    );
     assert!(rt; ask_for(rt.alloc(), &["lynx", "check", "a"], Job::Check { set: "a" })?);
     assert!(rt; ask_for(rt.alloc(), &["lynx", "draw", "a"], Job::Draw { set: "a" })?);
     Ok(())

@@ -1,5 +1,5 @@
 //! Writers that fail, at each line of a run and of a verdict, and at a picture.
-use lynx_run::{Ending, Finding, RunFault, check_text, draw_text, run_texts};
+use lynx_run::{Ending, Finding, RunFault, RunOptions, check_text, draw_text, run_texts};
 use lynx_samples::full::Full;
 use lynx_samples::rows::PAYMENT;
 use lynx_samples::texts::CROSSING;
@@ -12,6 +12,7 @@ fn ended_in(alloc: Global, left: usize) -> Result<Ending, RunFault> {
         alloc,
         PAYMENT.set.as_bytes(),
         PAYMENT.script.as_bytes(),
+        RunOptions { owed: false },
         &mut writer,
     )
 }

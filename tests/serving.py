@@ -1,4 +1,4 @@
-"""A service under test: `lynx serve` over a fresh folder, for tests/clients and tests/kills."""
+"""A service under test: `lynx serve` over a fresh folder, for tests/clients, tests/kills and tests/refused."""
 import os
 import shutil
 import socket
@@ -86,10 +86,10 @@ class Room:
 class Service:
     """A running service over the stores of a room."""
 
-    def __init__(self, lynx, room, port=None):
+    def __init__(self, lynx, room, port=None, env=None):
         self.port = port or free_port()
         self.ran = subprocess.Popen([lynx, "serve", room.set, room.stores, str(self.port)], stdin=subprocess.DEVNULL,
-                                    stdout=subprocess.PIPE, stderr=subprocess.PIPE, text=True)
+                                    stdout=subprocess.PIPE, stderr=subprocess.PIPE, text=True, env=env)
         self.first = self.ran.stdout.readline()
 
     def __enter__(self):

@@ -17,7 +17,7 @@ use std::test::Fail;
 pub type Disks = Files<Fuse<File>>;
 
 /// Files whose log passes so many calls on, and whose database so many.
-pub fn disks(alloc: Global, log: u64, db: u64) -> Disks {
+fn disks(alloc: Global, log: u64, db: u64) -> Disks {
     Files {
         log: Fuse::new(File::new(alloc), log),
         db: Fuse::new(File::new(alloc), db),

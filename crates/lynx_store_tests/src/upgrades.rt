@@ -60,7 +60,7 @@ fn version_on<D: Disk + Drop>(alloc: Global, disks: Files<D>) -> Result<Option<V
 /// What came of a stop.
 #[derive(Clone, Copy)]
 struct Survival {
-    /// The machine did stop.
+    /// The machine did stop: the upgrade wasn't answered, or the store can't be used any more.
     stopped: bool,
     /// The store is of one version or the other, whole, and of the second where the upgrade was answered.
     is_right: bool,
@@ -69,11 +69,11 @@ struct Survival {
 /// An upgrade with a stop at that call.
 fn survive(alloc: Global, log: u64, db: u64) -> Result<Survival, Memory> {
     let (told, left) = upgrade(alloc, paid_disks(alloc, log, db)?);
-    let stopped = !left.may_be_used();
+    let stopped = told.is_none() || !left.may_be_used();
     let version = version_on(alloc, crashed(left))?;
     let is_right = match told {
         Some(count) => count == 2 && version == Some(Version::Two),
-        None => stopped && version.is_some(),
+        None => version.is_some(),
     };
     Ok(Survival { stopped, is_right })
 }

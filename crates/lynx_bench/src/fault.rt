@@ -1,5 +1,7 @@
 //! Why no work was done.
+use lynx_load::LoadFault;
 use lynx_names::Memory;
+use lynx_store::StoreFault;
 use thiserror::Error;
 
 /// Why no work was done.
@@ -9,6 +11,9 @@ pub enum Fault {
     Memory,
     #[error("the store failed")]
     Store,
+    /// Of a cluster, never for want of memory.
+    #[error("{0}")]
+    Cluster(LoadFault),
 }
 
 impl Fault {
@@ -17,6 +22,7 @@ impl Fault {
         match self {
             Fault::Memory => 3,
             Fault::Store => 4,
+            Fault::Cluster(fault) => fault.status(),
         }
     }
 }
@@ -24,5 +30,23 @@ impl Fault {
 impl From<Memory> for Fault {
     fn from(_: Memory) -> Fault {
         Fault::Memory
+    }
+}
+
+impl From<StoreFault> for Fault {
+    fn from(fault: StoreFault) -> Fault {
+        match fault {
+            StoreFault::Memory => Fault::Memory,
+            _ => Fault::Store,
+        }
+    }
+}
+
+impl From<LoadFault> for Fault {
+    fn from(fault: LoadFault) -> Fault {
+        match fault {
+            LoadFault::Memory => Fault::Memory,
+            fault => Fault::Cluster(fault),
+        }
     }
 }

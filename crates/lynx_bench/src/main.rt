@@ -2,21 +2,40 @@
 //! read so many bytes of forms, `store FOLDER` pays so many times over two stores there (`:memory:`: in memory),
 //! `open-store FOLDER` opens the first of them so many times, `weave SHAPE` weaves so many entries of two servers (`2`), of sixteen (`16`), or of one
 //! (`adds`, `alternating`, `cells`, `cycle`), and `explain SHAPE` then explains the world.
+//!
+//! Two kinds of work are of a cluster in memory, with a thread for each server: `cluster SERVERS THREADS COUNT` pays so
+//! many times by so many threads, and prints how long that took, and `idle SERVERS SECONDS` has the cluster do nothing.
 #![tactic(auto)]
 
-use std::env;
 use std::process::ExitCode;
 use std::rt::Env;
+use std::sync::Wait;
+use std::thread::Threads;
+use std::time::Clock;
+use std::{env, fmt};
 
+mod clusters;
 mod fault;
 mod forms;
 mod measure;
+mod memory_stores;
 mod ring;
 mod shape;
 mod stores;
 
+use clusters::ClusterWork;
+use fault::Fault;
 use measure::{Work, measure};
 use shape::Shape;
+
+/// What the words of the command line ask for.
+#[derive(Clone, Copy, Debug)]
+enum Job<'a> {
+    /// Some work so many times.
+    Work { work: Work<'a>, count: u64 },
+    /// Work of a cluster.
+    Cluster(ClusterWork),
+}
 
 /// The work that a word names.
 fn work_of(word: &str) -> Option<Work<'_>> {
@@ -47,27 +66,32 @@ fn sized_work_of<'a>(work: &str, size: &'a str) -> Option<Work<'a>> {
     }
 }
 
-/// The work and the count that the words ask for.
-fn asked(words: &[String]) -> Option<(Work<'_>, u64)> {
+/// That work so many times.
+fn repeated<'a>(work: Work<'a>, count: &str) -> Option<Job<'a>> {
+    let count = count.parse().ok()?;
+    Some(Job::Work { work, count })
+}
+
+/// What the words ask for, the program's name first.
+fn asked(words: &[String]) -> Option<Job<'_>> {
     match words {
-        [_, work, count] => Some((work_of(work.as_str())?, count.as_str().parse().ok()?)),
-        [_, work, size, count] => Some((
-            sized_work_of(work.as_str(), size.as_str())?,
-            count.as_str().parse().ok()?,
+        [_, work, count] => repeated(work_of(work.as_str())?, count.as_str()),
+        [_, work, servers, seconds] if work.as_str() == "idle" => Some(Job::Cluster(
+            ClusterWork::idle(servers.as_str(), seconds.as_str())?,
+        )),
+        [_, work, size, count] => {
+            repeated(sized_work_of(work.as_str(), size.as_str())?, count.as_str())
+        }
+        [_, work, servers, threads, count] if work.as_str() == "cluster" => Some(Job::Cluster(
+            ClusterWork::carry(servers.as_str(), threads.as_str(), count.as_str())?,
         )),
         _ => None,
     }
 }
 
-/// Does what the words ask for, and gives the status.
-fn obey(rt: &HostRuntime, words: &[String]) -> u8 {
-    let Some((work, count)) = asked(words) else {
-        let _ = eprintln!(rt;
-            "lynx_bench: begin, deliver, open, encode, feed and the size of a piece, store or open-store and a folder, or weave or explain and 2, 16, adds, alternating, cells or cycle; and a count"
-        );
-        return 2;
-    };
-    match measure(rt, work, count) {
+/// Prints the line of what was done, or of why not, and gives the status.
+fn report<T: fmt::Display + Drop>(rt: &HostRuntime, done: Result<T, Fault>) -> u8 {
+    match done {
         Ok(done) => {
             let _ = println!(rt; "{done}");
             0
@@ -75,6 +99,24 @@ fn obey(rt: &HostRuntime, words: &[String]) -> u8 {
         Err(fault) => {
             let _ = eprintln!(rt; "lynx_bench: {fault}");
             fault.status()
+        }
+    }
+}
+
+/// Does what the words ask for, and gives the status.
+fn obey<R: Threads + Wait + Clock + Copy + Send + Sync + 'static>(
+    host: &HostRuntime,
+    rt: R,
+    words: &[String],
+) -> u8 {
+    match asked(words) {
+        Some(Job::Work { work, count }) => report(host, measure(host, work, count)),
+        Some(Job::Cluster(work)) => report(host, work.run(rt, host.alloc())),
+        None => {
+            let _ = eprintln!(host;
+                "lynx_bench: begin, deliver, open, encode, feed and the size of a piece, store or open-store and a folder, or weave or explain and 2, 16, adds, alternating, cells or cycle; and a count; or cluster, servers (1 to 16), threads (1 to 255) and a count; or idle, servers and seconds"
+            );
+            2
         }
     }
 }
@@ -91,5 +133,5 @@ fn words<R: Env + AllocGlobal>(rt: &R) -> Vec<String> {
 
 fn main(rt: HostRuntime) -> ExitCode {
     let words = words(&rt);
-    ExitCode::from(obey(&rt, words.as_slice()))
+    ExitCode::from(obey(&rt, rt, words.as_slice()))
 }

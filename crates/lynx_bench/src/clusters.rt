@@ -1,0 +1,94 @@
+//! Clusters in memory: one that carries a load of payments, and one that has nothing to do.
+use crate::fault::Fault;
+use lynx_load::{Load, Measured, idle, measure};
+use lynx_names::limits::MAX_SERVERS;
+use std::alloc::Global;
+use std::fmt;
+use std::sync::Wait;
+use std::thread::Threads;
+use std::time::{Clock, Duration};
+
+/// What a cluster is started for.
+#[derive(Clone, Copy, Debug)]
+pub enum ClusterWork {
+    /// It carries a load.
+    Carry(Load),
+    /// It has nothing to do for so many seconds.
+    Idle { servers: u8, seconds: u64 },
+}
+
+/// What a cluster did.
+#[derive(Clone, Copy, Debug)]
+pub enum ClusterDone {
+    /// It carried a load, which took so long.
+    Carried(Measured),
+    /// It had nothing to do for so many seconds.
+    Idled { servers: u8, seconds: u64 },
+}
+
+/// How many servers, which a cluster can have.
+fn servers_of(word: &str) -> Option<u8> {
+    let servers = word.parse().ok()?;
+    (1..=MAX_SERVERS).contains(&servers).then_some(servers)
+}
+
+/// How many threads, one at least.
+fn threads_of(word: &str) -> Option<u8> {
+    let threads = word.parse().ok()?;
+    (threads > 0).then_some(threads)
+}
+
+impl ClusterWork {
+    /// To carry a load of so many payments by so many threads.
+    pub fn carry(servers: &str, threads: &str, payments: &str) -> Option<ClusterWork> {
+        Some(ClusterWork::Carry(Load {
+            servers: servers_of(servers)?,
+            threads: threads_of(threads)?,
+            payments: payments.parse().ok()?,
+        }))
+    }
+
+    /// To have nothing to do for so many seconds.
+    pub fn idle(servers: &str, seconds: &str) -> Option<ClusterWork> {
+        Some(ClusterWork::Idle {
+            servers: servers_of(servers)?,
+            seconds: seconds.parse().ok()?,
+        })
+    }
+
+    /// Starts a cluster for it, and closes that.
+    pub fn run<R: Threads + Wait + Clock + Copy + Send + Sync + 'static>(
+        self,
+        rt: R,
+        alloc: Global,
+    ) -> Result<ClusterDone, Fault> {
+        match self {
+            ClusterWork::Carry(load) => { Ok(ClusterDone::Carried(measure(rt, alloc, load)?)) }
+            ClusterWork::Idle { servers, seconds } => {
+                idle(rt, alloc, servers, seconds)?;
+                Ok(ClusterDone::Idled { servers, seconds })
+            }
+        }
+    }
+}
+
+/// How many of so many chains there are a second, where all take that time, a microsecond at least.
+fn a_second(chains: u64, time: Duration) -> u128 {
+    u128::from(chains) * 1_000_000 / time.as_micros().max(1)
+}
+
+impl fmt::Display for ClusterDone {
+    fn fmt<W: fmt::Write>(&self, f: &mut fmt::Formatter<W>) -> fmt::Result {
+        match self {
+            ClusterDone::Carried(measured) => write!(
+                f,
+                "{measured}: {} begins and {} chains a second",
+                a_second(measured.begun, measured.begin),
+                a_second(measured.begun, measured.done)
+            ),
+            ClusterDone::Idled { servers, seconds } => {
+                write!(f, "servers {servers}, idle for {seconds} s")
+            }
+        }
+    }
+}

@@ -1,0 +1,44 @@
+//! Stores in memory.
+use lynx_names::ServerId;
+use lynx_set::ChainSet;
+use lynx_store::{SqlKeeper, StoreFault};
+use lynx_stores::Stores;
+use sqlite::{Connection, MemStore};
+use std::alloc::Global;
+
+/// A keeper over a database in memory.
+type MemoryStoreKeeper = SqlKeeper<MemStore>;
+
+/// Stores in memory, each a new one, whatever the folder. A store is gone once it is closed.
+#[derive(Drop)]
+pub struct MemoryStores {
+    alloc: Global,
+}
+
+impl MemoryStores {
+    /// Stores in the memory of this allocator.
+    pub fn new(alloc: Global) -> MemoryStores {
+        MemoryStores { alloc }
+    }
+}
+
+impl Stores<MemoryStoreKeeper> for MemoryStores {
+    fn open(
+        &self,
+        _folder: &str,
+        set: &ChainSet,
+        server: ServerId,
+    ) -> Result<MemoryStoreKeeper, StoreFault> {
+        let Ok(conn) = Connection::open_in_memory(self.alloc) else {
+            return Err(StoreFault::Memory);
+        };
+        match SqlKeeper::open(self.alloc, conn, set, server) {
+            Ok(keeper) => Ok(keeper),
+            Err((fault, _)) => Err(fault),
+        }
+    }
+
+    fn close(&self, _keeper: MemoryStoreKeeper) -> Result<(), StoreFault> {
+        Ok(())
+    }
+}

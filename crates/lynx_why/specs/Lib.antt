@@ -1,0 +1,7 @@
+pub mod HopLines
+pub mod Meets
+pub mod Together
+pub mod Groups
+pub mod Busy
+pub mod Whys
+pub mod inner

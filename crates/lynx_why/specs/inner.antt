@@ -1,0 +1,3 @@
+-- Definitions that no public clause cites: they serve the functions within.
+pub mod Counts
+pub mod Joining

@@ -1,12 +1,16 @@
 -- What the verdict on a set prints.
-use Rattle.std.specs.Prelude.{◌≡◌, ◌≢◌, ◌⊎◌, ℕ, Option, List, ◌∷◌, ◌++◌, codes, take, drop}
+use Rattle.std.specs.Prelude.{◌≡◌, ◌≢◌, ◌⊎◌, ℕ, Bool, true, false, Option, List, [], ◌∷◌, ◌++◌, codes, take, drop}
 use Rattle.std.specs.List.{flat_map, zip}
 use Rattle.std.specs.Fmt.{decimal}
 use Rattle.lynx_graph.specs.declared.visit.Visit.{Visit}
 use Rattle.lynx_verdict.specs.declared.accepted.Reason.{Reason}
 use Rattle.lynx_verdict.specs.declared.accepted.Reason.TheVariants.{Walks, Blocks}
 use Rattle.lynx_graph.specs.declared.block.Block.{Block}
-use Rattle.lynx_verdict.specs.Reasons.{IsReason}
+use Rattle.lynx_verdict.specs.Reasons.{IsReason, reason_of}
+use Rattle.lynx_verdict.specs.Verdicts.{Judges}
+use Rattle.lynx_verdict.specs.declared.verdict.Verdict.{Verdict}
+use Rattle.lynx_verdict.specs.declared.verdict.Verdict.TheVariants.{Accepted as AcceptedVerdict, Offending as OffendingVerdict}
+use Rattle.lynx_why.specs.Whys.{IsWhy}
 use Rattle.lynx_graph.specs.Blocks.{IsOffendingBlockWalk}
 use Rattle.lynx_graph.specs.Walks.{IsOffending}
 use Rattle.lynx_set.specs.Rules.{IsSet}
@@ -48,12 +52,40 @@ IsVerdict chains Offending printed =
     ((walk : List Visit) × IsOffending chains walk × (printed ≡ with_feed (codes "offending") ++ edge_lines chains walk))
     × ((blocks : List Block) × IsOffendingBlockWalk chains blocks)
 
--- what is found of a set text, and printed
-pub record Finds (text : List ℕ) (finding : Finding) (printed : List ℕ) : Type 0 where
+-- what a verdict finds, and its lines
+abbrev pub finding_of : Verdict → Finding
+finding_of (AcceptedVerdict own) = Accepted (reason_of own.excused)
+finding_of (OffendingVerdict walk blocks) = Offending
+
+abbrev pub verdict_lines : Set → Verdict → List ℕ
+verdict_lines chains (AcceptedVerdict own) = accepted_line (reason_of own.excused)
+verdict_lines chains (OffendingVerdict walk blocks) = with_feed (codes "offending") ++ edge_lines chains walk
+
+-- the lines behind a verdict: why it is what it is where that is asked for, else nothing
+abbrev pub AreBehind : Bool → Set → Verdict → List ℕ → Type 0
+AreBehind true chains verdict lines = IsWhy chains verdict lines
+AreBehind false chains verdict lines = lines ≡ []
+
+-- the lines of a right verdict, and why it is what it is
+pub record IsExplained (chains : Set) (finding : Finding) (printed : List ℕ) : Type 0 where
+  pub verdict : Verdict
+  pub judges : Judges chains verdict
+  pub finding_is : finding ≡ finding_of verdict
+  pub reasons : List ℕ
+  pub why : IsWhy chains verdict reasons
+  pub lines : printed ≡ verdict_lines chains verdict ++ reasons
+
+-- the same, or the lines of the verdict alone
+abbrev pub IsVerdictWith : Bool → Set → Finding → List ℕ → Type 0
+IsVerdictWith true chains finding printed = IsExplained chains finding printed
+IsVerdictWith false chains finding printed = IsVerdict chains finding printed
+
+-- what is found of a set text, and printed, with why it is so or without
+pub record Finds (why : Bool) (text : List ℕ) (finding : Finding) (printed : List ℕ) : Type 0 where
   pub chains : Set
   pub is_set : IsSet chains
   pub spelled : text ≡ text_of chains
-  pub verdict : IsVerdict chains finding printed
+  pub verdict : IsVerdictWith why chains finding printed
 
 -- why no verdict comes, that a faulty text is told before anything is written, and that its fault is never want of memory
 abbrev pub NoVerdictFor : List ℕ → Type 0 → RunFault → Type 0
@@ -63,11 +95,11 @@ NoVerdictFor set unwritten Write = Unit {0}
 NoVerdictFor set unwritten Memory = Unit {0}
 
 -- nothing is written, or a beginning of a verdict on the set
-abbrev pub BeginsVerdict : Set → Option (List ℕ) → Option (List ℕ) → Type 0
-BeginsVerdict chains old new =
-    Keeps old new ⊎ ((finding : Finding) × (printed : List ℕ) × IsVerdict chains finding printed × AppendsPart old new printed)
+abbrev pub BeginsVerdict : Bool → Set → Option (List ℕ) → Option (List ℕ) → Type 0
+BeginsVerdict why chains old new =
+    Keeps old new ⊎ ((finding : Finding) × (printed : List ℕ) × IsVerdictWith why chains finding printed × AppendsPart old new printed)
 
 -- Where a fault stops a check, nothing is written, or a beginning of what it prints.
-abbrev pub BeginsFinding : List ℕ → Option (List ℕ) → Option (List ℕ) → Type 0
-BeginsFinding set old new =
-    Keeps old new ⊎ ((finding : Finding) × (printed : List ℕ) × Finds set finding printed × AppendsPart old new printed)
+abbrev pub BeginsFinding : Bool → List ℕ → Option (List ℕ) → Option (List ℕ) → Type 0
+BeginsFinding why set old new =
+    Keeps old new ⊎ ((finding : Finding) × (printed : List ℕ) × Finds why set finding printed × AppendsPart old new printed)

@@ -1,4 +1,4 @@
-//! What a run writes behind its last line.
+//! What is written behind the last line of a run, and behind a verdict.
 ghost use Rattle.std.specs.Prelude.{◌≡◌, ℕ, List, IfErr, OnErr, OnOk};
 ghost use Rattle.std.specs.Io.KnownBytes.{Appends};
 ghost use Rattle.lynx_run.specs.Options.{RestPrints, WritesRest};
@@ -15,6 +15,14 @@ use std::io::Write;
 pub struct RunOptions {
     /// A line for each hop that a chain still owes.
     pub owed: bool,
+}
+
+/// What a check writes behind its verdict, which is nothing by default.
+#[derive(Clone, Copy, Debug, Default, PartialEq, Eq)]
+pub struct CheckOptions {
+    /// Why the verdict is what it is: a line for each two hops that may conflict, for each group of programs of an
+    /// accepted set, and for each program that returns to the server where it begins.
+    pub why: bool,
 }
 
 /// Writes what is asked for behind the last line of a run.

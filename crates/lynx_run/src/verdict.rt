@@ -2,21 +2,23 @@
 ghost use Rattle.std.specs.Prelude.{◌≡◌, ◌⊎◌, ℕ, List, [], ◌++◌, OnErr, OnOk, IfOk, IfErr, codes, take};
 ghost use Rattle.std.specs.List.{flat_map};
 ghost use Rattle.std.specs.Io.KnownBytes.{Appends, Keeps};
-ghost use Rattle.lynx_verdict.specs.Verdicts.{Judges};
 ghost use Rattle.lynx_verdict.specs.Reasons.{reason_of};
 ghost use Rattle.lynx_graph.specs.Walks.{IsOffending};
 ghost use Rattle.lynx_set.specs.Rules.{IsSet};
 ghost use Rattle.lynx_words.specs.Lines.{with_feed};
 ghost use Rattle.lynx_run.specs.Runs.{IsLate};
-ghost use Rattle.lynx_run.specs.Checks.{accepted_line, BeginsFinding, BeginsVerdict, edge_line, edge_lines, edges, IsVerdict, Finds, NoVerdictFor};
+ghost use Rattle.lynx_run.specs.Checks.{accepted_line, AreBehind, BeginsFinding, BeginsVerdict, edge_line, edge_lines, edges, finding_of, Finds, IsVerdictWith, NoVerdictFor, verdict_lines};
 ghost use Rattle.lynx_run.specs.Written.{AppendsPart};
 
+use crate::options::CheckOptions;
 use crate::run::{RunFault, read_set};
 use crate::writing::write_bytes;
 use lynx_graph::Visit;
+use lynx_names::Memory;
 use lynx_print::conflict_line;
 use lynx_set::ChainSet;
 use lynx_verdict::{AcceptedSet, Reason, Verdict, check};
+use lynx_why::why;
 use std::alloc::{AllocError, Global};
 use std::io::Write;
 
@@ -28,29 +30,72 @@ pub enum Finding {
 }
 
 /// Judges a set text, and writes `accepted` where no closed walk offends, `accepted by blocks` where no walk of blocks
-/// does, else `offending` and a line for each conflict edge of a closed walk that offends. `RunFault::Script` is never its fault.
-pub fn check_text<W: Write>(alloc: Global, set: &[u8], writer: &mut W) -> Result<Finding, RunFault>
-    ensures ok { IfOk result (λ finding. (printed : List ℕ) × Finds set.now finding printed
+/// does, else `offending` and a line for each conflict edge of a closed walk that offends; and behind that what the
+/// options ask for. `RunFault::Script` is never its fault.
+pub fn check_text<W: Write>(
+    alloc: Global,
+    set: &[u8],
+    options: CheckOptions,
+    writer: &mut W,
+) -> Result<Finding, RunFault>
+    ensures ok { IfOk result (λ finding. (printed : List ℕ) × Finds options.why set.now finding printed
         × Appends (W.contents writer.old) (W.contents writer.new) printed) }
-    ensures part { OnErr result (BeginsFinding set.now (W.contents writer.old)
+    ensures part { OnErr result (BeginsFinding options.why set.now (W.contents writer.old)
         (W.contents writer.new)) }
     ensures err { IfErr result (λ fault. NoVerdictFor set.now (Keeps (W.contents writer.old)
         (W.contents writer.new)) fault) }
 {
     let set = read_set(alloc, set)?;
-    check_set(alloc, &set, writer)
+    check_set(alloc, &set, options, writer)
 }
 
-/// Judges a set, and writes its verdict.
-fn check_set<W: Write>(alloc: Global, set: &ChainSet, writer: &mut W) -> Result<Finding, RunFault>
-    ensures ok { IfOk result (λ finding. (printed : List ℕ) × IsVerdict set.now finding printed
+/// Judges a set, and writes its verdict with what is asked for behind it.
+fn check_set<W: Write>(
+    alloc: Global,
+    set: &ChainSet,
+    options: CheckOptions,
+    writer: &mut W,
+) -> Result<Finding, RunFault>
+    requires { IsSet set.now }
+    ensures ok { IfOk result (λ finding. (printed : List ℕ)
+        × IsVerdictWith options.why set.now finding printed
         × Appends (W.contents writer.old) (W.contents writer.new) printed) }
-    ensures part { OnErr result (BeginsVerdict set.now (W.contents writer.old)
+    ensures part { OnErr result (BeginsVerdict options.why set.now (W.contents writer.old)
         (W.contents writer.new)) }
     ensures late { IfErr result IsLate }
 {
     let verdict = check(alloc, set)?;
-    write_verdict(alloc, set, &verdict, writer)
+    let lines = lines_behind(alloc, set, &verdict, options)?;
+    write_verdict(alloc, set, &verdict, writer)?;
+    write_bytes(writer, lines.as_slice())?;
+    Ok(finding_of(&verdict))
+}
+
+/// What is asked for behind a verdict.
+fn lines_behind(
+    alloc: Global,
+    set: &ChainSet,
+    verdict: &Verdict,
+    options: CheckOptions,
+) -> Result<Vec<u8>, Memory>
+    requires { IsSet set.now }
+    ensures { IfOk result (λ lines. AreBehind options.why set.now verdict.now lines.items) }
+{
+    if options.why {
+        why(alloc, set, verdict)
+    } else {
+        Ok(Vec::new(alloc))
+    }
+}
+
+/// What a verdict finds.
+fn finding_of(verdict: &Verdict) -> Finding
+    ensures { result ≡ finding_of verdict.now }
+{
+    match verdict {
+        Verdict::Accepted(accepted) => Finding::Accepted(accepted.reason()),
+        Verdict::Offending(_, _) => Finding::Offending,
+    }
 }
 
 /// Writes the verdict on a set.
@@ -59,23 +104,16 @@ fn write_verdict<W: Write>(
     set: &ChainSet,
     verdict: &Verdict,
     writer: &mut W,
-) -> Result<Finding, RunFault>
-    requires { Judges set.now verdict.now }
-    ensures ok { IfOk result (λ finding. (printed : List ℕ) × IsVerdict set.now finding printed
-        × Appends (W.contents writer.old) (W.contents writer.new) printed) }
-    ensures part { OnErr result (BeginsVerdict set.now (W.contents writer.old)
-        (W.contents writer.new)) }
+) -> Result<(), RunFault>
+    ensures lines { OnOk result (Appends (W.contents writer.old) (W.contents writer.new)
+        (verdict_lines set.now verdict.now)) }
+    ensures part { OnErr result (AppendsPart (W.contents writer.old) (W.contents writer.new)
+        (verdict_lines set.now verdict.now)) }
     ensures late { IfErr result IsLate }
 {
     match verdict {
-        Verdict::Accepted(accepted) => {
-            write_accepted(accepted, writer)?;
-            Ok(Finding::Accepted(accepted.reason()))
-        }
-        Verdict::Offending(walk, _) => {
-            write_offending(alloc, set, walk.as_slice(), writer)?;
-            Ok(Finding::Offending)
-        }
+        Verdict::Accepted(accepted) => write_accepted(accepted, writer),
+        Verdict::Offending(walk, _) => write_offending(alloc, set, walk.as_slice(), writer),
     }
 }
 

@@ -14,7 +14,7 @@ no_flags = record { checked = false; owed = false }
 abbrev pub RunsAs : List ℕ → Option (List ℕ) → RunFlags → Result Job CommandFault → Type 0
 RunsAs set script flags (Ok (RunInput own)) = (set ≡ codes "-") × (script ≡ None) × (own ≡ flags)
 RunsAs set script flags (Ok (Run own other given)) = (set ≢ codes "-") × (own.now ≡ set) × (script ≡ Some other.now) × (given ≡ flags)
-RunsAs set script flags (Ok (Check own)) = ⊥
+RunsAs set script flags (Ok (Check own why)) = ⊥
 RunsAs set script flags (Ok (Draw own)) = ⊥
 RunsAs set script flags (Ok (Show own)) = ⊥
 RunsAs set script flags (Ok (Upgrade own)) = ⊥
@@ -27,7 +27,7 @@ RunsAs set script flags (Err NotUtf8) = ⊥
 
 -- the command that asks for a job; standard input is asked for by no command at all, or by `run`
 abbrev pub AskedBy : Option (List ℕ) → Result Job CommandFault → Type 0
-AskedBy command (Ok (Check set)) = command ≡ Some (codes "check")
+AskedBy command (Ok (Check set why)) = command ≡ Some (codes "check")
 AskedBy command (Ok (Draw set)) = command ≡ Some (codes "draw")
 AskedBy command (Ok (Show store)) = command ≡ Some (codes "show")
 AskedBy command (Ok (Upgrade store)) = command ≡ Some (codes "upgrade")

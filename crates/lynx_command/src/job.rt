@@ -22,9 +22,10 @@ pub(crate) const NO_FLAGS: RunFlags = RunFlags {
 /// What the words ask for, with files as they were named.
 #[derive(Clone, Copy, Debug, PartialEq, Eq)]
 pub enum Job<'a> {
-    /// Judge the set of a file.
+    /// Judge the set of a file, and tell why the verdict is what it is where that is asked for.
     Check {
         set: &'a str,
+        why: bool,
     },
     /// Draw the set of a file, with the verdict on it.
     Draw {

@@ -14,6 +14,9 @@ const STATUSES: &str =
 const FAULTS: &str =
     "A faulty text is told with its line and one of these words: too-long, bad-version, bad-line,\nbad-name, bad-number, repeated, unknown, need-not-first, limit-passed, literal-elsewhere,\nshard-gap, shard-overlap, shard-server.";
 
+/// The option of a check.
+const WHY: &str = "why";
+
 /// The options of a run.
 const CHECKED: &str = "checked";
 
@@ -26,13 +29,26 @@ fn set_file<'a>(alloc: Global) -> Arg<'a> {
         .help("The file of the set's text; - is a file of that name")
 }
 
+/// An option without a value.
+fn flag<'a>(alloc: Global, name: &'a str, help: &'a str) -> Arg<'a> {
+    Arg::new(alloc, name)
+        .long(name)
+        .action(ArgAction::SetTrue)
+        .help(help)
+}
+
 fn check_command<'a>(alloc: Global) -> Result<Command<'a>, AllocError> {
     Command::new(alloc, "check")
         .about("Judge a set of chain programs")
         .after_help(
             "Status 0 where the set is accepted, 1 where it offends.\nExample: lynx check payment.set",
         )
-        .arg(set_file(alloc))
+        .arg(set_file(alloc))?
+        .arg(flag(
+            alloc,
+            WHY,
+            "Tell behind the verdict which hops may conflict, why each group of programs is fine, and which programs make\nthe server where they begin busy",
+        ))
 }
 
 fn draw_command<'a>(alloc: Global) -> Result<Command<'a>, AllocError> {
@@ -42,14 +58,6 @@ fn draw_command<'a>(alloc: Global) -> Result<Command<'a>, AllocError> {
             "Dashed lines join hops that may conflict, red steps are those by which the set offends.\nStatus 0 where the set is accepted, 1 where it offends: it is drawn all the same.\nExample: lynx draw payment.set | dot -Tsvg > payment.svg",
         )
         .arg(set_file(alloc))
-}
-
-/// An option without a value.
-fn flag<'a>(alloc: Global, name: &'a str, help: &'a str) -> Arg<'a> {
-    Arg::new(alloc, name)
-        .long(name)
-        .action(ArgAction::SetTrue)
-        .help(help)
 }
 
 fn run_command<'a>(alloc: Global) -> Result<Command<'a>, AllocError> {
@@ -203,7 +211,10 @@ pub fn job_of<'a>(matches: &ArgMatches<'a>) -> Result<Job<'a>, CommandFault>
     };
     let set = words.get_str("SET").unwrap_or(INPUT);
     match name {
-        "check" => Ok(Job::Check { set }),
+        "check" => Ok(Job::Check {
+            set,
+            why: words.get_flag(WHY),
+        }),
         "draw" => Ok(Job::Draw { set }),
         "run" => job_of_run(set, words.get_str("SCRIPT"), flags_of(words)),
         "show" => Ok(Job::Show {

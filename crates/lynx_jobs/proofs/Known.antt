@@ -6,6 +6,7 @@ use Rattle.lynx_input.specs.Inputs.{IsCut}
 use Rattle.std.specs.Io.KnownBytes.{Appends}
 use Rattle.lynx_run.specs.declared.verdict.Finding.{Finding}
 use Rattle.lynx_run.specs.Checks.{Finds}
+use Rattle.lynx_run.specs.declared.options.CheckOptions.{CheckOptions}
 use Rattle.lynx_run.specs.Drawings.{Draws}
 use Rattle.lynx_jobs.specs.Done.{HasChecked, HasDrawn, HasRun, HasRunAs, HasRunInput}
 use Rattle.lynx_command.specs.declared.job.RunFlags.{RunFlags}
@@ -13,15 +14,15 @@ use Rattle.lynx_jobs.specs.Statuses.{status_of_finding}
 use Rattle.lynx_jobs.specs.Stopped.{IsFront}
 
 -- a verdict on the set of one source
-pub checked_known : (known : Option (List ℕ)) (text slice : List ℕ) (old new : Option (List ℕ)) (finding : Finding) (status : ℕ) →
+pub checked_known : (options : CheckOptions) (known : Option (List ℕ)) (text slice : List ℕ) (old new : Option (List ℕ)) (finding : Finding) (status : ℕ) →
     IsFront MAX_FILE_BYTES known text → slice ≡ text → status ≡ status_of_finding finding →
-    (printed : List ℕ) × Finds slice finding printed × Appends old new printed →
-    IfSome known (λ bytes. HasChecked bytes old new status)
-checked_known None text slice old new finding status front same status_is checked = front
-checked_known (Some bytes) text slice old new finding status front same status_is checked = record {
+    (printed : List ℕ) × Finds options.why slice finding printed × Appends old new printed →
+    IfSome known (λ bytes. HasChecked options bytes old new status)
+checked_known options None text slice old new finding status front same status_is checked = front
+checked_known options (Some bytes) text slice old new finding status front same status_is checked = record {
   finding = finding;
   printed = checked.0;
-  finds = subst (λ (read : List ℕ). Finds read finding checked.0) (same ∙ front) checked.1;
+  finds = subst (λ (read : List ℕ). Finds options.why read finding checked.0) (same ∙ front) checked.1;
   written = checked.2;
   status_is = status_is;
 }

@@ -16,6 +16,7 @@ use Rattle.lynx_jobs.specs.Stopped.{IsFront, StopsChecking, StopsDrawing, StopsJ
 use Rattle.lynx_jobs.specs.Done.{HasRunJudged, HasRunTexts, IsAccepted, options_of}
 use Rattle.std.specs.Bool.{MatchBool}
 use Rattle.lynx_command.specs.declared.job.RunFlags.{RunFlags}
+use Rattle.lynx_run.specs.declared.options.CheckOptions.{CheckOptions}
 use Rattle.lynx_run.specs.declared.options.RunOptions.{RunOptions}
 
 -- every source has a front
@@ -24,18 +25,18 @@ front_of limit None = ([], tt)
 front_of limit (Some bytes) = (take limit bytes, refl)
 
 -- a source that wasn't read
-pub check_unread : (result : Result ℕ Fault) (source : Option (List ℕ)) (name : List ℕ) (old : Option (List ℕ)) → IfErr result (StopsReading name) →
-    IfErr result (StopsChecking source name old old)
-check_unread (Ok status) source name old unread = tt
-check_unread (Err (Unread shown)) source name old same = (same, Keeps-refl old)
-check_unread (Err (Run fault)) source name old wanting =
+pub check_unread : (options : CheckOptions) (result : Result ℕ Fault) (source : Option (List ℕ)) (name : List ℕ) (old : Option (List ℕ)) → IfErr result (StopsReading name) →
+    IfErr result (StopsChecking options source name old old)
+check_unread options (Ok status) source name old unread = tt
+check_unread options (Err (Unread shown)) source name old same = (same, Keeps-refl old)
+check_unread options (Err (Run fault)) source name old wanting =
     let front = front_of MAX_FILE_BYTES source in
     (front.0, front.1, subst (NoVerdictFor front.0 (Keeps old old)) (sym wanting) tt, inl (Keeps-refl old))
-check_unread (Err NoSeparator) source name old never = absurd never
-check_unread (Err (Command fault)) source name old never = absurd never
-check_unread (Err (Store fault)) source name old never = absurd never
-check_unread (Err (Serve fault)) source name old never = absurd never
-check_unread (Err (Ask fault)) source name old never = absurd never
+check_unread options (Err NoSeparator) source name old never = absurd never
+check_unread options (Err (Command fault)) source name old never = absurd never
+check_unread options (Err (Store fault)) source name old never = absurd never
+check_unread options (Err (Serve fault)) source name old never = absurd never
+check_unread options (Err (Ask fault)) source name old never = absurd never
 
 pub drawing_unread : (result : Result ℕ Fault) (source : Option (List ℕ)) (name : List ℕ) (old : Option (List ℕ)) → IfErr result (StopsReading name) →
     IfErr result (StopsDrawing source name old old)
@@ -105,9 +106,9 @@ run_without_script flags (Err (Ask fault)) set set_name script script_name old n
 read_front : (limit : ℕ) (source : Option (List ℕ)) (read slice : List ℕ) → IsFront limit source read → slice ≡ read → IsFront limit source slice
 read_front limit source read slice front same = subst (IsFront limit source) (sym same) front
 
-pub check_stops : (source : Option (List ℕ)) (name read slice : List ℕ) (old new : Option (List ℕ)) (fault : RunFault) → IsFront MAX_FILE_BYTES source read →
-    slice ≡ read → NoVerdictFor slice (Keeps old new) fault → BeginsFinding slice old new → StopsChecking source name old new (Run fault)
-check_stops source name read slice old new fault front same why begun = (slice, read_front MAX_FILE_BYTES source read slice front same, why, begun)
+pub check_stops : (options : CheckOptions) (source : Option (List ℕ)) (name read slice : List ℕ) (old new : Option (List ℕ)) (fault : RunFault) → IsFront MAX_FILE_BYTES source read →
+    slice ≡ read → NoVerdictFor slice (Keeps old new) fault → BeginsFinding options.why slice old new → StopsChecking options source name old new (Run fault)
+check_stops options source name read slice old new fault front same why begun = (slice, read_front MAX_FILE_BYTES source read slice front same, why, begun)
 
 pub drawing_stops : (source : Option (List ℕ)) (name read slice : List ℕ) (old new : Option (List ℕ)) (fault : RunFault) → IsFront MAX_FILE_BYTES source read →
     slice ≡ read → NoPictureFor slice (Keeps old new) fault → BeginsPicture slice old new → StopsDrawing source name old new (Run fault)

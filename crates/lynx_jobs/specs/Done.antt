@@ -9,6 +9,7 @@ use Rattle.lynx_run.specs.declared.verdict.Finding.{Finding}
 use Rattle.lynx_run.specs.Checks.{Finds}
 use Rattle.lynx_run.specs.Drawings.{Draws}
 use Rattle.lynx_command.specs.declared.job.RunFlags.{RunFlags}
+use Rattle.lynx_run.specs.declared.options.CheckOptions.{CheckOptions}
 use Rattle.lynx_run.specs.declared.options.RunOptions.{RunOptions}
 use Rattle.lynx_run.specs.declared.verdict.Finding.TheVariants.{Accepted, Offending}
 use Rattle.lynx_run.specs.Options.{PrintsWith}
@@ -16,11 +17,12 @@ use Rattle.lynx_run.specs.Refusals.{Refuses}
 use Rattle.lynx_verdict.specs.declared.accepted.Reason.{Reason}
 use Rattle.lynx_jobs.specs.Statuses.{status_of_finding, status_of_ending}
 
--- the verdict on the set that the source begins with is written, and the status is the verdict's
-pub record HasChecked (source : List ℕ) (old new : Option (List ℕ)) (status : ℕ) : Type 0 where
+-- the verdict on the set that the source begins with is written, with what the options ask for, and the status is the
+-- verdict's
+pub record HasChecked (options : CheckOptions) (source : List ℕ) (old new : Option (List ℕ)) (status : ℕ) : Type 0 where
   pub finding : Finding
   pub printed : List ℕ
-  pub finds : Finds (take MAX_FILE_BYTES source) finding printed
+  pub finds : Finds options.why (take MAX_FILE_BYTES source) finding printed
   pub written : Appends old new printed
   pub status_is : status ≡ status_of_finding finding
 

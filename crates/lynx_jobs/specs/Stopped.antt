@@ -9,6 +9,7 @@ use Rattle.lynx_run.specs.Drawings.{BeginsPicture, NoPictureFor}
 use Rattle.lynx_run.specs.Runs.{StopsFor}
 use Rattle.std.specs.Bool.{MatchBool}
 use Rattle.lynx_command.specs.declared.job.RunFlags.{RunFlags}
+use Rattle.lynx_run.specs.declared.options.CheckOptions.{CheckOptions}
 use Rattle.lynx_run.specs.declared.options.RunOptions.{RunOptions}
 use Rattle.lynx_run.specs.Options.{WritesPartWith}
 use Rattle.lynx_run.specs.Refusals.{BeginsRefusal}
@@ -32,15 +33,15 @@ StopsReading name (Ask fault) = ⊥
 
 -- a check: the source of this name can't be read, and nothing is written; or the text that was read has no verdict, or
 -- memory or the writer fails, and nothing is written or a beginning of the verdict
-abbrev pub StopsChecking : Option (List ℕ) → List ℕ → Option (List ℕ) → Option (List ℕ) → Fault → Type 0
-StopsChecking source name old new (Unread shown) = (shown.name.now ≡ name) × Keeps old new
-StopsChecking source name old new (Run fault) =
-    (text : List ℕ) × IsFront MAX_FILE_BYTES source text × NoVerdictFor text (Keeps old new) fault × BeginsFinding text old new
-StopsChecking source name old new NoSeparator = ⊥
-StopsChecking source name old new (Command fault) = ⊥
-StopsChecking source name old new (Store fault) = ⊥
-StopsChecking source name old new (Serve fault) = ⊥
-StopsChecking source name old new (Ask fault) = ⊥
+abbrev pub StopsChecking : CheckOptions → Option (List ℕ) → List ℕ → Option (List ℕ) → Option (List ℕ) → Fault → Type 0
+StopsChecking options source name old new (Unread shown) = (shown.name.now ≡ name) × Keeps old new
+StopsChecking options source name old new (Run fault) =
+    (text : List ℕ) × IsFront MAX_FILE_BYTES source text × NoVerdictFor text (Keeps old new) fault × BeginsFinding options.why text old new
+StopsChecking options source name old new NoSeparator = ⊥
+StopsChecking options source name old new (Command fault) = ⊥
+StopsChecking options source name old new (Store fault) = ⊥
+StopsChecking options source name old new (Serve fault) = ⊥
+StopsChecking options source name old new (Ask fault) = ⊥
 
 -- a drawing: the same of the picture, and where memory is wanting nothing is written
 abbrev pub StopsDrawing : Option (List ℕ) → List ℕ → Option (List ℕ) → Option (List ℕ) → Fault → Type 0

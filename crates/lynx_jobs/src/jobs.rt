@@ -8,7 +8,7 @@ use crate::texts::{DONE, check_source, draw_source, read_text, run_input, run_so
 use lynx_command::{INPUT, Job, RunFlags};
 use lynx_input::InputFault;
 use lynx_keep::Keeper;
-use lynx_run::RunFault;
+use lynx_run::{CheckOptions, RunFault};
 use lynx_serve::Service;
 use lynx_show::{ShowFault, show_store, upgrade_and_tell};
 use lynx_stores::Stores;
@@ -43,7 +43,7 @@ pub fn do_job<
         return Err(Fault::Run(RunFault::Memory));
     };
     let done = match job {
-        Job::Check { set } => check_file(host, set, &mut writer),
+        Job::Check { set, why } => check_file(host, set, why, &mut writer),
         Job::Draw { set } => draw_file(host, set, &mut writer),
         Job::Run { set, script, flags } => run_files(host, set, script, flags, &mut writer),
         Job::RunInput { flags } => {
@@ -74,12 +74,13 @@ fn finished<'a>(done: Result<u8, Fault<'a>>, flushed: bool) -> Result<u8, Fault<
 fn check_file<'a, R: Files + AllocGlobal, W: Write>(
     rt: &R,
     set: &'a str,
+    why: bool,
     writer: &mut W,
 ) -> Result<u8, Fault<'a>> {
     let Ok(mut file) = fs::open(rt, set) else {
         return Err(Fault::of_reading(set, InputFault::Read));
     };
-    check_source(rt.alloc(), set, &mut file, writer)
+    check_source(rt.alloc(), set, &mut file, CheckOptions { why }, writer)
 }
 
 /// Draws the set of a file.

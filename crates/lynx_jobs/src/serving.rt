@@ -6,7 +6,7 @@ use lynx_command::INPUT;
 use lynx_input::InputFault;
 use lynx_keep::Keeper;
 use lynx_order::Explained;
-use lynx_run::{Finding, RunFault, check_text};
+use lynx_run::{CheckOptions, Finding, RunFault, check_text};
 use lynx_serve::{Progress, Service, serve_stores};
 use lynx_set::ChainSet;
 use lynx_stores::Stores;
@@ -45,7 +45,7 @@ fn accepted_set<'a, W: Write>(
     writer: &mut W,
 ) -> Result<Option<ChainSet>, Fault<'a>> {
     let mut verdict = Vec::new(alloc);
-    match check_text(alloc, text, &mut verdict) {
+    match check_text(alloc, text, CheckOptions::default(), &mut verdict) {
         Ok(Finding::Accepted(_)) => Ok(Some(set_of(alloc, text)?)),
         Ok(Finding::Offending) => match lynx_io::write_bytes(writer, verdict.as_slice()) {
             Ok(()) => Ok(None),

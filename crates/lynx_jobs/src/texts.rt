@@ -8,7 +8,9 @@ ghost use Rattle.lynx_jobs.specs.Stopped.{StopsChecking, StopsDrawing, StopsRead
 use crate::fault::Fault;
 use lynx_command::RunFlags;
 use lynx_input::{MAX_FILE_BYTES, MAX_INPUT_BYTES, read_all, split_input};
-use lynx_run::{Ending, Finding, RunOptions, check_text, draw_text, refuse_text, run_texts};
+use lynx_run::{
+    CheckOptions, Ending, Finding, RunOptions, check_text, draw_text, refuse_text, run_texts,
+};
 use std::alloc::Global;
 use std::io::{Read, Write};
 
@@ -54,20 +56,21 @@ pub(crate) fn read_text<'a, R: Read>(
     }
 }
 
-/// Judges the set of a source, writes the verdict and gives its status.
+/// Judges the set of a source, writes the verdict with what the options ask for behind it, and gives its status.
 pub fn check_source<'a, R: Read, W: Write>(
     alloc: Global,
     name: &'a str,
     source: &mut R,
+    options: CheckOptions,
     writer: &mut W,
 ) -> Result<u8, Fault<'a>>
     ensures ok { IfOk result (λ status. IfSome (R.remaining source.old) (λ bytes.
-        HasChecked bytes (W.contents writer.old) (W.contents writer.new) status)) }
-    ensures err { IfErr result (StopsChecking (R.remaining source.old) name.now
+        HasChecked options bytes (W.contents writer.old) (W.contents writer.new) status)) }
+    ensures err { IfErr result (StopsChecking options (R.remaining source.old) name.now
         (W.contents writer.old) (W.contents writer.new)) }
 {
     let text = read_text(alloc, name, source)?;
-    match check_text(alloc, text.as_slice(), writer) {
+    match check_text(alloc, text.as_slice(), options, writer) {
         Ok(finding) => Ok(status_of_finding(finding)),
         Err(fault) => Err(Fault::Run(fault)),
     }

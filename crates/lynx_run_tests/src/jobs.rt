@@ -1,22 +1,26 @@
 //! Each job from sources in memory, with ample memory.
 use lynx_command::{Job, RunFlags, command, job_of};
 use lynx_jobs::{check_source, draw_source, run_input, run_sources};
+use lynx_run::CheckOptions;
 use lynx_samples::rows::PAYMENT;
 use lynx_samples::texts::{CROSSING, PAY_AND_NOTE};
 use std::alloc::Global;
 use std::test::Fail;
 
-/// The status of a check of the text.
-fn status_of_check(alloc: Global, text: &str) -> Option<u8> {
+/// The status of a check of the text, with reasons or without.
+fn status_of_check(alloc: Global, text: &str, why: bool) -> Option<u8> {
     let mut printed = Vec::new(alloc);
-    check_source(alloc, "set", &mut text.as_bytes(), &mut printed).ok()
+    let options = CheckOptions { why };
+    check_source(alloc, "set", &mut text.as_bytes(), options, &mut printed).ok()
 }
 
 #[test]
 fn a_check_has_the_status_of_its_verdict(rt: HostRuntime) {
-    assert_eq!(rt; status_of_check(rt.alloc(), PAYMENT.set), Some(0));
-    assert_eq!(rt; status_of_check(rt.alloc(), PAY_AND_NOTE), Some(0));
-    assert_eq!(rt; status_of_check(rt.alloc(), CROSSING), Some(1));
+    for why in [false, true] {
+        assert_eq!(rt; status_of_check(rt.alloc(), PAYMENT.set, why), Some(0));
+        assert_eq!(rt; status_of_check(rt.alloc(), PAY_AND_NOTE, why), Some(0));
+        assert_eq!(rt; status_of_check(rt.alloc(), CROSSING, why), Some(1));
+    }
 }
 
 /// The status of a picture of the text.
@@ -103,7 +107,12 @@ fn words_ask_for_jobs(rt: HostRuntime) -> Result<(), Fail> {
             run
         )?
     );
-    assert!(rt; ask_for(rt.alloc(), &["lynx", "check", "a"], Job::Check { set: "a" })?);
+    for (words, why) in [
+        (["lynx", "check", "a"].as_slice(), false),
+        (["lynx", "check", "a", "--why"].as_slice(), true),
+    ] {
+        assert!(rt; ask_for(rt.alloc(), words, Job::Check { set: "a", why })?);
+    }
     assert!(rt; ask_for(rt.alloc(), &["lynx", "draw", "a"], Job::Draw { set: "a" })?);
     Ok(())
 }

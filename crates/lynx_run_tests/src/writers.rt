@@ -1,5 +1,7 @@
 //! Writers that fail, at each line of a run and of a verdict, and at a picture.
-use lynx_run::{Ending, Finding, RunFault, RunOptions, check_text, draw_text, run_texts};
+use lynx_run::{
+    CheckOptions, Ending, Finding, RunFault, RunOptions, check_text, draw_text, run_texts,
+};
 use lynx_samples::full::Full;
 use lynx_samples::rows::PAYMENT;
 use lynx_samples::texts::CROSSING;
@@ -31,7 +33,12 @@ fn a_write_that_fails_ends_the_run(rt: HostRuntime) {
 /// What is found where so many lines can be written, of three.
 fn found_in(alloc: Global, left: usize) -> Result<Finding, RunFault> {
     let mut writer = Full { left };
-    check_text(alloc, CROSSING.as_bytes(), &mut writer)
+    check_text(
+        alloc,
+        CROSSING.as_bytes(),
+        CheckOptions::default(),
+        &mut writer,
+    )
 }
 
 #[test]

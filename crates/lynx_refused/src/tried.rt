@@ -1,0 +1,67 @@
+//! What comes of a call that is made again where memory was wanting to it.
+use lynx_names::Memory;
+
+/// What a call answered.
+#[derive(Clone, Copy, Debug, PartialEq, Eq)]
+pub enum Called {
+    /// What it is for was done.
+    Done,
+    /// Memory was wanting.
+    Refused,
+    /// Something else.
+    Other,
+}
+
+/// What came of a call.
+#[derive(Clone, Copy, Debug, PartialEq, Eq)]
+pub enum Tried {
+    /// It was done.
+    Done,
+    /// Memory was wanting to it, all was as before, and it was done when it was made again.
+    Again,
+    /// Memory was wanting to it, and not all was as before.
+    Changed,
+    /// Memory was wanting to it, and it wasn't done when it was made again.
+    Lost,
+    /// It answered something else.
+    Other,
+}
+
+impl Tried {
+    /// How it is told.
+    pub fn word(self) -> &'static str {
+        match self {
+            Tried::Done => "done",
+            Tried::Again => "refused, then done",
+            Tried::Changed => "refused, and changed",
+            Tried::Lost => "refused, and not done again",
+            Tried::Other => "answered otherwise",
+        }
+    }
+}
+
+/// What was answered by a call that may want memory and nothing else.
+pub fn of_result<T: Drop>(answer: Result<T, Memory>) -> Called {
+    match answer {
+        Ok(_) => Called::Done,
+        Err(Memory) => Called::Refused,
+    }
+}
+
+/// What comes of a call that is over.
+pub fn ended(answered: Called) -> Tried {
+    match answered {
+        Called::Done => Tried::Done,
+        Called::Refused => Tried::Lost,
+        Called::Other => Tried::Other,
+    }
+}
+
+/// What comes of a call to which memory was wanting, and which was made again.
+pub fn made_again(is_as_before: bool, second: Called) -> Tried {
+    match second {
+        Called::Done if is_as_before => Tried::Again,
+        Called::Done => Tried::Changed,
+        _ => Tried::Lost,
+    }
+}

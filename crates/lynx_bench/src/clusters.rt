@@ -1,4 +1,8 @@
 //! Clusters in memory: one that carries a load of payments, and one that has nothing to do.
+ghost use Rattle.std.specs.Prelude.{◌≡◌, ◌*◌, ◌/◌, ◌<◌, ◌≤◌, max, IfSome};
+ghost use Rattle.std.specs.Duration.{as_nanos};
+ghost use Rattle.lynx_names.specs.declared.limits.TheConstants.{MAX_SERVERS};
+
 use crate::fault::Fault;
 use lynx_load::{Load, Measured, idle, measure};
 use lynx_names::limits::MAX_SERVERS;
@@ -27,13 +31,18 @@ pub enum ClusterDone {
 }
 
 /// How many servers, which a cluster can have.
-fn servers_of(word: &str) -> Option<u8> {
+fn servers_of(word: &str) -> Option<u8>
+    ensures least { IfSome result (λ servers. 0 < servers) }
+    ensures most { IfSome result (λ servers. servers ≤ MAX_SERVERS) }
+{
     let servers = word.parse().ok()?;
     (1..=MAX_SERVERS).contains(&servers).then_some(servers)
 }
 
 /// How many threads, one at least.
-fn threads_of(word: &str) -> Option<u8> {
+fn threads_of(word: &str) -> Option<u8>
+    ensures { IfSome result (λ threads. 0 < threads) }
+{
     let threads = word.parse().ok()?;
     (threads > 0).then_some(threads)
 }
@@ -73,7 +82,9 @@ impl ClusterWork {
 }
 
 /// How many of so many chains there are a second, where all take that time, a microsecond at least.
-fn a_second(chains: u64, time: Duration) -> u128 {
+fn a_second(chains: u64, time: Duration) -> u128
+    ensures { result ≡ chains * 1_000_000 / max (as_nanos time / 1_000) 1 }
+{
     u128::from(chains) * 1_000_000 / time.as_micros().max(1)
 }
 

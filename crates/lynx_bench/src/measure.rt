@@ -56,11 +56,10 @@ fn request(alloc: Global, number: u64) -> Result<Request, Memory> {
     })
 }
 
-/// A server, in a box, which is dropped by one call.
-fn server(alloc: Global, server: ServerId) -> Result<Box<Server<MemoryKeeper>>, Memory> {
+/// A server of the set that has done nothing yet.
+fn server(alloc: Global, server: ServerId) -> Result<Server<MemoryKeeper>, Memory> {
     let set = set(alloc)?;
-    let server = Server::new(alloc, &set, server, MemoryKeeper::new(alloc))?;
-    Ok(Box::new(alloc, server)?)
+    Server::new(alloc, &set, server, MemoryKeeper::new(alloc))
 }
 
 /// How many of so many requests begin a chain.
@@ -93,8 +92,8 @@ fn deliver_all(
 }
 
 /// How many entries a server has when it was opened again.
-fn open_again(alloc: Global, server: Box<Server<MemoryKeeper>>) -> Result<u64, Memory> {
-    match Box::into_inner(server).restart(alloc) {
+fn open_again(alloc: Global, server: Server<MemoryKeeper>) -> Result<u64, Memory> {
+    match server.restart(alloc) {
         Ok(opened) => Ok(opened.history().len() as u64),
         Err(_) => Err(Memory),
     }

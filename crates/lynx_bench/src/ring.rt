@@ -192,15 +192,19 @@ fn ran(
     histories_of(alloc, ring.as_slice())
 }
 
-/// The world that is woven of so many entries, in a box, which is dropped by one call.
-fn woven(alloc: Global, shape: Shape, entries: u64) -> Result<Box<World>, Memory> {
-    let set = shape.set(alloc)?;
-    let histories = ran(alloc, &set, shape, entries)?;
+/// The world that is woven of so many entries of the set's servers.
+fn woven_over(alloc: Global, set: &ChainSet, shape: Shape, entries: u64) -> Result<World, Memory> {
+    let histories = ran(alloc, set, shape, entries)?;
     if histories.len() != usize::from(set.servers()) {
         return Err(Memory);
     }
-    let world = weave(alloc, &set, histories, &[]).map_err(|_| Memory)?;
-    Ok(Box::new(alloc, world)?)
+    weave(alloc, set, histories, &[]).map_err(|_| Memory)
+}
+
+/// The world that is woven of so many entries.
+fn woven(alloc: Global, shape: Shape, entries: u64) -> Result<World, Memory> {
+    let set = shape.set(alloc)?;
+    woven_over(alloc, &set, shape, entries)
 }
 
 /// How many entries a world has that is woven of so many entries of that shape.
@@ -209,11 +213,16 @@ pub fn weave_all(alloc: Global, shape: Shape, entries: u64) -> Result<u64, Memor
     Ok(world.len() as u64)
 }
 
-/// The same, and then the world is explained: how many chains the order or the cycle has.
-pub fn explain_all(alloc: Global, shape: Shape, entries: u64) -> Result<u64, Memory> {
-    let world = woven(alloc, shape, entries)?;
-    match explain_by_search(alloc, &world)? {
+/// How many chains the order has that explains the world, or the cycle that tells why none does.
+fn explained(alloc: Global, world: &World) -> Result<u64, Memory> {
+    match explain_by_search(alloc, world)? {
         Some(Explained::Order(chains) | Explained::Cycle(chains)) => Ok(chains.len() as u64),
         None => Err(Memory),
     }
+}
+
+/// Weaves the same, and explains the world: how many chains the order or the cycle has.
+pub fn explain_all(alloc: Global, shape: Shape, entries: u64) -> Result<u64, Memory> {
+    let world = woven(alloc, shape, entries)?;
+    explained(alloc, &world)
 }

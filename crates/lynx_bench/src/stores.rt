@@ -33,6 +33,7 @@ const PAY: Start = Start {
     argument: Some(1),
 };
 
+/// The set of the payments.
 fn set(alloc: Global) -> Result<ChainSet, Memory> {
     parse(alloc, SET.as_bytes()).map_err(|_| Memory)
 }

@@ -9,7 +9,7 @@ pub use gate::{Gate, OpenGate, Step};
 pub use lent::Lent;
 pub use resending::RESEND_MILLIS;
 pub use session::Session;
-pub use steps::{Due, Owed, Receipt, Steps, Waking};
+pub use steps::{Arrived, Due, Owed, Receipt, Steps};
 pub use worker::Worker;
 
 mod absent;

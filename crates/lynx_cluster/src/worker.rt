@@ -1,20 +1,27 @@
 //! Workers: one thread for each server, which sends what the server owes and delivers what comes in.
 use crate::resending::{Passes, Reach};
 use crate::rest::rest;
-use crate::steps::{Owed, Steps, Waking};
+use crate::steps::{Arrived, Owed, Receipt, Steps};
 use lynx_link::{Ends, Parcel};
-use lynx_names::limits::MAX_HELD;
-use lynx_names::{ChainId, ServerId};
+use lynx_names::ServerId;
 use std::alloc::Global;
+use std::collections::VecDeque;
 use std::sync::Wait;
 use std::sync::atomic::{AtomicBool, Ordering};
 use std::time::Clock;
 
-/// Messages that one turn sends, at most, and as many that it sends again of all that is owed.
-const TURN_MESSAGES: usize = 256;
+/// Messages that one turn sends, at most.
+const TURN_MESSAGES: usize = 64;
 
-/// Parcels that one turn takes out of each ring, at most.
-const TURN_PARCELS: usize = 16;
+/// Messages that one turn sends again of each pass, at most.
+const TURN_AGAIN: usize = 256;
+
+/// Rounds over all rings in which one turn takes parcels out of them, ..
+const TURN_ROUNDS: u32 = 4;
+
+/// .. and parcels that each round takes out of each ring, at most. Chains of one origin come by several rings, and what
+/// is far ahead of the others is held, or dropped where there is no room.
+const ROUND_PARCELS: usize = 16;
 
 /// The worker of one server: its steps, its ends of the rings, and how far it has sent.
 #[derive(Drop)]
@@ -24,6 +31,8 @@ pub struct Worker<S: Steps> {
     servers: u8,
     /// The messages of all entries before this place were sent.
     sent: u64,
+    /// What was taken out of the rings and isn't served yet.
+    inbox: VecDeque<Arrived>,
     /// The passes over the first messages that are owed.
     first: Passes,
     /// The passes over all of them.
@@ -49,23 +58,21 @@ fn send_again_next<S: Steps, R: Wait>(
     let Some(from) = passes.next() else {
         return false;
     };
-    match steps.owed(rt, alloc, from) {
-        Owed::Message(due) => {
-            if !passes.found(due.place) {
-                return false;
-            }
-            let is_sent = offer(ends, due.to, Parcel::Message(due.message));
-            if is_sent {
-                passes.went(due.place);
-            }
-            is_sent
-        }
-        Owed::Nothing { len } => {
+    let Owed { mut dues, end, .. } = steps.owed(rt, alloc, from, 1);
+    let Some(due) = dues.pop() else {
+        if let Some(len) = end {
             passes.found(len);
-            false
         }
-        Owed::Unknown => false,
+        return false;
+    };
+    if !passes.found(due.place) {
+        return false;
     }
+    let is_sent = offer(ends, due.to, Parcel::Message(due.message));
+    if is_sent {
+        passes.went(due.place);
+    }
+    is_sent
 }
 
 /// Goes on with a pass, after it began one if it is time. Whether there was a message to send.
@@ -79,7 +86,7 @@ fn go_over<S: Steps, R: Wait + Clock>(
 ) -> bool {
     passes.begin(rt, sent);
     let mut is_busy = false;
-    for _ in 0..TURN_MESSAGES {
+    for _ in 0..TURN_AGAIN {
         if !send_again_next(rt, alloc, steps, ends, passes) {
             break;
         }
@@ -90,43 +97,30 @@ fn go_over<S: Steps, R: Wait + Clock>(
 
 impl<S: Steps> Worker<S> {
     /// A worker that has sent nothing yet, among so many servers.
-    pub fn new(steps: S, ends: Ends, servers: u8) -> Worker<S> {
+    pub fn new(alloc: Global, steps: S, ends: Ends, servers: u8) -> Worker<S> {
         Worker {
             steps,
             ends,
             servers,
             sent: 0,
+            inbox: VecDeque::new(alloc),
             first: Passes::new(Reach::First),
             all: Passes::new(Reach::All),
         }
     }
 
-    /// Sends the first message that was not sent yet. False where there is none, or its ring is full.
-    fn send_next<R: Wait>(&mut self, rt: &R, alloc: Global) -> bool {
-        match self.steps.owed(rt, alloc, self.sent) {
-            Owed::Message(due) => {
-                let is_sent = offer(&mut self.ends, due.to, Parcel::Message(due.message));
-                if is_sent {
-                    self.sent = due.place.saturating_add(1);
-                }
-                is_sent
-            }
-            Owed::Nothing { len } => {
-                self.sent = self.sent.max(len);
-                false
-            }
-            Owed::Unknown => false,
-        }
-    }
-
-    /// Sends what was not sent yet. Whether there was any.
-    fn send<R: Wait>(&mut self, rt: &R, alloc: Global) -> bool {
+    /// Sends what is owed and was not sent yet, up to the first message whose ring is full. Whether there was any.
+    fn send(&mut self, owed: Owed) -> bool {
         let mut is_busy = false;
-        for _ in 0..TURN_MESSAGES {
-            if !self.send_next(rt, alloc) {
-                break;
+        for due in owed.dues {
+            if !offer(&mut self.ends, due.to, Parcel::Message(due.message)) {
+                return is_busy;
             }
+            self.sent = due.place.saturating_add(1);
             is_busy = true;
+        }
+        if let Some(len) = owed.end {
+            self.sent = self.sent.max(len);
         }
         is_busy
     }
@@ -146,70 +140,67 @@ impl<S: Steps> Worker<S> {
         has_first || has_all
     }
 
-    /// Does what a parcel from that server asks. Where a hop was done, the held messages that wait for it are woken
-    /// before another message comes: one for which there is no room to be held would be dropped.
-    fn serve<R: Wait>(&mut self, rt: &R, alloc: Global, from: ServerId, parcel: Parcel) {
-        match parcel {
-            Parcel::Message(message) => {
-                let (chain, hop) = (message.chain, message.hop);
-                if self.steps.deliver(rt, alloc, message) {
-                    self.acknowledge(from, chain, hop);
-                    self.wake(rt, alloc);
-                }
+    /// Puts what came from that server into the inbox. What there is no memory for stays in its ring.
+    fn take_from(&mut self, from: ServerId) {
+        let Some(receiver) = self.ends.receiver(from) else {
+            return;
+        };
+        for _ in 0..ROUND_PARCELS {
+            if self.inbox.reserve(1).is_err() {
+                break;
             }
-            Parcel::Done { chain, hop } => {
-                self.steps.acknowledge(rt, chain, hop);
-                self.first.hear();
-            }
-        }
-    }
-
-    /// Tells the sender that the hop was done.
-    fn acknowledge(&mut self, to: ServerId, chain: ChainId, hop: u8) {
-        let _ = offer(&mut self.ends, to, Parcel::Done { chain, hop });
-    }
-
-    /// The next parcel from that server.
-    fn take(&mut self, from: ServerId) -> Option<Parcel> {
-        self.ends.receiver(from)?.take()
-    }
-
-    /// Takes what came from that server, and does it. Whether there was any.
-    fn receive_from<R: Wait>(&mut self, rt: &R, alloc: Global, from: ServerId) -> bool {
-        let mut is_busy = false;
-        for _ in 0..TURN_PARCELS {
-            let Some(parcel) = self.take(from) else {
+            let Some(parcel) = receiver.take() else {
                 break;
             };
-            self.serve(rt, alloc, from, parcel);
-            is_busy = true;
+            if matches!(parcel, Parcel::Done { .. }) {
+                self.first.hear();
+            }
+            self.inbox.push_back_reserved(Arrived { from, parcel });
         }
-        is_busy
     }
 
-    /// Takes what came from each server, and does it. Whether there was any.
-    fn receive<R: Wait>(&mut self, rt: &R, alloc: Global) -> bool {
-        let mut is_busy = false;
+    /// Puts what came from each server into the inbox.
+    fn take_round(&mut self) {
         for number in 0..self.servers {
             if let Some(from) = ServerId::new(number) {
-                is_busy |= self.receive_from(rt, alloc, from);
+                self.take_from(from);
             }
         }
-        is_busy
     }
 
-    /// Delivers the held messages whose turn it is. Whether there was any.
-    fn wake<R: Wait>(&mut self, rt: &R, alloc: Global) -> bool {
+    /// Puts what came into the inbox, round by round. Whether there is any.
+    fn take(&mut self) -> bool {
+        for _ in 0..TURN_ROUNDS {
+            let before = self.inbox.len();
+            self.take_round();
+            if self.inbox.len() == before {
+                break;
+            }
+        }
+        !self.inbox.is_empty()
+    }
+
+    /// Tells the senders of these hops that they were done. A receipt whose ring is full is let go: the message comes
+    /// again.
+    fn acknowledge(&mut self, receipts: Vec<Receipt>) {
+        for receipt in receipts {
+            let parcel = Parcel::Done {
+                chain: receipt.chain,
+                hop: receipt.hop,
+            };
+            let _ = offer(&mut self.ends, receipt.to, parcel);
+        }
+    }
+
+    /// Wakes what is held, and does what the parcels of the inbox ask. Whether a hop was done.
+    fn serve<R: Wait + Clock>(&mut self, rt: &R, alloc: Global) -> bool {
         let mut is_busy = false;
-        for _ in 0..MAX_HELD {
-            match self.steps.wake(rt, alloc) {
-                Waking::Idle => break,
-                Waking::Woke(receipt) => {
-                    is_busy = true;
-                    if let Some(receipt) = receipt {
-                        self.acknowledge(receipt.to, receipt.chain, receipt.hop);
-                    }
-                }
+        for _ in 0..=self.inbox.len() {
+            let receipts = self.steps.serve(rt, alloc, &mut self.inbox);
+            is_busy |= !receipts.is_empty();
+            self.acknowledge(receipts);
+            if self.inbox.is_empty() {
+                break;
             }
         }
         is_busy
@@ -218,14 +209,17 @@ impl<S: Steps> Worker<S> {
     /// One turn. It sends again what is owed for a while, then what was not sent yet, then delivers what came in and wakes
     /// what is held. The first 64 messages that are owed are sent again where the very first stays so for a millisecond,
     /// or, as long as nothing is acknowledged, for a time that doubles; and all of them each
-    /// [`RESEND_MILLIS`](crate::RESEND_MILLIS). False where there was nothing to do. A turn has a bound: 256 messages sent
-    /// and 320 sent again, 16 parcels taken from each server, and after each of them and at the end 64 wakes.
+    /// [`RESEND_MILLIS`](crate::RESEND_MILLIS). False where there was nothing to do. A turn has a bound: 64 messages sent
+    /// and 320 sent again, 64 parcels taken from each server, and 64 wakes before them and after each. Where there is
+    /// nothing to do it takes the server's lock once.
     pub fn turn<R: Wait + Clock>(&mut self, rt: &R, alloc: Global) -> bool {
         let has_sent_again = self.send_again(rt, alloc);
-        let has_sent = self.send(rt, alloc);
-        let has_received = self.receive(rt, alloc);
-        let has_woken = self.wake(rt, alloc);
-        has_sent || has_sent_again || has_received || has_woken
+        let owed = self.steps.owed(rt, alloc, self.sent, TURN_MESSAGES);
+        let holds = owed.holds;
+        let has_sent = self.send(owed);
+        let has_taken = self.take();
+        let has_served = (has_taken || holds) && self.serve(rt, alloc);
+        has_sent || has_sent_again || has_taken || has_served
     }
 
     /// Turn after turn, with rests between those without work, until it is to stop.

@@ -39,7 +39,7 @@ fn start_worker<
     stop: Arc<AtomicBool>,
 ) -> Option<JoinHandle<()>> {
     let servers = lent.servers();
-    let worker = Worker::new(lent, ends, servers);
+    let worker = Worker::new(alloc, lent, ends, servers);
     thread::spawn(&rt, move || worker.run(&rt, alloc, &stop)).ok()
 }
 

@@ -1,13 +1,14 @@
 //! Servers that stand in for a worker's own: one owes messages to the other, and all is marked down.
-use lynx_cluster::{Due, Owed, Receipt, Steps, Waking, Worker};
-use lynx_entry::Message;
-use lynx_link::links;
+use lynx_cluster::{Arrived, Due, Owed, Receipt, Steps, Worker};
+use lynx_link::{Parcel, links};
 use lynx_names::{ChainId, Memory, ServerId};
 use lynx_samples::made::message;
 use lynx_samples::parts::MessageParts;
 use std::alloc::Global;
+use std::collections::VecDeque;
 use std::sync::Wait;
 use std::sync::atomic::{AtomicU64, Ordering};
+use std::time::Clock;
 
 /// The length of a history.
 const LEN: u64 = 64;
@@ -76,22 +77,24 @@ pub struct Fake<'a> {
     board: &'a Board,
 }
 
-impl<'a> Steps for Fake<'a> {
-    fn owed<R: Wait>(&self, _rt: &R, alloc: Global, from: u64) -> Owed {
+impl<'a> Fake<'a> {
+    /// Adds what is owed from that place on to the list. Where the history ends, if that is all.
+    fn collect(&self, alloc: Global, from: u64, most: usize, dues: &mut Vec<Due>) -> Option<u64> {
         let chains = self.board.owed.load(Ordering::SeqCst);
         for place in from..LEN {
             if chains & bit(place) != 0 {
-                return match due(alloc, place) {
-                    Ok(due) => Owed::Message(due),
-                    Err(Memory) => Owed::Unknown,
-                };
+                if dues.len() >= most {
+                    return None;
+                }
+                dues.push(due(alloc, place).ok()?).ok()?;
             }
         }
-        Owed::Nothing { len: LEN }
+        Some(LEN)
     }
 
-    fn deliver<R: Wait>(&self, _rt: &R, _alloc: Global, message: Message) -> bool {
-        let chain = bit(message.chain.index);
+    /// A message of that chain came. Whether its hop was done.
+    fn deliver(&self, index: u64) -> bool {
+        let chain = bit(index);
         self.board.came.fetch_add(1, Ordering::SeqCst);
         let dropping = self.board.dropping.fetch_and(!chain, Ordering::SeqCst);
         if (dropping | self.board.deaf.load(Ordering::SeqCst)) & chain != 0 {
@@ -101,26 +104,56 @@ impl<'a> Steps for Fake<'a> {
         true
     }
 
-    fn acknowledge<R: Wait>(&self, _rt: &R, chain: ChainId, hop: u8) {
-        if hop == 1 {
-            self.board
-                .owed
-                .fetch_and(!bit(chain.index), Ordering::SeqCst);
-        }
-    }
-
-    fn wake<R: Wait>(&self, _rt: &R, _alloc: Global) -> Waking {
-        let held = self.board.held.load(Ordering::SeqCst);
+    /// The chains of server 0 that are held are done.
+    fn wake(&self, receipts: &mut Vec<Receipt>) {
+        let held = self.board.held.swap(0, Ordering::SeqCst);
         for index in 0..LEN {
             if held & bit(index) != 0 {
-                self.board.held.fetch_and(!bit(index), Ordering::SeqCst);
                 self.board.done.fetch_or(bit(index), Ordering::SeqCst);
                 let to = ServerId::first();
                 let chain = ChainId { origin: to, index };
-                return Waking::Woke(Some(Receipt { to, chain, hop: 1 }));
+                let _ = receipts.push(Receipt { to, chain, hop: 1 });
             }
         }
-        Waking::Idle
+    }
+}
+
+impl<'a> Steps for Fake<'a> {
+    fn owed<R: Wait>(&self, _rt: &R, alloc: Global, from: u64, most: usize) -> Owed {
+        let mut dues = Vec::new(alloc);
+        let end = self.collect(alloc, from, most, &mut dues);
+        let holds = self.board.held.load(Ordering::SeqCst) != 0;
+        Owed { dues, end, holds }
+    }
+
+    // One parcel a call, so that a worker has to call again.
+    fn serve<R: Wait + Clock>(
+        &self,
+        _rt: &R,
+        alloc: Global,
+        inbox: &mut VecDeque<Arrived>,
+    ) -> Vec<Receipt> {
+        let mut receipts = Vec::new(alloc);
+        self.wake(&mut receipts);
+        let Some(arrived) = inbox.pop_front() else {
+            return receipts;
+        };
+        let to = arrived.from;
+        match arrived.parcel {
+            Parcel::Message(message) => {
+                let (chain, hop) = (message.chain, message.hop);
+                if self.deliver(chain.index) {
+                    let _ = receipts.push(Receipt { to, chain, hop });
+                }
+            }
+            Parcel::Done { chain, hop } => {
+                if hop == 1 {
+                    let left = !bit(chain.index);
+                    self.board.owed.fetch_and(left, Ordering::SeqCst);
+                }
+            }
+        }
+        receipts
     }
 }
 
@@ -134,7 +167,7 @@ pub fn workers<'a>(
     let first = ends.next().ok_or(Memory)?;
     let second = ends.next().ok_or(Memory)?;
     Ok((
-        Worker::new(Fake { board: sender }, first, 2),
-        Worker::new(Fake { board: receiver }, second, 2),
+        Worker::new(alloc, Fake { board: sender }, first, 2),
+        Worker::new(alloc, Fake { board: receiver }, second, 2),
     ))
 }

@@ -1,0 +1,107 @@
+//! The lines behind the one that names a fault.
+
+ghost use Rattle.std.specs.Prelude.{ℕ, List, ◌≡◌, ◌++◌, IfOk, string_bytes};
+ghost use Rattle.lynx_hints.specs.Heads.{head_of};
+
+use crate::line::line_at;
+use crate::mark::Mark;
+use crate::script_lines::put_script_fault;
+use crate::set_faults::put_set_fault;
+use crate::view::put_line;
+use lynx_names::limits::MAX_TEXT_BYTES;
+use lynx_set::ChainSet;
+use lynx_words::{FaultKind, TextFault};
+use std::alloc::{AllocError, Global};
+use std::fmt::Write;
+
+/// Which text a fault is of.
+#[derive(Clone, Copy, Debug)]
+pub enum Part<'a> {
+    Set,
+    /// A script over the set, where the set is known.
+    Script { set: Option<&'a ChainSet> },
+}
+
+/// The lines behind the one that names the fault, each with two spaces before it: the line at fault, a mark under the
+/// word where it is one word, and in words what is wrong and what was expected or is known. `name` is the file's name,
+/// or "standard input", and is shown as it is. The text may be cut short behind one byte too many.
+pub fn hint(
+    alloc: Global,
+    name: &str,
+    text: &[u8],
+    part: Part<'_>,
+    fault: TextFault,
+) -> Result<String, AllocError>
+    ensures begins { IfOk result (λ lines. (rest : List ℕ) × (string_bytes lines
+        ≡ head_of name.now fault.line ++ rest)) }
+{
+    let head = head_of(alloc, name, fault.line)?;
+    let tail = tail_of(alloc, head.as_str().chars().count(), text, part, fault)?;
+    let mut lines = head;
+    lines.push_str(tail.as_str())?;
+    Ok(lines)
+}
+
+/// What says the place: the file, and its line where there is one.
+fn head_of(alloc: Global, name: &str, line: usize) -> Result<String, AllocError>
+    ensures { IfOk result (λ head. string_bytes head ≡ head_of name.now line) }
+{
+    let mut head = format!(in alloc; "  {name}:")?;
+    if line > 0 {
+        head.push_str(format!(in alloc; "{line}")?.as_str())?;
+        head.push_str(":")?;
+    }
+    Ok(head)
+}
+
+/// What stands behind the place, which has that many characters.
+fn tail_of(
+    alloc: Global,
+    before: usize,
+    text: &[u8],
+    part: Part<'_>,
+    fault: TextFault,
+) -> Result<String, AllocError> {
+    let mut words = String::new(alloc);
+    let mark = put_words(alloc, &mut words, text, part, fault)?;
+    let mut tail = String::new(alloc);
+    put_text(&mut tail, before, text, mark, fault.line)?;
+    tail.push_str(words.as_str())?;
+    Ok(tail)
+}
+
+/// Writes what is wrong, and gives the place in the line.
+fn put_words(
+    alloc: Global,
+    out: &mut String,
+    text: &[u8],
+    part: Part<'_>,
+    fault: TextFault,
+) -> Result<Option<Mark>, AllocError> {
+    match (fault.kind, part) {
+        (FaultKind::TooLong, _) => put_too_long(out),
+        (FaultKind::Memory, _) => Ok(None),
+        (_, Part::Set) => put_set_fault(alloc, out, text, fault),
+        (_, Part::Script { set }) => put_script_fault(alloc, out, text, set, fault),
+    }
+}
+
+fn put_too_long(out: &mut String) -> Result<Option<Mark>, AllocError> {
+    writeln!(out, "  a text has {MAX_TEXT_BYTES} bytes at most")?;
+    Ok(None)
+}
+
+/// Writes the text at the place, with the mark.
+fn put_text(
+    out: &mut String,
+    before: usize,
+    text: &[u8],
+    mark: Option<Mark>,
+    line: usize,
+) -> Result<(), AllocError> {
+    if line == 0 {
+        let bytes = text.len();
+        return writeln!(out, " {bytes} bytes or more");
+    }
+    put_line(out, line_at(text, line).bytes, mark, before)
+}

@@ -47,13 +47,27 @@ fn threads_of(word: &str) -> Option<u8>
     (threads > 0).then_some(threads)
 }
 
+/// How many of a hundred.
+fn across_of(word: &str) -> Option<u8>
+    ensures { IfSome result (λ across. across ≤ 100) }
+{
+    let across = word.parse().ok()?;
+    (across <= 100).then_some(across)
+}
+
 impl ClusterWork {
-    /// To carry a load of so many payments by so many threads.
-    pub fn carry(servers: &str, threads: &str, payments: &str) -> Option<ClusterWork> {
+    /// To carry a load of so many payments by so many threads, of which so many of a hundred go from one server to another.
+    pub fn carry(
+        servers: &str,
+        threads: &str,
+        payments: &str,
+        across: &str,
+    ) -> Option<ClusterWork> {
         Some(ClusterWork::Carry(Load {
             servers: servers_of(servers)?,
             threads: threads_of(threads)?,
             payments: payments.parse().ok()?,
+            across: across_of(across)?,
         }))
     }
 

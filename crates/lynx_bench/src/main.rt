@@ -3,8 +3,9 @@
 //! `open-store FOLDER` opens the first of them so many times, `weave SHAPE` weaves so many entries of two servers (`2`), of sixteen (`16`), or of one
 //! (`adds`, `alternating`, `cells`, `cycle`), and `explain SHAPE` then explains the world.
 //!
-//! Two kinds of work are of a cluster in memory, with a thread for each server: `cluster SERVERS THREADS COUNT` pays so
-//! many times by so many threads, and prints how long that took, and `idle SERVERS SECONDS` has the cluster do nothing.
+//! Two kinds of work are of a cluster in memory, with a thread for each server: `cluster SERVERS THREADS COUNT [ACROSS]`
+//! pays so many times by so many threads, ACROSS of 100 times from one server to another (without it always), and prints
+//! how long that took, and `idle SERVERS SECONDS` has the cluster do nothing.
 #![tactic(auto)]
 
 use std::process::ExitCode;
@@ -72,6 +73,12 @@ fn repeated<'a>(work: Work<'a>, count: &str) -> Option<Job<'a>> {
     Some(Job::Work { work, count })
 }
 
+/// A cluster that carries a load.
+fn cluster<'a>(servers: &str, threads: &str, count: &str, across: &str) -> Option<Job<'a>> {
+    let work = ClusterWork::carry(servers, threads, count, across)?;
+    Some(Job::Cluster(work))
+}
+
 /// What the words ask for, the program's name first.
 fn asked(words: &[String]) -> Option<Job<'_>> {
     match words {
@@ -82,9 +89,15 @@ fn asked(words: &[String]) -> Option<Job<'_>> {
         [_, work, size, count] => {
             repeated(sized_work_of(work.as_str(), size.as_str())?, count.as_str())
         }
-        [_, work, servers, threads, count] if work.as_str() == "cluster" => Some(Job::Cluster(
-            ClusterWork::carry(servers.as_str(), threads.as_str(), count.as_str())?,
-        )),
+        [_, work, servers, threads, count] if work.as_str() == "cluster" => {
+            cluster(servers.as_str(), threads.as_str(), count.as_str(), "100")
+        }
+        [_, work, servers, threads, count, across] if work.as_str() == "cluster" => cluster(
+            servers.as_str(),
+            threads.as_str(),
+            count.as_str(),
+            across.as_str(),
+        ),
         _ => None,
     }
 }
@@ -114,7 +127,7 @@ fn obey<R: Threads + Wait + Clock + Copy + Send + Sync + 'static>(
         Some(Job::Cluster(work)) => report(host, work.run(rt, host.alloc())),
         None => {
             let _ = eprintln!(host;
-                "lynx_bench: begin, deliver, open, encode, feed and the size of a piece, store or open-store and a folder, or weave or explain and 2, 16, adds, alternating, cells or cycle; and a count; or cluster, servers (1 to 16), threads (1 to 255) and a count; or idle, servers and seconds"
+                "lynx_bench: begin, deliver, open, encode, feed and the size of a piece, store or open-store and a folder, or weave or explain and 2, 16, adds, alternating, cells or cycle; and a count; or cluster, servers (1 to 16), threads (1 to 255), a count and, if not 100, how many of 100 payments go to another server; or idle, servers and seconds"
             );
             2
         }

@@ -1,14 +1,14 @@
 //! A load of payments, and how long it takes.
-ghost use Rattle.std.specs.Prelude.{◌<◌};
+ghost use Rattle.std.specs.Prelude.{◌≡◌, ◌<◌, ◌+◌};
 
 use crate::fault::LoadFault;
-use crate::payer::{Payer, check_begun, payers, payments_from};
+use crate::payer::{Payer, begun_now, payers};
 use crate::starting::start;
-use crate::texts::{last_hop, seed};
+use crate::texts::{last_hop, payment, seed};
 use lynx_cluster::{Front, Gate, Session};
 use lynx_forms::Looked;
 use lynx_keep::Keeper;
-use lynx_names::{ChainId, ServerId};
+use lynx_names::ChainId;
 use lynx_order::{Explained, explain};
 use lynx_world::World;
 use std::alloc::Global;
@@ -20,16 +20,20 @@ use std::{fmt, thread};
 /// Looks at the last hop of a server's last payment, at most, with a millisecond between two of them.
 pub const MAX_LOOKS: u32 = 600_000;
 
-/// A load: each payment goes from an account of its origin to one of the next server, by two hops, or by one where there is
-/// one server. The origins take turns.
+/// A load: payments by clients of which each has a server of its own, or some that it pays from in turn. A payment goes from an
+/// account of its origin to one of the next server, by two hops, or to another of its origin, by one, as it always does where
+/// there is one server.
 #[derive(Clone, Copy, Debug, PartialEq, Eq)]
 pub struct Load {
     /// Servers, 1 to 16.
     pub servers: u8,
     /// Threads that pay, 1 at least, each by a session of its own.
     pub threads: u8,
-    /// Payments of all threads together. Each server has room for 1,000,000 entries, one of them that of its seed.
+    /// Payments of all threads together. Each server has room for 1,000,000 entries, three of them those of its seed and of
+    /// what it pays and is paid at the end.
     pub payments: u64,
+    /// Of a hundred payments so many go to the next server, evenly spread: 100 and more are all.
+    pub across: u8,
 }
 
 /// How long a load took, by the monotonic clock.
@@ -77,7 +81,14 @@ struct Times {
     done: Instant,
 }
 
-/// Fills the account that each server pays from with as much as all payments take.
+/// What each server's account is filled with: as much as all payments take, and the last one.
+fn amount(load: Load) -> u64
+    ensures { load.payments < 18446744073709551615 → result ≡ load.payments + 1 }
+{
+    load.payments.saturating_add(1)
+}
+
+/// Fills the account that each server pays from.
 fn seed_all<R: Wait, K: Keeper, G: Gate>(
     rt: &R,
     alloc: Global,
@@ -86,9 +97,9 @@ fn seed_all<R: Wait, K: Keeper, G: Gate>(
     load: Load,
 ) -> Result<(), LoadFault> {
     for server in 0..load.servers {
-        let request = seed(alloc, session.number(), server, load.servers, load.payments)?;
+        let request = seed(alloc, session.number(), server, load.servers, amount(load))?;
         let answer = front.begin(rt, alloc, session, request);
-        check_begun(&answer)?;
+        begun_now(&answer)?;
     }
     Ok(())
 }
@@ -140,25 +151,36 @@ fn await_hop<R: Wait + Clock, K: Keeper, G: Gate>(
     Err(LoadFault::NotDone)
 }
 
-/// Waits until the last payment of each server is done. The next server runs the hops of one origin in its order, so then all
-/// are done. Chain 0 of a server is its seed.
-fn await_all<R: Wait + Clock, K: Keeper, G: Gate>(
+/// Begins a last payment from each server to the next.
+fn pay_last<R: Wait, K: Keeper, G: Gate>(
     rt: &R,
     alloc: Global,
     front: &Front<K, G>,
     session: &mut Session,
     load: Load,
-) -> Result<(), LoadFault>
-    requires { 0 < load.servers }
-{
+) -> Result<Vec<ChainId>, LoadFault> {
+    let mut chains = Vec::new(alloc);
     for server in 0..load.servers {
-        let last = ChainId {
-            origin: ServerId::new(server).ok_or(LoadFault::Servers)?,
-            index: payments_from(server, load.servers, load.payments),
-        };
-        if last.index > 0 {
-            await_hop(rt, alloc, front, session, &last, last_hop(load.servers))?;
-        }
+        let number = u64::from(load.servers) + u64::from(server);
+        let request = payment(alloc, session.number(), number, server)?;
+        let answer = front.begin(rt, alloc, session, request);
+        chains.push(begun_now(&answer)?)?;
+    }
+    Ok(chains)
+}
+
+/// Waits until these payments are done. Each is the last of its origin, and the next server runs the hops of one origin in its
+/// order, so then all are done.
+fn await_all<R: Wait + Clock, K: Keeper, G: Gate>(
+    rt: &R,
+    alloc: Global,
+    front: &Front<K, G>,
+    session: &mut Session,
+    chains: &[ChainId],
+    hop: u8,
+) -> Result<(), LoadFault> {
+    for chain in chains {
+        await_hop(rt, alloc, front, session, chain, hop)?;
     }
     Ok(())
 }
@@ -174,13 +196,15 @@ fn carry<R: Threads + Wait + Clock + Sync, K: Keeper + Send + Drop, G: Gate + Se
 {
     let mut session = front.session(rt, alloc).ok_or(LoadFault::Session)?;
     seed_all(rt, alloc, front, &mut session, load)?;
-    let mut payers = payers(rt, alloc, front, load.servers, load.threads, load.payments)?;
+    let mut payers = payers(rt, alloc, front, load)?;
     let mut sessions = Vec::new(alloc);
     let first = Instant::now(rt)?;
     pay(rt, alloc, front, payers.as_mut_slice());
     let all_begun = Instant::now(rt)?;
     let begun = collect(payers, &mut sessions)?;
-    await_all(rt, alloc, front, &mut session, load)?;
+    let chains = pay_last(rt, alloc, front, &mut session, load)?;
+    let hop = last_hop(load.servers);
+    await_all(rt, alloc, front, &mut session, chains.as_slice(), hop)?;
     let done = Instant::now(rt)?;
     sessions.push(session)?;
     Ok(Carried {
@@ -205,7 +229,7 @@ fn check_order(alloc: Global, world: &World) -> Result<(), LoadFault> {
 /// Nothing, where the world's cells hold together what the servers were seeded with, which they do not before all payments are
 /// done. Both sums are modulo 2^64, as those of the cells are.
 fn check_sum(alloc: Global, world: &World, load: Load) -> Result<(), LoadFault> {
-    let seeded = load.payments.wrapping_mul(u64::from(load.servers));
+    let seeded = amount(load).wrapping_mul(u64::from(load.servers));
     let mut sum: u64 = 0;
     for (_, _, value) in world.cells(alloc)? {
         sum = sum.wrapping_add(value);

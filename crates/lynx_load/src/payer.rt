@@ -1,32 +1,44 @@
 //! The clients of a load, each of which pays in a thread of its own.
-ghost use Rattle.std.specs.Prelude.{◌≡◌, ◌<◌, ◌≤◌, ◌%◌};
+ghost use Rattle.std.specs.Prelude.{◌≡◌, ◌<◌, ◌≤◌, ◌*◌, ◌/◌, ◌%◌, ◌↔◌, IsTrue};
 
 use crate::fault::LoadFault;
-use crate::texts::payment;
+use crate::load::Load;
+use crate::texts::{payment, payment_within};
 use lynx_cluster::{Front, Gate, Session};
 use lynx_entry::Answer;
 use lynx_keep::Keeper;
+use lynx_names::ChainId;
 use std::alloc::Global;
 use std::sync::Wait;
 
-/// The server that the payment of that number, counted from 0, is made from: the servers in turn.
-fn origin_of(number: u64, servers: u8) -> u8
-    requires { 0 < servers }
-    ensures { result ≡ number % servers }
+/// How many of so many servers belong to that client, of so many: each that many behind the one before, from the client's
+/// number on. One at least: where there are fewer servers than clients, a server belongs to more than one.
+fn homes(client: u8, clients: u8, servers: u8) -> u8
+    requires clients { 0 < clients }
+    ensures { 0 < result }
 {
-    (number % u64::from(servers)) as u8
+    match servers.checked_sub(client) {
+        Some(left) if left > 0 => left.div_ceil(clients).max(1),
+        _ => 1,
+    }
 }
 
-/// How many of so many payments are made from that server.
-pub(crate) fn payments_from(server: u8, servers: u8, payments: u64) -> u64
-    requires { 0 < servers }
+/// The server that the payment of that number is made from, which belongs to the client: its servers in turn.
+fn origin_of(number: u64, client: u8, clients: u8, servers: u8) -> u8
+    requires clients { 0 < clients }
+    requires servers { 0 < servers }
+    ensures { result < servers }
 {
-    let turns = payments / u64::from(servers);
-    if u64::from(server) < payments % u64::from(servers) {
-        turns.saturating_add(1)
-    } else {
-        turns
-    }
+    let turn = number % u64::from(homes(client, clients, servers));
+    let place = u64::from(client) + u64::from(clients) * turn;
+    (place % u64::from(servers)) as u8
+}
+
+/// The payment of that number goes to the next server, where so many of a hundred do, spread as evenly as can be.
+fn goes_across(number: u64, across: u8) -> bool
+    ensures { IsTrue result ↔ (number % 100 * across % 100 < across) }
+{
+    number % 100 * u64::from(across) % 100 < u64::from(across)
 }
 
 /// What the first of so many threads takes of the payments that are left: about as many as each thread behind it.
@@ -38,10 +50,14 @@ fn share_of(left: u64, threads: u8) -> u64
     left / u64::from(threads)
 }
 
-/// Nothing, where the answer is that the chain began now.
-pub(crate) fn check_begun(answer: &Answer) -> Result<(), LoadFault> {
+/// The chain that the answer says began now.
+pub(crate) fn begun_now(answer: &Answer) -> Result<ChainId, LoadFault> {
     match answer {
-        Answer::Begun { again: false, .. } => Ok(()),
+        Answer::Begun {
+            chain,
+            again: false,
+            ..
+        } => Ok(*chain),
         Answer::Memory => Err(LoadFault::Memory),
         _ => Err(LoadFault::NotBegun),
     }
@@ -51,7 +67,13 @@ pub(crate) fn check_begun(answer: &Answer) -> Result<(), LoadFault> {
 #[derive(Drop)]
 pub(crate) struct Payer {
     session: Session,
+    /// Its number among all clients, ..
+    client: u8,
+    /// .. and how many there are.
+    clients: u8,
     servers: u8,
+    /// So many payments of a hundred go to the next server.
+    across: u8,
     /// The number of its first payment among those of all clients.
     first: u64,
     /// How many payments it makes.
@@ -59,6 +81,7 @@ pub(crate) struct Payer {
     /// How many of them began, or why one didn't. It makes no more then.
     begun: Result<u64, LoadFault>,
     ghost has_servers: { 0 < servers },
+    ghost has_clients: { 0 < clients },
 }
 
 impl Payer {
@@ -70,10 +93,16 @@ impl Payer {
         front: &Front<K, G>,
         number: u64,
     ) -> Result<(), LoadFault> {
-        let origin = origin_of(number, self.servers);
-        let request = payment(alloc, self.session.number(), number, origin)?;
+        let origin = origin_of(number, self.client, self.clients, self.servers);
+        let client = self.session.number();
+        let request = if goes_across(number, self.across) {
+            payment(alloc, client, number, origin)?
+        } else {
+            payment_within(alloc, client, number, origin, self.servers)?
+        };
         let answer = front.begin(rt, alloc, &mut self.session, request);
-        check_begun(&answer)
+        begun_now(&answer)?;
+        Ok(())
     }
 
     /// Makes its payments, and counts those that began.
@@ -107,25 +136,26 @@ impl Payer {
     }
 }
 
-/// So many clients, which share so many payments.
+/// The clients of a load, which share its payments.
 pub(crate) fn payers<R: Wait, K: Keeper, G: Gate>(
     rt: &R,
     alloc: Global,
     front: &Front<K, G>,
-    servers: u8,
-    threads: u8,
-    payments: u64,
+    load: Load,
 ) -> Result<Vec<Payer>, LoadFault>
-    requires { 0 < servers }
+    requires { 0 < load.servers }
 {
     let mut payers = Vec::new(alloc);
-    let mut left = payments;
-    for before in 0..threads {
-        let count = share_of(left, threads - before);
+    let mut left = load.payments;
+    for before in 0..load.threads {
+        let count = share_of(left, load.threads - before);
         payers.push(Payer {
             session: front.session(rt, alloc).ok_or(LoadFault::Session)?,
-            servers,
-            first: payments.saturating_sub(left),
+            client: before,
+            clients: load.threads,
+            servers: load.servers,
+            across: load.across,
+            first: load.payments.saturating_sub(left),
             count,
             begun: Ok(0),
         })?;

@@ -1,7 +1,8 @@
 //! The set of a load, and its requests.
 //!
-//! Server S pays from the account 1000 S, and is paid to the one behind it, so that payments of two servers meet only where
-//! they add. Program S pays from server S to the next, and program `servers` + S fills the account that S pays from.
+//! Server S pays from the account 1000 S into its own account 1000 S + 1, or into that of the server behind it, so that payments
+//! of two servers meet only where they add. Of N servers program S pays from server S to the next by two hops, program
+//! N + S pays within server S by one, and program 2 N + S fills the account that S pays from.
 ghost use Rattle.std.specs.Prelude.{◌≡◌, ◌<◌, ◌+◌, ◌*◌, OnOk};
 
 use crate::fault::LoadFault;
@@ -59,6 +60,15 @@ fn pay_text(alloc: Global, server: u8, servers: u8) -> Result<String, AllocError
     )
 }
 
+/// The program that pays within a server.
+fn move_text(alloc: Global, server: u8) -> Result<String, AllocError> {
+    let from = first_key(server);
+    let to = from + 1;
+    format!(in alloc;
+        "program move{server} n\nhop {server}\nget x acct {from}\nneed x >= n\nsub acct {from} n\nadd acct {to} n\nend\n"
+    )
+}
+
 /// The program that fills the account that a server pays from.
 fn seed_text(alloc: Global, server: u8) -> Result<String, AllocError> {
     let account = first_key(server);
@@ -73,6 +83,9 @@ fn text_for(alloc: Global, servers: u8) -> Result<String, AllocError> {
     }
     for server in 0..servers {
         text.push_str(pay_text(alloc, server, servers)?.as_str())?;
+    }
+    for server in 0..servers {
+        text.push_str(move_text(alloc, server)?.as_str())?;
     }
     for server in 0..servers {
         text.push_str(seed_text(alloc, server)?.as_str())?;
@@ -121,7 +134,7 @@ fn request(
     })
 }
 
-/// A client's request of that number to pay 1 from that server's account.
+/// A client's request of that number to pay 1 from that server's account to the next server.
 pub(crate) fn payment(
     alloc: Global,
     client: u64,
@@ -129,6 +142,17 @@ pub(crate) fn payment(
     server: u8,
 ) -> Result<Request, Memory> {
     request(alloc, client, number, server, 1)
+}
+
+/// A client's request of that number to pay 1 within that server, of so many.
+pub(crate) fn payment_within(
+    alloc: Global,
+    client: u64,
+    number: u64,
+    server: u8,
+    servers: u8,
+) -> Result<Request, Memory> {
+    request(alloc, client, number, servers.saturating_add(server), 1)
 }
 
 /// A client's request to fill that server's account, of so many servers. The server's number is that of the request.
@@ -139,6 +163,6 @@ pub(crate) fn seed(
     servers: u8,
     amount: u64,
 ) -> Result<Request, Memory> {
-    let program = servers.saturating_add(server);
+    let program = servers.saturating_mul(2).saturating_add(server);
     request(alloc, client, u64::from(server), program, amount)
 }

@@ -1,7 +1,8 @@
 #!/usr/bin/env python3
-"""tests/reference_picture.py SET: the picture of the set text in a file, by a plain reading of docs/FORMATS.md that was
-written apart from the program; the verdict on the set is that of tests/reference.py. What it prints for a set is what
-a case of `lynx draw` expects, and tests/random compares the program with it."""
+"""tests/reference_picture.py [--walk] SET: the picture of the set text in a file, or of the programs of its walk alone, by a
+plain reading of docs/FORMATS.md that was written apart from the program; the verdict on the set is that of
+tests/reference.py. What it prints for a set is what a case of `lynx draw` expects, and tests/random compares the program
+with it."""
 import os
 import sys
 
@@ -112,17 +113,21 @@ def step_line(chains, number, step):
     return f'  {node(*source)} -> {node(*target)} [label="{words}];'
 
 
-def picture(text):
-    """What `lynx draw` prints of a set text without fault, and its status."""
+def picture(text, of_walk=False):
+    """What `lynx draw` prints of a set text without fault, and its status; with --walk, of the programs of the walk alone."""
     chains, (verdict, status) = reference.Set(text), reference.check(text)
     edges = conflicts(chains)
     drawn_twice = {left[0] for left, right in edges if left[0] == right[0]}
-    walked = steps(reference.least_walk(chains) or [], drawn_twice)
+    walk = reference.least_walk(chains) or []
+    walked = steps(walk, drawn_twice)
+    shown = [program for program in chains.programs if not of_walk or program in {left[0] for left, _ in walk}]
     lines = []
-    for program in chains.programs:
+    for program in shown:
         lines += cluster(chains, program, False) + (cluster(chains, program, True) if program in drawn_twice else [])
     dashed = []
     for left, right in edges:
+        if not {left[0], right[0]} <= set(shown):
+            continue
         ends = {(left, False), (right, left[0] == right[0])}
         if not any(is_conflict and {source, target} == ends for source, target, is_conflict in walked):
             dashed.append(f'  {node(left, False)} -> {node(right, left[0] == right[0])} '
@@ -135,5 +140,5 @@ def picture(text):
 
 
 if __name__ == "__main__":
-    with open(sys.argv[1], encoding="ascii") as file:
-        sys.stdout.write(picture(file.read())[0])
+    with open(sys.argv[-1], encoding="ascii") as file:
+        sys.stdout.write(picture(file.read(), "--walk" in sys.argv[1:-1])[0])

@@ -1,6 +1,6 @@
 -- Programs as clusters of nodes.
-use Rattle.std.specs.Prelude.{Bool, true, false, ℕ, ◌+◌, List, [], ◌∷◌, ◌++◌, Option, Some, None, codes, take, length, if◌then◌else◌}
-use Rattle.std.specs.List.{flat_map, range_with_len}
+use Rattle.std.specs.Prelude.{Bool, true, false, ℕ, ◌+◌, List, [], ◌∷◌, ◌++◌, Option, Some, None, codes, take, if◌then◌else◌}
+use Rattle.std.specs.List.{flat_map}
 use Rattle.std.specs.Option.{option_map_or}
 use Rattle.lynx_set.specs.declared.interval.Interval.{Interval}
 use Rattle.lynx_set.specs.declared.program.ParameterRange.{ParameterRange}
@@ -47,6 +47,6 @@ cluster_text set program again = cluster_name set program again ++ cluster_label
 abbrev pub program_text : Set → List Edge → ℕ → List ℕ
 program_text set edges program = cluster_text set program false ++ (if is_drawn_twice edges program then cluster_text set program true else [])
 
--- all programs
-abbrev pub clusters_text : Set → List Edge → List ℕ
-clusters_text set edges = flat_map (program_text set edges) (range_with_len 0 (length set.programs))
+-- these programs
+abbrev pub clusters_text : Set → List Edge → List ℕ → List ℕ
+clusters_text set edges programs = flat_map (program_text set edges) programs

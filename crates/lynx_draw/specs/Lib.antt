@@ -7,3 +7,4 @@ pub mod Nodes
 pub mod Clusters
 pub mod Lines
 pub mod Picture
+pub mod Shown

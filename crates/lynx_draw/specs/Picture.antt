@@ -9,6 +9,8 @@ use Rattle.lynx_draw.specs.declared.edges.Edge.{Edge}
 use Rattle.lynx_draw.specs.declared.steps.Step.{Step}
 use Rattle.lynx_draw.specs.Edges.{edges_of}
 use Rattle.lynx_draw.specs.Steps.{steps_of}
+use Rattle.lynx_draw.specs.Shown.{shown_edges, shown_programs, walk_in}
+use Rattle.lynx_draw.specs.declared.shown.Shown.{Shown}
 use Rattle.lynx_draw.specs.Clusters.{clusters_text}
 use Rattle.lynx_draw.specs.Lines.{conflict_lines, step_lines}
 
@@ -23,13 +25,8 @@ caption (Accepted own) = accepted_caption own.excused
 caption (Offending walk blocks) = OFFENDING.now
 
 -- the steps of the closed walk that offends, excused or not
-abbrev pub excused_steps : List Edge → Option (List Visit) → List Step
-excused_steps edges None = []
-excused_steps edges (Some walk) = steps_of edges walk
-
 abbrev pub steps_in : List Edge → Verdict → List Step
-steps_in edges (Accepted own) = excused_steps edges own.excused
-steps_in edges (Offending walk blocks) = steps_of edges walk
+steps_in edges verdict = steps_of edges (walk_in verdict)
 
 -- how steps are drawn: those of an excused walk in the colour of an excuse
 abbrev pub accepted_style : Option (List Visit) → List ℕ
@@ -41,8 +38,8 @@ style_of (Accepted own) = accepted_style own.excused
 style_of (Offending walk blocks) = STEPS.now
 
 -- the programs, the conflicts by which no step goes, and the steps
-abbrev pub picture_of : Set → Verdict → List ℕ
-picture_of set verdict =
-    HEAD.now ++ caption verdict ++ LEGEND.now ++ clusters_text set (edges_of set)
-    ++ CONFLICTS.now ++ conflict_lines set (steps_in (edges_of set) verdict) (edges_of set)
+abbrev pub picture_of : Shown → Set → Verdict → List ℕ
+picture_of shown set verdict =
+    HEAD.now ++ caption verdict ++ LEGEND.now ++ clusters_text set (edges_of set) (shown_programs shown set verdict)
+    ++ CONFLICTS.now ++ conflict_lines set (steps_in (edges_of set) verdict) (shown_edges shown verdict (edges_of set))
     ++ style_of verdict ++ step_lines set 1 (steps_in (edges_of set) verdict) ++ codes "}\n"

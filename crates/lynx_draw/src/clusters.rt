@@ -167,18 +167,19 @@ fn put_program(
     Ok(())
 }
 
-/// Writes the programs of a set of which these hops may conflict.
+/// Writes these programs of a set of which these hops may conflict.
 pub(crate) fn put_clusters(
     alloc: Global,
     out: &mut Vec<u8>,
     set: &ChainSet,
     edges: &[Edge],
+    programs: &[ProgramId],
 ) -> Result<(), Memory>
     ensures { OnOk result (out.new.items ≡ out.old.items
-        ++ clusters_text set.now edges.now) }
+        ++ clusters_text set.now edges.now programs.now) }
 {
-    for number in 0..set.programs().len() {
-        put_program(alloc, out, set, edges, program_of(number))?;
+    for program in programs {
+        put_program(alloc, out, set, edges, *program)?;
     }
     Ok(())
 }

@@ -4,6 +4,7 @@
 pub use edges::{Edge, conflict_edges};
 pub use lynx_graph::Place;
 pub use picture::draw;
+pub use shown::Shown;
 
 mod clusters;
 mod colours;
@@ -11,6 +12,7 @@ pub mod edges;
 mod lines;
 mod nodes;
 pub mod picture;
+pub mod shown;
 mod spot;
 mod steps;
 mod tables;

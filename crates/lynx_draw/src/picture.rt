@@ -1,11 +1,15 @@
 //! The whole picture.
 
 ghost use Rattle.std.specs.Prelude.{◌≡◌, ◌++◌, IfOk, OnOk};
+ghost use Rattle.lynx_draw.specs.Clusters.{clusters_text};
+ghost use Rattle.lynx_draw.specs.Lines.{conflict_lines};
 ghost use Rattle.lynx_draw.specs.Picture.{caption, picture_of, steps_in, style_of};
+ghost use Rattle.lynx_draw.specs.Shown.{shown_edges, shown_programs};
 
 use crate::clusters::put_clusters;
 use crate::edges::{Edge, conflict_edges};
 use crate::lines::{put_conflicts, put_steps};
+use crate::shown::{Shown, shown_edges, shown_programs, walk_in};
 use crate::steps::{Step, steps_of};
 use lynx_names::{Items, Memory};
 use lynx_set::ChainSet;
@@ -68,29 +72,70 @@ fn style_of(verdict: &Verdict) -> &'static [u8]
 fn steps_in(alloc: Global, edges: &[Edge], verdict: &Verdict) -> Result<Items<Step>, Memory>
     ensures { IfOk result (λ steps. steps ≡ steps_in edges.now verdict.now) }
 {
-    match verdict {
-        Verdict::Accepted(accepted) => match accepted.excused() {
-            Some(walk) => steps_of(alloc, edges, walk.as_slice()),
-            None => Ok(Items::new(alloc)),
-        },
-        Verdict::Offending(walk, _) => steps_of(alloc, edges, walk.as_slice()),
-    }
+    steps_of(alloc, edges, walk_in(verdict))
 }
 
-/// The picture of a set and of the verdict on it, as a text that Graphviz's `dot` reads. Its length grows with the
-/// square of the count of hops. The only error is that a growth was refused.
-pub fn draw(alloc: Global, set: &ChainSet, verdict: &Verdict) -> Result<Vec<u8>, Memory>
-    ensures { IfOk result (λ text. text.items ≡ picture_of set.now verdict.now) }
+/// Writes the programs that are drawn.
+fn put_shown_programs(
+    alloc: Global,
+    out: &mut Vec<u8>,
+    set: &ChainSet,
+    verdict: &Verdict,
+    shown: Shown,
+    edges: &[Edge],
+) -> Result<(), Memory>
+    ensures { OnOk result (out.new.items ≡ out.old.items
+        ++ clusters_text set.now edges.now (shown_programs shown set.now verdict.now)) }
 {
-    let edges = conflict_edges(alloc, set)?;
-    let steps = steps_in(alloc, edges.as_slice(), verdict)?;
+    let programs = shown_programs(alloc, set, verdict, shown)?;
+    put_clusters(alloc, out, set, edges, programs.as_slice())
+}
+
+/// Writes the conflicts that are drawn.
+fn put_shown_conflicts(
+    alloc: Global,
+    out: &mut Vec<u8>,
+    set: &ChainSet,
+    verdict: &Verdict,
+    shown: Shown,
+    edges: &[Edge],
+    steps: &[Step],
+) -> Result<(), Memory>
+    ensures { OnOk result (out.new.items ≡ out.old.items
+        ++ conflict_lines set.now steps.now (shown_edges shown verdict.now edges.now)) }
+{
+    let drawn = shown_edges(alloc, edges, verdict, shown)?;
+    put_conflicts(alloc, out, set, drawn.as_slice(), steps)
+}
+
+/// The picture of a set and of the verdict on it, as a text that Graphviz's `dot` reads, with the programs that are to be
+/// shown. Its length grows with the square of the count of hops. The only error is that a growth was refused.
+pub fn draw(
+    alloc: Global,
+    set: &ChainSet,
+    verdict: &Verdict,
+    shown: Shown,
+) -> Result<Vec<u8>, Memory>
+    ensures { IfOk result (λ text. text.items ≡ picture_of shown set.now verdict.now) }
+{
+    let all_edges = conflict_edges(alloc, set)?;
+    let edges = all_edges.as_slice();
+    let steps = steps_in(alloc, edges, verdict)?;
     let mut out = Vec::new(alloc);
     out.extend_from_slice(HEAD)?;
     out.extend_from_slice(caption(verdict))?;
     out.extend_from_slice(LEGEND)?;
-    put_clusters(alloc, &mut out, set, edges.as_slice())?;
+    put_shown_programs(alloc, &mut out, set, verdict, shown, edges)?;
     out.extend_from_slice(CONFLICTS)?;
-    put_conflicts(alloc, &mut out, set, edges.as_slice(), steps.as_slice())?;
+    put_shown_conflicts(
+        alloc,
+        &mut out,
+        set,
+        verdict,
+        shown,
+        edges,
+        steps.as_slice(),
+    )?;
     out.extend_from_slice(style_of(verdict))?;
     put_steps(alloc, &mut out, set, steps.as_slice())?;
     out.extend_from_slice(b"}\n".as_slice())?;

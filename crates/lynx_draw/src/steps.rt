@@ -34,7 +34,7 @@ pub(crate) struct Step {
 }
 
 /// Whether some visit is of the program.
-fn visits(walk: &[Visit], program: ProgramId) -> bool
+pub(crate) fn visits(walk: &[Visit], program: ProgramId) -> bool
     ensures { result ≡ visits walk.now program }
 {
     walk.iter().any(|visit| visit.program == program)

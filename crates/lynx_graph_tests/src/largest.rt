@@ -1,6 +1,6 @@
 //! Sets of as many programs and hops as there may be.
 use crate::verdicts::gives;
-use lynx_draw::{conflict_edges, draw};
+use lynx_draw::{Shown, conflict_edges, draw};
 use lynx_graph::{BlockWalk, Walk};
 use lynx_names::Memory;
 use lynx_samples::texts::set_of;
@@ -55,7 +55,7 @@ fn counts(alloc: Global) -> Result<(usize, usize), Memory> {
         alloc,
         Verdict::Offending(Walk::new(alloc), BlockWalk::new(alloc)),
     )?;
-    let picture = draw(alloc, &set, &verdict)?;
+    let picture = draw(alloc, &set, &verdict, Shown::All)?;
     let lines = picture.iter().filter(|byte| **byte == b'\n').count();
     Ok((edges.len(), lines))
 }

@@ -1,6 +1,6 @@
 //! Calls on texts and sets, which stay as they are.
 use crate::tried::{Called, Tried, ended, made_again, of_result};
-use lynx_draw::{conflict_edges, draw};
+use lynx_draw::{Shown, conflict_edges, draw};
 use lynx_foot::footprint;
 use lynx_names::{Memory, ProgramId, TryCopy};
 use lynx_samples::made::program;
@@ -38,7 +38,7 @@ fn read_so<T: Drop>(answer: Result<T, TextFault>) -> Called {
 /// The picture of a set.
 fn picture(alloc: Global, set: &ChainSet) -> Result<Vec<u8>, Memory> {
     let verdict = check(alloc, set)?;
-    draw(alloc, set, &verdict)
+    draw(alloc, set, &verdict, Shown::All)
 }
 
 /// Makes it once.

@@ -1,5 +1,5 @@
 -- What the picture of a set is, as it is written.
-use Rattle.std.specs.Prelude.{◌≡◌, ◌≢◌, ◌⊎◌, ℕ, Option, List}
+use Rattle.std.specs.Prelude.{◌≡◌, ◌≢◌, ◌⊎◌, ℕ, Bool, Option, List, if◌then◌else◌}
 use Rattle.lynx_verdict.specs.declared.verdict.Verdict.{Verdict}
 use Rattle.lynx_verdict.specs.declared.verdict.Verdict.TheVariants.{Accepted as AcceptedVerdict, Offending as OffendingVerdict}
 use Rattle.lynx_verdict.specs.Reasons.{reason_of}
@@ -8,6 +8,8 @@ use Rattle.lynx_set.specs.Rules.{IsSet}
 use Rattle.lynx_set.specs.Set.{Set}
 use Rattle.lynx_set.specs.Text.{text_of}
 use Rattle.lynx_draw.specs.Picture.{picture_of}
+use Rattle.lynx_draw.specs.declared.shown.Shown.{Shown}
+use Rattle.lynx_draw.specs.declared.shown.Shown.TheVariants.{All, Walk}
 use Rattle.lynx_run.specs.declared.run.RunFault.{RunFault}
 use Rattle.lynx_run.specs.declared.run.RunFault.TheVariants.{Set as SetFault, Script as ScriptFault, Write, Memory}
 use Rattle.lynx_run.specs.declared.verdict.Finding.{Finding}
@@ -22,17 +24,21 @@ abbrev pub finding_of : Verdict → Finding
 finding_of (AcceptedVerdict own) = Accepted (reason_of own.excused)
 finding_of (OffendingVerdict walk blocks) = Offending
 
+-- the programs of the walk alone are shown, or all
+abbrev pub shown_by : Bool → Shown
+shown_by walk = if walk then Walk else All
+
 -- the picture shows the set and a verdict on it, and the finding is the verdict's
-abbrev pub IsDrawing : Set → Finding → List ℕ → Type 0
-IsDrawing chains finding picture =
-    (verdict : Verdict) × Judges chains verdict × (finding ≡ finding_of verdict) × (picture ≡ picture_of chains verdict)
+abbrev pub IsDrawing : Bool → Set → Finding → List ℕ → Type 0
+IsDrawing walk chains finding picture =
+    (verdict : Verdict) × Judges chains verdict × (finding ≡ finding_of verdict) × (picture ≡ picture_of (shown_by walk) chains verdict)
 
 -- what is found of a set text, and its picture
-pub record Draws (text : List ℕ) (finding : Finding) (picture : List ℕ) : Type 0 where
+pub record Draws (walk : Bool) (text : List ℕ) (finding : Finding) (picture : List ℕ) : Type 0 where
   pub chains : Set
   pub is_set : IsSet chains
   pub spelled : text ≡ text_of chains
-  pub drawing : IsDrawing chains finding picture
+  pub drawing : IsDrawing walk chains finding picture
 
 -- why no picture comes: a faulty text, and want of memory, are told before anything is written, and a text's fault is
 -- never want of memory
@@ -43,6 +49,6 @@ NoPictureFor set unwritten Write = Unit {0}
 NoPictureFor set unwritten Memory = unwritten
 
 -- Where a fault stops a drawing, nothing is written, or a beginning of the picture.
-abbrev pub BeginsPicture : List ℕ → Option (List ℕ) → Option (List ℕ) → Type 0
-BeginsPicture set old new =
-    Keeps old new ⊎ ((finding : Finding) × (picture : List ℕ) × Draws set finding picture × AppendsPart old new picture)
+abbrev pub BeginsPicture : Bool → List ℕ → Option (List ℕ) → Option (List ℕ) → Type 0
+BeginsPicture walk set old new =
+    Keeps old new ⊎ ((finding : Finding) × (picture : List ℕ) × Draws walk set finding picture × AppendsPart old new picture)

@@ -2,7 +2,7 @@
 #![tactic(auto)]
 
 pub use drawing::draw_text;
-pub use options::{CheckOptions, RunOptions};
+pub use options::{CheckOptions, DrawOptions, RunOptions};
 pub use owed::{OwedHop, owed_hops};
 pub use refusing::refuse_text;
 pub use run::{Ending, RunFault, run_texts};

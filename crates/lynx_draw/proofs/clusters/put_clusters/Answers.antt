@@ -1,16 +1,19 @@
-use Rattle.std.proofs.Common.{◌++◌, sym, ap, ◌∙◌, append_assoc}
-use Rattle.std.specs.List.{flat_map, range_with_len}
-use Rattle.lynx_graph.proofs.Lists.{flat_map-range_more}
+use Rattle.std.proofs.Common.{◌+◌, ◌++◌, ◌∷◌, ◌∙◌, ap, append_assoc, drop, sym}
+use Rattle.std.proofs.lemmas.List.{at_drop_more}
+use Rattle.std.specs.List.{flat_map}
 use Rattle.lynx_draw.specs.Clusters.{program_text}
 use Rattle.lynx_draw.proofs.clusters.put_clusters.Goals as goal
 
-pub loop-number-preserved : goal.loop-number-preserved
-loop-number-preserved c =
+pub loop-program-preserved : goal.loop-program-preserved
+loop-program-preserved c =
     let text = program_text c.args.set.now c.args.edges.now in
-    let number = c.loop-number.number in
-    let before = c.args.out.now.items in
-    c.in_ok-put_program.ensures
-    ∙ ap (λ p. c.loop-number.out.items ++ text p) c.program_of.ensures
-    ∙ ap (λ written. written ++ text number) c.loop-number.invariant
-    ∙ append_assoc before (flat_map text (range_with_len 0 number)) (text number)
-    ∙ ap (λ later. before ++ later) (sym (flat_map-range_more text number))
+    let programs = c.args.programs.now in
+    let place = c.loop-program.program-index in
+    let program = c.program-item.result in
+    let rest = drop (place + 1) programs in
+    let before = c.loop-program.out.items in
+    ap (λ written. written ++ flat_map text rest) c.in_ok-put_program.ensures
+    ∙ append_assoc before (text program) (flat_map text rest)
+    ∙ ap (λ first. before ++ flat_map text (first ∷ rest)) c.program-item.is
+    ∙ sym (at_drop_more (λ left. before ++ flat_map text left) programs place program c.loop-program-test.true)
+    ∙ c.loop-program.invariant

@@ -1,7 +1,7 @@
-use Rattle.std.proofs.Common.{◌≡◌, ◌++◌}
-use Rattle.std.specs.List.{flat_map, range_with_len}
-use Rattle.lynx_draw.specs.Clusters.{program_text}
+use Rattle.std.proofs.Common.{◌≡◌, ◌++◌, drop}
+use Rattle.lynx_draw.specs.Clusters.{clusters_text}
 use Rattle.lynx_draw.proofs.clusters.put_clusters.Given as goal
 
-abbrev pub invariant-loop-number : goal.invariant-loop-number
-invariant-loop-number l = l.out.items ≡ l.initial.out.items ++ flat_map (program_text l.set l.edges) (range_with_len 0 l.number)
+-- what is written and what is left are the whole
+abbrev pub invariant-loop-program : goal.invariant-loop-program
+invariant-loop-program l = l.out.items ++ clusters_text l.set l.edges (drop l.program-index l.programs) ≡ l.fn.out.items ++ clusters_text l.set l.edges l.programs

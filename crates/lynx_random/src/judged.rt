@@ -1,0 +1,126 @@
+//! The judgement on a script's text before it is written.
+ghost use Rattle.std.specs.Prelude.{◌≡◌, Bool, false, IsTrue, IfOk, IfErr, OnOk};
+ghost use Rattle.lynx_names.specs.declared.limits.TheConstants.{MAX_HELD};
+ghost use Rattle.lynx_world.specs.Steps.{step};
+ghost use Rattle.lynx_world.specs.Worlds.{new_world};
+ghost use Rattle.lynx_run.specs.Runs.{world_after};
+ghost use Rattle.lynx_random.specs.Samples.{EndsWell, HasCycle, IsSampleOver, OwesNothing};
+ghost use Rattle.lynx_random.specs.inner.Found.{NotFoundFor};
+
+use crate::fault::SampleFault;
+use lynx_entry::{Event, Outcome};
+use lynx_names::{Memory, TryCopy};
+use lynx_order::{Explained, explain};
+use lynx_run::owed_hops;
+use lynx_script::parse_script;
+use lynx_set::ChainSet;
+use lynx_words::{FaultKind, TextFault};
+use lynx_world::{World, empty_keepers};
+use std::alloc::Global;
+
+/// Whether the text is that of a script whose run leaves no hop owed and, where a cycle is asked for, ends with one.
+pub(crate) fn is_sample(
+    alloc: Global,
+    set: &ChainSet,
+    script: &[u8],
+    cycle: bool,
+) -> Result<bool, SampleFault>
+    ensures sample { IfOk result (λ is. IsTrue is → IsSampleOver cycle set.now script.now) }
+    ensures only { IfErr result (NotFoundFor cycle) }
+{
+    match parse_script(alloc, set, script) {
+        Ok(events) => Ok(run_ends_well(alloc, set, events, cycle)?),
+        Err(fault) => no_script(fault),
+    }
+}
+
+/// The text is that of no script, or it isn't known whether it is.
+fn no_script(fault: TextFault) -> Result<bool, SampleFault>
+    ensures never { IfOk result (λ is. is ≡ false) }
+    ensures only { IfErr result (λ fault. (cycle : Bool) → NotFoundFor cycle fault) }
+{
+    match fault.kind {
+        FaultKind::Memory => Err(SampleFault::Memory),
+        FaultKind::TooLong => Err(SampleFault::TooLong),
+        _ => Ok(false),
+    }
+}
+
+/// Whether a run of the events ends so.
+fn run_ends_well(
+    alloc: Global,
+    set: &ChainSet,
+    events: Vec<Event>,
+    cycle: bool,
+) -> Result<bool, Memory>
+    ensures { IfOk result (λ well. IsTrue well → EndsWell cycle set.now
+        (world_after (new_world set.now) events.items).list) }
+{
+    let world = world_of(alloc, set, events)?;
+    ends_well(alloc, &world, cycle)
+}
+
+/// Whether no chain of the world owes a hop and, where a cycle is asked for, one explains the world.
+fn ends_well(alloc: Global, world: &World, cycle: bool) -> Result<bool, Memory>
+    ensures { IfOk result (λ well. IsTrue well → EndsWell cycle world.now.set world.now.list) }
+{
+    if !owes_nothing(alloc, world)? {
+        return Ok(false);
+    }
+    if cycle {
+        has_cycle(alloc, world)
+    } else {
+        Ok(true)
+    }
+}
+
+/// Whether no chain of the world owes a hop.
+fn owes_nothing(alloc: Global, world: &World) -> Result<bool, Memory>
+    ensures { IfOk result (λ nothing. IsTrue nothing → OwesNothing world.now.set world.now.list) }
+{
+    let owed = owed_hops(alloc, world)?;
+    match owed.as_slice() {
+        [] => Ok(true),
+        _ => Ok(false),
+    }
+}
+
+/// Whether a cycle explains the world.
+fn has_cycle(alloc: Global, world: &World) -> Result<bool, Memory>
+    ensures { IfOk result (λ has. IsTrue has → HasCycle world.now.set world.now.list) }
+{
+    match explain(alloc, world)? {
+        Explained::Order(_) => Ok(false),
+        Explained::Cycle(_) => Ok(true),
+    }
+}
+
+/// The world after the events.
+fn world_of(alloc: Global, set: &ChainSet, events: Vec<Event>) -> Result<World, Memory>
+    ensures { IfOk result (λ world. world ≡ world_after (new_world set.now) events.items) }
+{
+    let keepers = empty_keepers(alloc, set)?;
+    let mut world = World::new(alloc, set.copy(alloc)?, keepers)?;
+    run_events(alloc, &mut world, events)?;
+    Ok(world)
+}
+
+/// Runs the events in order.
+fn run_events(alloc: Global, world: &mut World, events: Vec<Event>) -> Result<(), Memory>
+    ensures { OnOk result (world.new ≡ world_after world.old events.items) }
+{
+    for event in events {
+        run_event(alloc, world, event)?;
+    }
+    Ok(())
+}
+
+/// Runs one event, unless memory was wanting.
+fn run_event(alloc: Global, world: &mut World, event: Event) -> Result<(), Memory>
+    ensures { OnOk result (world.new ≡ (step MAX_HELD world.old event).world) }
+{
+    match world.apply(alloc, event) {
+        Outcome::Memory => Err(Memory),
+        _ => Ok(()),
+    }
+}

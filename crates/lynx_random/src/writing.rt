@@ -1,0 +1,20 @@
+//! Writing the bytes of a script.
+ghost use Rattle.std.specs.Prelude.{◌≡◌, IfErr, OnErr, OnOk};
+ghost use Rattle.std.specs.Io.KnownBytes.{Appends};
+ghost use Rattle.lynx_io.specs.Written.{AppendsPart};
+
+use crate::fault::SampleFault;
+use std::io::Write;
+
+/// Writes the bytes. Where it fails, a beginning of them is written.
+pub(crate) fn write_bytes<W: Write>(writer: &mut W, bytes: &[u8]) -> Result<(), SampleFault>
+    ensures all { OnOk result (Appends (W.contents writer.old) (W.contents writer.new) bytes.now) }
+    ensures part { OnErr result (AppendsPart (W.contents writer.old) (W.contents writer.new)
+        bytes.now) }
+    ensures fault { IfErr result (λ fault. fault ≡ SampleFault.Write) }
+{
+    match lynx_io::write_bytes(writer, bytes) {
+        Ok(()) => Ok(()),
+        Err(_) => Err(SampleFault::Write),
+    }
+}

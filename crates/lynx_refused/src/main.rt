@@ -9,16 +9,23 @@ use std::alloc::Global;
 use std::env;
 use std::process::ExitCode;
 use std::rt::Env;
+use std::sync::Wait;
+use std::thread::Threads;
+use std::time::Clock;
 
 mod openings;
+mod parts;
 mod servers;
+mod services;
 mod texts;
 mod tried;
 mod values;
 mod worlds;
 
 use openings::{OpeningCall, try_opening};
+use parts::{PartCall, try_part};
 use servers::{ServerCall, try_server};
+use services::{ServiceCall, try_service};
 use texts::{TextCall, try_text};
 use tried::Tried;
 use values::{ValueCall, try_value};
@@ -29,7 +36,9 @@ use worlds::{WorldCall, try_world};
 enum Call {
     Text(TextCall),
     Value(ValueCall),
+    Part(PartCall),
     Server(ServerCall),
+    Service(ServiceCall),
     Opening(OpeningCall),
     World(WorldCall),
 }
@@ -54,6 +63,8 @@ const CALLS: &[(&str, Call)] = &[
     ("Feed::next", Call::Value(ValueCall::Next)),
     ("encode", Call::Value(ValueCall::Encode)),
     ("links", Call::Value(ValueCall::Links)),
+    ("Sequencer::draw", Call::Part(PartCall::Draw)),
+    ("MemoryKeeper::commit", Call::Part(PartCall::Commit)),
     ("Server::begin", Call::Server(ServerCall::Begin)),
     ("Server::deliver", Call::Server(ServerCall::Deliver)),
     (
@@ -79,14 +90,22 @@ const CALLS: &[(&str, Call)] = &[
     ("World::cells", Call::World(WorldCall::Cells)),
     ("explain", Call::World(WorldCall::Explain)),
     ("owed_hops", Call::World(WorldCall::Owed)),
+    ("serve", Call::Service(ServiceCall::Serve)),
+    ("Cluster::begin", Call::Service(ServiceCall::Begin)),
 ];
 
 /// Makes it.
-fn make(alloc: Global, call: Call) -> Result<Tried, Memory> {
+fn make<R: Threads + Wait + Clock + Copy + Send + 'static>(
+    rt: R,
+    alloc: Global,
+    call: Call,
+) -> Result<Tried, Memory> {
     match call {
         Call::Text(call) => try_text(alloc, call),
         Call::Value(call) => try_value(alloc, call),
+        Call::Part(call) => try_part(alloc, call),
         Call::Server(call) => try_server(alloc, call),
+        Call::Service(call) => try_service(rt, alloc, call),
         Call::Opening(call) => try_opening(alloc, call),
         Call::World(call) => try_world(alloc, call),
     }
@@ -101,14 +120,18 @@ fn list(rt: &HostRuntime) -> u8 {
 }
 
 /// Makes the call of that name, prints what came of it and gives the status.
-fn make_named(rt: &HostRuntime, word: &str) -> u8 {
+fn make_named<R: Threads + Wait + Clock + Copy + Send + 'static>(
+    host: &HostRuntime,
+    rt: R,
+    word: &str,
+) -> u8 {
     let Some((_, call)) = CALLS.iter().find(|(name, _)| *name == word) else {
-        let _ = eprintln!(rt; "lynx_refused: there is no such call");
+        let _ = eprintln!(host; "lynx_refused: there is no such call");
         return 2;
     };
-    match make(rt.alloc(), *call) {
+    match make(rt, host.alloc(), *call) {
         Ok(tried) => {
-            let _ = println!(rt; "{}", tried.word());
+            let _ = println!(host; "{}", tried.word());
             0
         }
         Err(Memory) => 3,
@@ -116,20 +139,20 @@ fn make_named(rt: &HostRuntime, word: &str) -> u8 {
 }
 
 /// Does what the words ask for, and gives the status.
-fn obey(rt: &HostRuntime) -> u8 {
-    let Ok(args) = env::args(rt) else {
+fn obey<R: Threads + Wait + Clock + Copy + Send + 'static>(host: &HostRuntime, rt: R) -> u8 {
+    let Ok(args) = env::args(host) else {
         return 3;
     };
-    let Ok(words) = args.collect::<Vec<String>>(rt.alloc()) else {
+    let Ok(words) = args.collect::<Vec<String>>(host.alloc()) else {
         return 3;
     };
     match words.as_slice() {
-        [_] => list(rt),
-        [_, word] => make_named(rt, word.as_str()),
+        [_] => list(host),
+        [_, word] => make_named(host, rt, word.as_str()),
         _ => 2,
     }
 }
 
 fn main(rt: HostRuntime) -> ExitCode {
-    ExitCode::from(obey(&rt))
+    ExitCode::from(obey(&rt, rt))
 }

@@ -41,7 +41,7 @@ pub const SEED_FORM: &[u8] = &[
 ];
 
 /// Changes that write 100 into the first cell of the first table.
-fn changes(alloc: Global) -> Result<Changes, Memory> {
+pub fn changes(alloc: Global) -> Result<Changes, Memory> {
     let mut changes = Changes::new(alloc);
     let table = TableId::new(0).ok_or(Memory)?;
     changes.put(table, 0, 100)?;

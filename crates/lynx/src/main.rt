@@ -3,13 +3,12 @@
 
 use clap::error::ErrorKind;
 use clap::{ArgMatches, Error};
-use lynx_command::{CommandFault, command, job_of};
+use lynx_command::{CommandFault, Job, command, job_of, wants_hints};
 use lynx_files::Files;
-use lynx_jobs::{Fault, do_job};
+use lynx_jobs::{Fault, Hints, do_job};
 use lynx_keep::Keeper;
 use lynx_run::RunFault;
 use lynx_stores::Stores;
-use std::env;
 use std::io::{self, IsTerminal};
 use std::net::{Net, TcpListener, TcpStream};
 use std::process::ExitCode;
@@ -17,6 +16,7 @@ use std::rt::Env;
 use std::sync::Wait;
 use std::thread::Threads;
 use std::time::Clock;
+use std::{env, fs};
 
 /// The status of faulty words.
 const BAD_WORDS: u8 = 2;
@@ -58,11 +58,31 @@ fn command_line<'a, R: Env + AllocGlobal>(rt: &R) -> Result<Vec<String>, Fault<'
     }
 }
 
-/// Says what the program waits for: a person who gave no words may not know.
+/// Prints the lines behind that of a fault, if there are any.
+fn tell<R: Eprint>(rt: &R, hints: &Hints) {
+    if let Some(lines) = hints.lines() {
+        let _ = eprint!(rt; "{lines}");
+    }
+}
+
+/// Says what the program waits for: a person at a terminal may not know.
 fn prompt<R: Eprint>(rt: &R) {
     let _ = eprintln!(rt;
         "lynx: reading a set text, a line -- and a script (lynx --help tells more)"
     );
+}
+
+/// Says how a set is judged, where the first word is no command but names a file.
+fn suggest_check(rt: &HostRuntime, said: &Error, words: &[String]) {
+    if said.kind() != ErrorKind::InvalidSubcommand {
+        return;
+    }
+    let Some(word) = words.get(1) else {
+        return;
+    };
+    if fs::open(rt, word.as_str()).is_ok() {
+        let _ = eprintln!(rt; "lynx: to judge the set of a file: lynx check FILE");
+    }
 }
 
 /// Does what the matched words ask for, and gives the status.
@@ -78,13 +98,23 @@ fn do_matches<
     K: Keeper + Send + Drop + 'static,
     S: Stores<K>,
 >(host: &HostRuntime, rt: R, stores: &S, matches: &ArgMatches) -> u8 {
+    let mut hints = Hints::new(wants_hints(matches) || host.stderr().is_terminal());
     let done = match job_of(matches) {
-        Ok(job) => do_job(host, rt, stores, job),
+        Ok(job) => {
+            if matches!(job, Job::RunInput { .. }) && host.stdin().is_terminal() {
+                prompt(host);
+            }
+            do_job(host, rt, stores, job, &mut hints)
+        }
         Err(fault) => Err(Fault::Command(fault)),
     };
     match done {
         Ok(status) => status,
-        Err(fault) => report(host, &fault),
+        Err(fault) => {
+            let status = report(host, &fault);
+            tell(host, &hints);
+            status
+        }
     }
 }
 
@@ -106,18 +136,17 @@ fn obey<
     };
     match command.try_get_matches_from(words) {
         Ok(matches) => do_matches(host, rt, stores, &matches),
-        Err(said) => print_help(host, &said),
+        Err(said) => {
+            let status = print_help(host, &said);
+            suggest_check(host, &said, words);
+            status
+        }
     }
 }
 
 fn main(rt: HostRuntime) -> ExitCode {
     let status = match command_line(&rt) {
-        Ok(words) => {
-            if words.len() < 2 && rt.stdin().is_terminal() {
-                prompt(&rt);
-            }
-            obey(&rt, rt, &Files::new(rt), words.as_slice())
-        }
+        Ok(words) => obey(&rt, rt, &Files::new(rt), words.as_slice()),
         Err(fault) => report(&rt, &fault),
     };
     ExitCode::from(status)

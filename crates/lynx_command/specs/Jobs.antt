@@ -1,7 +1,7 @@
 -- What the words of the command line ask for.
 use Rattle.std.specs.Prelude.{◌≡◌, ◌≢◌, ◌⊎◌, ℕ, List, Option, Some, None, IsSome, Result, Ok, Err, codes, false}
 use Rattle.lynx_command.specs.declared.job.Job.{Job}
-use Rattle.lynx_command.specs.declared.job.Job.TheVariants.{Ask, Check, Draw, Run, RunInput, Serve, Show, Upgrade}
+use Rattle.lynx_command.specs.declared.job.Job.TheVariants.{Ask, Check, Draw, Run, RunInput, Sample, Serve, Show, Upgrade}
 use Rattle.lynx_command.specs.declared.job.RunFlags.{RunFlags}
 use Rattle.lynx_command.specs.declared.job.CommandFault.{CommandFault}
 use Rattle.lynx_command.specs.declared.job.CommandFault.TheVariants.{NoScript, ScriptTooMany, NoCommand, NotUtf8}
@@ -15,7 +15,8 @@ abbrev pub RunsAs : List ℕ → Option (List ℕ) → RunFlags → Result Job C
 RunsAs set script flags (Ok (RunInput own)) = (set ≡ codes "-") × (script ≡ None) × (own ≡ flags)
 RunsAs set script flags (Ok (Run own other given)) = (set ≢ codes "-") × (own.now ≡ set) × (script ≡ Some other.now) × (given ≡ flags)
 RunsAs set script flags (Ok (Check own why)) = ⊥
-RunsAs set script flags (Ok (Draw own)) = ⊥
+RunsAs set script flags (Ok (Draw own walk)) = ⊥
+RunsAs set script flags (Ok (Sample own asked)) = ⊥
 RunsAs set script flags (Ok (Show own)) = ⊥
 RunsAs set script flags (Ok (Upgrade own)) = ⊥
 RunsAs set script flags (Ok (Serve own folder port)) = ⊥
@@ -28,7 +29,8 @@ RunsAs set script flags (Err NotUtf8) = ⊥
 -- the command that asks for a job; standard input is asked for by no command at all, or by `run`
 abbrev pub AskedBy : Option (List ℕ) → Result Job CommandFault → Type 0
 AskedBy command (Ok (Check set why)) = command ≡ Some (codes "check")
-AskedBy command (Ok (Draw set)) = command ≡ Some (codes "draw")
+AskedBy command (Ok (Draw set walk)) = command ≡ Some (codes "draw")
+AskedBy command (Ok (Sample set flags)) = command ≡ Some (codes "sample")
 AskedBy command (Ok (Show store)) = command ≡ Some (codes "show")
 AskedBy command (Ok (Upgrade store)) = command ≡ Some (codes "upgrade")
 AskedBy command (Ok (Serve set folder port)) = command ≡ Some (codes "serve")
@@ -39,5 +41,5 @@ AskedBy command (Err NoScript) = command ≡ Some (codes "run")
 AskedBy command (Err ScriptTooMany) = command ≡ Some (codes "run")
 AskedBy command (Err NoCommand) =
     (command ≢ None) × (command ≢ Some (codes "check")) × (command ≢ Some (codes "draw")) × (command ≢ Some (codes "run")) × (command ≢ Some (codes "show"))
-    × (command ≢ Some (codes "upgrade")) × (command ≢ Some (codes "serve")) × (command ≢ Some (codes "ask"))
+    × (command ≢ Some (codes "upgrade")) × (command ≢ Some (codes "sample")) × (command ≢ Some (codes "serve")) × (command ≢ Some (codes "ask"))
 AskedBy command (Err NotUtf8) = ⊥

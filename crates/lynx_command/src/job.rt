@@ -19,6 +19,17 @@ pub(crate) const NO_FLAGS: RunFlags = RunFlags {
     owed: false,
 };
 
+/// What a random script is to be.
+#[derive(Clone, Copy, Debug, PartialEq, Eq)]
+pub struct SampleFlags {
+    /// What its choices are drawn from: the same seed gives the same script.
+    pub seed: u64,
+    /// Chains that begin, at most.
+    pub begins: u8,
+    /// Its run ends with a cycle.
+    pub cycle: bool,
+}
+
 /// What the words ask for, with files as they were named.
 #[derive(Clone, Copy, Debug, PartialEq, Eq)]
 pub enum Job<'a> {
@@ -27,9 +38,15 @@ pub enum Job<'a> {
         set: &'a str,
         why: bool,
     },
-    /// Draw the set of a file, with the verdict on it.
+    /// Draw the set of a file, with the verdict on it, or the programs alone by which it offends.
     Draw {
         set: &'a str,
+        walk: bool,
+    },
+    /// Make a random script for the set of a file.
+    Sample {
+        set: &'a str,
+        flags: SampleFlags,
     },
     /// Run the script of the second file over the set of the first.
     Run {

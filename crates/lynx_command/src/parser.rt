@@ -3,24 +3,37 @@ ghost use Rattle.std.specs.Prelude.{◌≡◌, Ok, None};
 ghost use Rattle.clap.specs.Matches.{subcommand_name_of};
 ghost use Rattle.lynx_command.specs.Jobs.{AskedBy, no_flags};
 
-use crate::job::{CommandFault, INPUT, Job, NO_FLAGS, RunFlags, job_of_run};
+use crate::job::{CommandFault, INPUT, Job, NO_FLAGS, RunFlags, SampleFlags, job_of_run};
 use clap::{Arg, ArgAction, ArgMatches, Command, value_parser};
 use std::alloc::{AllocError, Global};
 
-/// The statuses that the program ends with, and the words of faults, as the help tells them.
-const STATUSES: &str =
-    "Statuses:\n  0  done: the set is accepted, an order explains the run\n  1  the set offends, or the run ends with a cycle\n  2  faulty words or a faulty text\n  3  out of memory\n  4  a file, a store, a socket or a thread fails, or the audit at the end of a service";
+/// The statuses that the program ends with, and the words of faults, as the help tells them at its end.
+const STATUSES_AND_FAULTS: &str =
+    "Statuses:\n  0  done: the set is accepted, an order explains the run\n  1  the set offends, or the run ends with a cycle\n  2  faulty words or a faulty text\n  3  out of memory\n  4  a file, a store, a socket or a thread fails, or the audit at the end of a service\n\nA faulty text is told with its line and one of these words: too-long, bad-version, bad-line,\nbad-name, bad-number, repeated, unknown, need-not-first, limit-passed, literal-elsewhere,\nshard-gap, shard-overlap, shard-server. With --hints, and on a terminal, the place is shown.";
 
-const FAULTS: &str =
-    "A faulty text is told with its line and one of these words: too-long, bad-version, bad-line,\nbad-name, bad-number, repeated, unknown, need-not-first, limit-passed, literal-elsewhere,\nshard-gap, shard-overlap, shard-server.";
+/// The option of each command that reads a text.
+const HINTS: &str = "hints";
 
 /// The option of a check.
 const WHY: &str = "why";
+
+/// The option of a picture.
+const WALK: &str = "walk";
 
 /// The options of a run.
 const CHECKED: &str = "checked";
 
 const OWED: &str = "owed";
+
+/// The options of a random script.
+const SEED: &str = "seed";
+
+const BEGINS: &str = "begins";
+
+const CYCLE: &str = "cycle";
+
+/// Chains that begin in a random script, where the words don't say how many.
+const USUAL_BEGINS: u8 = 8;
 
 /// The set of a command that reads files alone.
 fn set_file<'a>(alloc: Global) -> Arg<'a> {
@@ -37,6 +50,15 @@ fn flag<'a>(alloc: Global, name: &'a str, help: &'a str) -> Arg<'a> {
         .help(help)
 }
 
+/// The option by which faults of texts show the place.
+fn hints_flag<'a>(alloc: Global) -> Arg<'a> {
+    flag(
+        alloc,
+        HINTS,
+        "Show behind the line of a fault where it is in the text, and what was expected, as on a terminal always",
+    )
+}
+
 fn check_command<'a>(alloc: Global) -> Result<Command<'a>, AllocError> {
     Command::new(alloc, "check")
         .about("Judge a set of chain programs")
@@ -48,7 +70,8 @@ fn check_command<'a>(alloc: Global) -> Result<Command<'a>, AllocError> {
             alloc,
             WHY,
             "Tell behind the verdict which hops may conflict, why each group of programs is fine, and which programs make\nthe server where they begin busy",
-        ))
+        ))?
+        .arg(hints_flag(alloc))
 }
 
 fn draw_command<'a>(alloc: Global) -> Result<Command<'a>, AllocError> {
@@ -57,7 +80,49 @@ fn draw_command<'a>(alloc: Global) -> Result<Command<'a>, AllocError> {
         .after_help(
             "Dashed lines join hops that may conflict, red steps are those by which the set offends.\nStatus 0 where the set is accepted, 1 where it offends: it is drawn all the same.\nExample: lynx draw payment.set | dot -Tsvg > payment.svg",
         )
-        .arg(set_file(alloc))
+        .arg(set_file(alloc))?
+        .arg(flag(
+            alloc,
+            WALK,
+            "Draw the programs of the walk alone by which the set offends, or would if it weren't excused",
+        ))?
+        .arg(hints_flag(alloc))
+}
+
+/// An option with a number.
+fn number<'a>(alloc: Global, name: &'a str, help: &'a str) -> Arg<'a> {
+    Arg::new(alloc, name)
+        .long(name)
+        .value_name("N")
+        .action(ArgAction::Set)
+        .help(help)
+}
+
+fn sample_command<'a>(alloc: Global) -> Result<Command<'a>, AllocError> {
+    Command::new(alloc, "sample")
+        .about("Print a random script for a set of chain programs")
+        .after_help(
+            "Chains begin, and messages are delivered, repeated, held up, lost and woken in some order, and servers opened\nagain; in the end no hop is owed. The same words give the same script.\nStatus 0, or 1 where --cycle finds none.\nExample: lynx sample payment.set --cycle | lynx run payment.set /dev/stdin",
+        )
+        .arg(set_file(alloc))?
+        .arg(number(
+            alloc,
+            SEED,
+            "What the choices are drawn from, 0 if left out",
+        )
+        .value_parser(value_parser!(u64)))?
+        .arg(number(
+            alloc,
+            BEGINS,
+            "Chains that begin at most, 1 to 100, 8 if left out",
+        )
+        .value_parser(value_parser!(u8).range(1..=100)))?
+        .arg(flag(
+            alloc,
+            CYCLE,
+            "Look for a script whose run ends with a cycle, among 1,000",
+        ))?
+        .arg(hints_flag(alloc))
 }
 
 fn run_command<'a>(alloc: Global) -> Result<Command<'a>, AllocError> {
@@ -81,7 +146,8 @@ fn run_command<'a>(alloc: Global) -> Result<Command<'a>, AllocError> {
             alloc,
             OWED,
             "Tell behind the last line each hop that a chain still owes",
-        ))
+        ))?
+        .arg(hints_flag(alloc))
 }
 
 fn show_command<'a>(alloc: Global) -> Result<Command<'a>, AllocError> {
@@ -127,7 +193,8 @@ fn serve_command<'a>(alloc: Global) -> Result<Command<'a>, AllocError> {
         )
         .arg(set_file(alloc))?
         .arg(folder)?
-        .arg(port(alloc))
+        .arg(port(alloc))?
+        .arg(hints_flag(alloc))
 }
 
 fn ask_command<'a>(alloc: Global) -> Result<Command<'a>, AllocError> {
@@ -137,7 +204,8 @@ fn ask_command<'a>(alloc: Global) -> Result<Command<'a>, AllocError> {
             "Lines:\n  begin CLIENT NUMBER PROGRAM ARG..  begin a chain; the same CLIENT and NUMBER never begin two\n  look ORIGIN:INDEX HOP              whether that hop of a chain is done, and its results\n  quit                               leave, as the end of the input does\n  shut                               have the service end\nExample: echo 'begin 1 1 pay 30' | lynx ask payment.set 7000",
         )
         .arg(set_file(alloc))?
-        .arg(port(alloc))
+        .arg(port(alloc))?
+        .arg(hints_flag(alloc))
 }
 
 /// The program without its commands.
@@ -145,10 +213,9 @@ fn bare_command<'a>(alloc: Global) -> Command<'a> {
     Command::new(alloc, "lynx")
         .version("0.1.0")
         .about(
-            "Judges, draws and runs sets of chain programs, serves them to clients, and lists and upgrades stores",
+            "A transaction-chain store: judges, draws and runs sets of chain programs, makes scripts for them, serves them to\nclients, and lists and upgrades stores",
         )
-        .before_help(FAULTS)
-        .after_help(STATUSES)
+        .after_help(STATUSES_AND_FAULTS)
 }
 
 fn with_check<'a>(alloc: Global, command: Command<'a>) -> Result<Command<'a>, AllocError> {
@@ -157,6 +224,10 @@ fn with_check<'a>(alloc: Global, command: Command<'a>) -> Result<Command<'a>, Al
 
 fn with_draw<'a>(alloc: Global, command: Command<'a>) -> Result<Command<'a>, AllocError> {
     command.subcommand(draw_command(alloc)?)
+}
+
+fn with_sample<'a>(alloc: Global, command: Command<'a>) -> Result<Command<'a>, AllocError> {
+    command.subcommand(sample_command(alloc)?)
 }
 
 fn with_run<'a>(alloc: Global, command: Command<'a>) -> Result<Command<'a>, AllocError> {
@@ -183,6 +254,7 @@ fn with_ask<'a>(alloc: Global, command: Command<'a>) -> Result<Command<'a>, Allo
 pub fn command<'a>(alloc: Global) -> Result<Command<'a>, AllocError> {
     let command = with_check(alloc, bare_command(alloc))?;
     let command = with_run(alloc, with_draw(alloc, command)?)?;
+    let command = with_sample(alloc, command)?;
     let command = with_upgrade(alloc, with_show(alloc, command)?)?;
     let command = with_serve(alloc, command)?;
     with_ask(alloc, command)
@@ -201,6 +273,23 @@ fn flags_of(words: &ArgMatches<'_>) -> RunFlags {
     }
 }
 
+/// What a random script is to be. The parser lets no other words through.
+fn sample_flags_of(words: &ArgMatches<'_>) -> SampleFlags {
+    SampleFlags {
+        seed: words.get_one(SEED).unwrap_or_default(),
+        begins: words.get_one(BEGINS).unwrap_or(USUAL_BEGINS),
+        cycle: words.get_flag(CYCLE),
+    }
+}
+
+/// Whether the words ask for the place of a fault in a text.
+pub fn wants_hints(matches: &ArgMatches<'_>) -> bool {
+    match matches.subcommand() {
+        Some((_, words)) => words.get_flag(HINTS),
+        None => false,
+    }
+}
+
 /// What the words ask for.
 pub fn job_of<'a>(matches: &ArgMatches<'a>) -> Result<Job<'a>, CommandFault>
     ensures no_words { subcommand_name_of matches.now ≡ None → result ≡ Ok (Job.RunInput no_flags) }
@@ -215,7 +304,14 @@ pub fn job_of<'a>(matches: &ArgMatches<'a>) -> Result<Job<'a>, CommandFault>
             set,
             why: words.get_flag(WHY),
         }),
-        "draw" => Ok(Job::Draw { set }),
+        "draw" => Ok(Job::Draw {
+            set,
+            walk: words.get_flag(WALK),
+        }),
+        "sample" => Ok(Job::Sample {
+            set,
+            flags: sample_flags_of(words),
+        }),
         "run" => job_of_run(set, words.get_str("SCRIPT"), flags_of(words)),
         "show" => Ok(Job::Show {
             store: words.get_str("STORE").unwrap_or(INPUT),

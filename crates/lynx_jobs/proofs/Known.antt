@@ -1,5 +1,5 @@
 -- What is done with sources whose bytes are known.
-use Rattle.std.proofs.Common.{◌≡◌, ℕ, List, Option, Some, None, ◌∙◌, subst}
+use Rattle.std.proofs.Common.{◌≡◌, ℕ, Bool, List, Option, Some, None, ◌∙◌, subst}
 use Rattle.std.specs.Prelude.{Result, Ok, Err, IfOk, IfSome, take}
 use Rattle.lynx_input.specs.declared.source.TheConstants.{MAX_FILE_BYTES, MAX_INPUT_BYTES}
 use Rattle.lynx_input.specs.Inputs.{IsCut}
@@ -7,8 +7,10 @@ use Rattle.std.specs.Io.KnownBytes.{Appends}
 use Rattle.lynx_run.specs.declared.verdict.Finding.{Finding}
 use Rattle.lynx_run.specs.Checks.{Finds}
 use Rattle.lynx_run.specs.declared.options.CheckOptions.{CheckOptions}
+use Rattle.lynx_run.specs.declared.options.DrawOptions.{DrawOptions}
 use Rattle.lynx_run.specs.Drawings.{Draws}
-use Rattle.lynx_jobs.specs.Done.{HasChecked, HasDrawn, HasRun, HasRunAs, HasRunInput}
+use Rattle.lynx_random.specs.Samples.{IsSample}
+use Rattle.lynx_jobs.specs.Done.{HasChecked, HasDrawn, HasRun, HasRunAs, HasRunInput, HasSampled}
 use Rattle.lynx_command.specs.declared.job.RunFlags.{RunFlags}
 use Rattle.lynx_jobs.specs.Statuses.{status_of_finding}
 use Rattle.lynx_jobs.specs.Stopped.{IsFront}
@@ -28,16 +30,29 @@ checked_known options (Some bytes) text slice old new finding status front same 
 }
 
 -- a picture of one source
-pub drawn_known : (known : Option (List ℕ)) (text slice : List ℕ) (old new : Option (List ℕ)) (finding : Finding) (status : ℕ) →
+pub drawn_known : (options : DrawOptions) (known : Option (List ℕ)) (text slice : List ℕ) (old new : Option (List ℕ)) (finding : Finding) (status : ℕ) →
     IsFront MAX_FILE_BYTES known text → slice ≡ text → status ≡ status_of_finding finding →
-    (picture : List ℕ) × Draws slice finding picture × Appends old new picture →
-    IfSome known (λ bytes. HasDrawn bytes old new status)
-drawn_known None text slice old new finding status front same status_is drawn = front
-drawn_known (Some bytes) text slice old new finding status front same status_is drawn = record {
+    (picture : List ℕ) × Draws options.walk slice finding picture × Appends old new picture →
+    IfSome known (λ bytes. HasDrawn options bytes old new status)
+drawn_known options None text slice old new finding status front same status_is drawn = front
+drawn_known options (Some bytes) text slice old new finding status front same status_is drawn = record {
   finding = finding;
   picture = drawn.0;
-  draws = subst (λ (read : List ℕ). Draws read finding drawn.0) (same ∙ front) drawn.1;
+  draws = subst (λ (read : List ℕ). Draws options.walk read finding drawn.0) (same ∙ front) drawn.1;
   written = drawn.2;
+  status_is = status_is;
+}
+
+-- a script for the set of one source
+pub sampled_known : (cycle : Bool) (known : Option (List ℕ)) (text slice : List ℕ) (old new : Option (List ℕ)) (status : ℕ) →
+    IsFront MAX_FILE_BYTES known text → slice ≡ text → status ≡ 0 →
+    (script : List ℕ) × IsSample cycle slice script × Appends old new script →
+    IfSome known (λ bytes. HasSampled cycle bytes old new status)
+sampled_known cycle None text slice old new status front same status_is sampled = front
+sampled_known cycle (Some bytes) text slice old new status front same status_is sampled = record {
+  script = sampled.0;
+  sample = subst (λ (read : List ℕ). IsSample cycle read sampled.0) (same ∙ front) sampled.1;
+  written = sampled.2;
   status_is = status_is;
 }
 

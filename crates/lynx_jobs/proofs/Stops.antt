@@ -10,13 +10,16 @@ use Rattle.lynx_run.specs.declared.run.RunFault.TheVariants.{Memory}
 use Rattle.lynx_run.specs.Checks.{BeginsFinding, NoVerdictFor}
 use Rattle.lynx_run.specs.Drawings.{BeginsPicture, NoPictureFor}
 use Rattle.lynx_run.specs.Runs.{StopsFor}
+use Rattle.lynx_random.specs.Samples.{BeginsSample, NoSampleFor}
+use Rattle.lynx_random.specs.declared.fault.SampleFault.{SampleFault}
 use Rattle.lynx_jobs.specs.declared.fault.Fault.{Fault}
-use Rattle.lynx_jobs.specs.declared.fault.Fault.TheVariants.{Ask, Command, NoSeparator, Unread, Run, Serve, Store}
-use Rattle.lynx_jobs.specs.Stopped.{IsFront, StopsChecking, StopsDrawing, StopsJudging, StopsReading, StopsRun, StopsRunAs, StopsRunInput, StopsRunJudged, StopsRunTexts}
+use Rattle.lynx_jobs.specs.declared.fault.Fault.TheVariants.{Ask, Command, NoSeparator, Unread, Run, Sample, Serve, Store}
+use Rattle.lynx_jobs.specs.Stopped.{IsFront, StopsChecking, StopsDrawing, StopsJudging, StopsReading, StopsRun, StopsRunAs, StopsRunInput, StopsRunJudged, StopsRunTexts, StopsSampling, sampling_fault}
 use Rattle.lynx_jobs.specs.Done.{HasRunJudged, HasRunTexts, IsAccepted, options_of}
 use Rattle.std.specs.Bool.{MatchBool}
 use Rattle.lynx_command.specs.declared.job.RunFlags.{RunFlags}
 use Rattle.lynx_run.specs.declared.options.CheckOptions.{CheckOptions}
+use Rattle.lynx_run.specs.declared.options.DrawOptions.{DrawOptions}
 use Rattle.lynx_run.specs.declared.options.RunOptions.{RunOptions}
 
 -- every source has a front
@@ -37,19 +40,26 @@ check_unread options (Err (Command fault)) source name old never = absurd never
 check_unread options (Err (Store fault)) source name old never = absurd never
 check_unread options (Err (Serve fault)) source name old never = absurd never
 check_unread options (Err (Ask fault)) source name old never = absurd never
+check_unread options (Err (Sample fault)) source name old never = absurd never
 
-pub drawing_unread : (result : Result ℕ Fault) (source : Option (List ℕ)) (name : List ℕ) (old : Option (List ℕ)) → IfErr result (StopsReading name) →
-    IfErr result (StopsDrawing source name old old)
-drawing_unread (Ok status) source name old unread = tt
-drawing_unread (Err (Unread shown)) source name old same = (same, Keeps-refl old)
-drawing_unread (Err (Run fault)) source name old wanting =
+pub drawing_unread : (options : DrawOptions) (result : Result ℕ Fault) (source : Option (List ℕ)) (name : List ℕ) (old : Option (List ℕ)) → IfErr result (StopsReading name) →
+    IfErr result (StopsDrawing options source name old old)
+drawing_unread options (Ok status) source name old unread = tt
+drawing_unread options (Err (Unread shown)) source name old same = (same, Keeps-refl old)
+drawing_unread options (Err (Run fault)) source name old wanting =
     let front = front_of MAX_FILE_BYTES source in
     (front.0, front.1, subst (NoPictureFor front.0 (Keeps old old)) (sym wanting) (Keeps-refl old), inl (Keeps-refl old))
-drawing_unread (Err NoSeparator) source name old never = absurd never
-drawing_unread (Err (Command fault)) source name old never = absurd never
-drawing_unread (Err (Store fault)) source name old never = absurd never
-drawing_unread (Err (Serve fault)) source name old never = absurd never
-drawing_unread (Err (Ask fault)) source name old never = absurd never
+drawing_unread options (Err NoSeparator) source name old never = absurd never
+drawing_unread options (Err (Command fault)) source name old never = absurd never
+drawing_unread options (Err (Store fault)) source name old never = absurd never
+drawing_unread options (Err (Serve fault)) source name old never = absurd never
+drawing_unread options (Err (Ask fault)) source name old never = absurd never
+drawing_unread options (Err (Sample fault)) source name old never = absurd never
+
+pub sampling_unread : (cycle : Bool) (result : Result ℕ Fault) (source : Option (List ℕ)) (name : List ℕ) (old : Option (List ℕ)) → IfErr result (StopsReading name) →
+    IfErr result (StopsSampling cycle source name old old)
+sampling_unread cycle (Ok status) source name old unread = tt
+sampling_unread cycle (Err fault) source name old unread = inl (unread, Keeps-refl old)
 
 -- two sources, one of which wasn't read
 both_ways : {A B : Type 0} (way : Bool) → A → B → MatchBool way A B
@@ -90,6 +100,7 @@ run_without_set flags (Err (Command fault)) set set_name script script_name old 
 run_without_set flags (Err (Store fault)) set set_name script script_name old never = absurd never
 run_without_set flags (Err (Serve fault)) set set_name script script_name old never = absurd never
 run_without_set flags (Err (Ask fault)) set set_name script script_name old never = absurd never
+run_without_set flags (Err (Sample fault)) set set_name script script_name old never = absurd never
 
 pub run_without_script : (flags : RunFlags) (result : Result ℕ Fault) (set : Option (List ℕ)) (set_name : List ℕ) (script : Option (List ℕ)) (script_name : List ℕ) (old : Option (List ℕ)) →
     IfErr result (StopsReading script_name) → IfErr result (StopsRun flags set set_name script script_name old old)
@@ -101,6 +112,7 @@ run_without_script flags (Err (Command fault)) set set_name script script_name o
 run_without_script flags (Err (Store fault)) set set_name script script_name old never = absurd never
 run_without_script flags (Err (Serve fault)) set set_name script script_name old never = absurd never
 run_without_script flags (Err (Ask fault)) set set_name script script_name old never = absurd never
+run_without_script flags (Err (Sample fault)) set set_name script script_name old never = absurd never
 
 -- a source that was read
 read_front : (limit : ℕ) (source : Option (List ℕ)) (read slice : List ℕ) → IsFront limit source read → slice ≡ read → IsFront limit source slice
@@ -110,9 +122,21 @@ pub check_stops : (options : CheckOptions) (source : Option (List ℕ)) (name re
     slice ≡ read → NoVerdictFor slice (Keeps old new) fault → BeginsFinding options.why slice old new → StopsChecking options source name old new (Run fault)
 check_stops options source name read slice old new fault front same why begun = (slice, read_front MAX_FILE_BYTES source read slice front same, why, begun)
 
-pub drawing_stops : (source : Option (List ℕ)) (name read slice : List ℕ) (old new : Option (List ℕ)) (fault : RunFault) → IsFront MAX_FILE_BYTES source read →
-    slice ≡ read → NoPictureFor slice (Keeps old new) fault → BeginsPicture slice old new → StopsDrawing source name old new (Run fault)
-drawing_stops source name read slice old new fault front same why begun = (slice, read_front MAX_FILE_BYTES source read slice front same, why, begun)
+pub drawing_stops : (options : DrawOptions) (source : Option (List ℕ)) (name read slice : List ℕ) (old new : Option (List ℕ)) (fault : RunFault) → IsFront MAX_FILE_BYTES source read →
+    slice ≡ read → NoPictureFor slice (Keeps old new) fault → BeginsPicture options.walk slice old new → StopsDrawing options source name old new (Run fault)
+drawing_stops options source name read slice old new fault front same why begun = (slice, read_front MAX_FILE_BYTES source read slice front same, why, begun)
+
+pub sampling_stops : (cycle : Bool) (source : Option (List ℕ)) (name read slice : List ℕ) (old new : Option (List ℕ)) (found : SampleFault) (fault : Fault) →
+    IsFront MAX_FILE_BYTES source read → slice ≡ read → fault ≡ sampling_fault found → NoSampleFor cycle slice (Keeps old new) found →
+    BeginsSample cycle slice old new → StopsSampling cycle source name old new fault
+sampling_stops cycle source name read slice old new found fault front same told why begun = inr (record {
+  text = slice;
+  front = read_front MAX_FILE_BYTES source read slice front same;
+  found = found;
+  told = told;
+  stops = why;
+  part = begun;
+})
 
 -- two sources that were read
 pub run_stops : (flags : RunFlags) (result : Result ℕ Fault) (set : Option (List ℕ)) (set_name : List ℕ) (script : Option (List ℕ)) (script_name : List ℕ)
@@ -133,6 +157,7 @@ run_stops flags (Err (Command fault)) set set_name script script_name set_read s
 run_stops flags (Err (Store fault)) set set_name script script_name set_read script_read set_slice script_slice old new set_is script_is s t stops = absurd (never_as _ flags.checked stops)
 run_stops flags (Err (Serve fault)) set set_name script script_name set_read script_read set_slice script_slice old new set_is script_is s t stops = absurd (never_as _ flags.checked stops)
 run_stops flags (Err (Ask fault)) set set_name script script_name set_read script_read set_slice script_slice old new set_is script_is s t stops = absurd (never_as _ flags.checked stops)
+run_stops flags (Err (Sample fault)) set set_name script script_name set_read script_read set_slice script_slice old new set_is script_is s t stops = absurd (never_as _ flags.checked stops)
 
 -- an input without a separator
 pub input_uncut : (source : Option (List ℕ)) (read slice : List ℕ) (old : Option (List ℕ)) → IsFront MAX_INPUT_BYTES source read → slice ≡ read → HasNoCut slice →
@@ -165,3 +190,4 @@ input_stops (Err (Command fault)) flags source name input slice set script old n
 input_stops (Err (Store fault)) flags source name input slice set script old new front same cut stops = absurd (never_as _ flags.checked stops)
 input_stops (Err (Serve fault)) flags source name input slice set script old new front same cut stops = absurd (never_as _ flags.checked stops)
 input_stops (Err (Ask fault)) flags source name input slice set script old new front same cut stops = absurd (never_as _ flags.checked stops)
+input_stops (Err (Sample fault)) flags source name input slice set script old new front same cut stops = absurd (never_as _ flags.checked stops)

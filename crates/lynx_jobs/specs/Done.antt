@@ -1,5 +1,5 @@
 -- What a job that is done has written, where the bytes of its sources are known.
-use Rattle.std.specs.Prelude.{◌≡◌, ◌⊎◌, ℕ, List, Option, take}
+use Rattle.std.specs.Prelude.{◌≡◌, ◌⊎◌, ℕ, Bool, List, Option, take}
 use Rattle.std.specs.Bool.{MatchBool}
 use Rattle.std.specs.Io.KnownBytes.{Appends}
 use Rattle.lynx_input.specs.declared.source.TheConstants.{MAX_FILE_BYTES, MAX_INPUT_BYTES}
@@ -10,10 +10,12 @@ use Rattle.lynx_run.specs.Checks.{Finds}
 use Rattle.lynx_run.specs.Drawings.{Draws}
 use Rattle.lynx_command.specs.declared.job.RunFlags.{RunFlags}
 use Rattle.lynx_run.specs.declared.options.CheckOptions.{CheckOptions}
+use Rattle.lynx_run.specs.declared.options.DrawOptions.{DrawOptions}
 use Rattle.lynx_run.specs.declared.options.RunOptions.{RunOptions}
 use Rattle.lynx_run.specs.declared.verdict.Finding.TheVariants.{Accepted, Offending}
 use Rattle.lynx_run.specs.Options.{PrintsWith}
 use Rattle.lynx_run.specs.Refusals.{Refuses}
+use Rattle.lynx_random.specs.Samples.{IsSample}
 use Rattle.lynx_verdict.specs.declared.accepted.Reason.{Reason}
 use Rattle.lynx_jobs.specs.Statuses.{status_of_finding, status_of_ending}
 
@@ -26,11 +28,11 @@ pub record HasChecked (options : CheckOptions) (source : List ℕ) (old new : Op
   pub written : Appends old new printed
   pub status_is : status ≡ status_of_finding finding
 
--- the picture of the set that the source begins with is written, and the status is that of the verdict drawn in it
-pub record HasDrawn (source : List ℕ) (old new : Option (List ℕ)) (status : ℕ) : Type 0 where
+-- the picture of the set that the source begins with is written, of all its programs or of those of the walk alone, and the status is that of the verdict drawn in it
+pub record HasDrawn (options : DrawOptions) (source : List ℕ) (old new : Option (List ℕ)) (status : ℕ) : Type 0 where
   pub finding : Finding
   pub picture : List ℕ
-  pub draws : Draws (take MAX_FILE_BYTES source) finding picture
+  pub draws : Draws options.walk (take MAX_FILE_BYTES source) finding picture
   pub written : Appends old new picture
   pub status_is : status ≡ status_of_finding finding
 
@@ -78,3 +80,10 @@ pub record HasRunInput (flags : RunFlags) (input : List ℕ) (old new : Option (
   pub script : List ℕ
   pub cut : IsCut (take MAX_INPUT_BYTES input) set script
   pub run : HasRunAs flags set script old new status
+
+-- a random script for the set that the source begins with is written, and the status is 0
+pub record HasSampled (cycle : Bool) (source : List ℕ) (old new : Option (List ℕ)) (status : ℕ) : Type 0 where
+  pub script : List ℕ
+  pub sample : IsSample cycle (take MAX_FILE_BYTES source) script
+  pub written : Appends old new script
+  pub status_is : status ≡ 0

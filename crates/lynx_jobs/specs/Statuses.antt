@@ -1,9 +1,11 @@
 -- The exit statuses.
 use Rattle.std.specs.Prelude.{ℕ, Bool, false, Result, Ok, Err}
 use Rattle.lynx_jobs.specs.declared.fault.Fault.{Fault}
-use Rattle.lynx_jobs.specs.declared.fault.Fault.TheVariants.{Ask, Command, NoSeparator, Unread, Run, Serve, Store}
+use Rattle.lynx_jobs.specs.declared.fault.Fault.TheVariants.{Ask, Command, NoSeparator, Unread, Run, Sample, Serve, Store}
 use Rattle.lynx_ask.specs.declared.fault.AskFault.{AskFault}
 use Rattle.lynx_ask.specs.declared.fault.AskFault.TheVariants.{Line}
+use Rattle.lynx_random.specs.declared.fault.SampleFault.{SampleFault}
+use Rattle.lynx_random.specs.declared.fault.SampleFault.TheVariants.{NoCycle, TooLong, Set as NoSet, Write as Unwritten, Memory as NoRoom}
 use Rattle.lynx_run.specs.declared.run.RunFault.TheVariants.{Set as SetFault, Script as ScriptFault, Write, Memory}
 use Rattle.lynx_run.specs.declared.run.Ending.{Ending}
 use Rattle.lynx_run.specs.declared.run.Ending.TheVariants.{Ordered, Cyclic}
@@ -14,6 +16,14 @@ use Rattle.lynx_run.specs.declared.verdict.Finding.TheVariants.{Accepted, Offend
 abbrev pub status_of_asking : AskFault → ℕ
 status_of_asking (Line fault) = 2
 status_of_asking fault = 4
+
+-- of making a script: 1 where no run ended with a cycle, 2 where the script would be too long, and else as of a run
+abbrev pub status_of_sampling : SampleFault → ℕ
+status_of_sampling NoCycle = 1
+status_of_sampling TooLong = 2
+status_of_sampling (NoSet fault) = 2
+status_of_sampling Unwritten = 4
+status_of_sampling NoRoom = 3
 
 -- 2: the words or a text. 3: want of memory. 4: what can't be read or written
 abbrev pub status_of : Fault → ℕ
@@ -27,6 +37,7 @@ status_of (Run Memory) = 3
 status_of (Store fault) = 4
 status_of (Serve fault) = 4
 status_of (Ask fault) = status_of_asking fault
+status_of (Sample fault) = status_of_sampling fault
 
 -- of a check and of a picture: 0 where the set is accepted, 1 where it offends
 abbrev pub status_of_finding : Finding → ℕ

@@ -1,21 +1,25 @@
 -- Why a job stops, and what it has written by then: told of what was read of its sources.
-use Rattle.std.specs.Prelude.{◌≡◌, ◌⊎◌, ℕ, List, Option, IfSome, take}
+use Rattle.std.specs.Prelude.{◌≡◌, ◌⊎◌, ℕ, Bool, List, Option, IfSome, take}
 use Rattle.std.specs.Io.KnownBytes.{Keeps}
 use Rattle.lynx_input.specs.declared.source.TheConstants.{MAX_FILE_BYTES, MAX_INPUT_BYTES}
 use Rattle.lynx_input.specs.Inputs.{HasNoCut, IsCut}
-use Rattle.lynx_run.specs.declared.run.RunFault.TheVariants.{Memory}
+use Rattle.lynx_run.specs.declared.run.RunFault.TheVariants.{Memory, Set as SetFault, Write}
 use Rattle.lynx_run.specs.Checks.{BeginsFinding, NoVerdictFor}
 use Rattle.lynx_run.specs.Drawings.{BeginsPicture, NoPictureFor}
 use Rattle.lynx_run.specs.Runs.{StopsFor}
 use Rattle.std.specs.Bool.{MatchBool}
 use Rattle.lynx_command.specs.declared.job.RunFlags.{RunFlags}
 use Rattle.lynx_run.specs.declared.options.CheckOptions.{CheckOptions}
+use Rattle.lynx_run.specs.declared.options.DrawOptions.{DrawOptions}
 use Rattle.lynx_run.specs.declared.options.RunOptions.{RunOptions}
 use Rattle.lynx_run.specs.Options.{WritesPartWith}
+use Rattle.lynx_random.specs.Samples.{BeginsSample, NoSampleFor}
+use Rattle.lynx_random.specs.declared.fault.SampleFault.{SampleFault}
+use Rattle.lynx_random.specs.declared.fault.SampleFault.TheVariants.{NoCycle, TooLong, Set as NoSet, Write as Unwritten, Memory as NoRoom}
 use Rattle.lynx_run.specs.Refusals.{BeginsRefusal}
 use Rattle.lynx_jobs.specs.Done.{IsAccepted, options_of}
 use Rattle.lynx_jobs.specs.declared.fault.Fault.{Fault}
-use Rattle.lynx_jobs.specs.declared.fault.Fault.TheVariants.{Ask, Command, NoSeparator, Unread, Run, Serve, Store}
+use Rattle.lynx_jobs.specs.declared.fault.Fault.TheVariants.{Ask, Command, NoSeparator, Unread, Run, Sample, Serve, Store}
 
 -- what is read of a source, up to a limit, where the source's bytes are known
 abbrev pub IsFront : ℕ → Option (List ℕ) → List ℕ → Type 0
@@ -30,6 +34,7 @@ StopsReading name (Command fault) = ⊥
 StopsReading name (Store fault) = ⊥
 StopsReading name (Serve fault) = ⊥
 StopsReading name (Ask fault) = ⊥
+StopsReading name (Sample fault) = ⊥
 
 -- a check: the source of this name can't be read, and nothing is written; or the text that was read has no verdict, or
 -- memory or the writer fails, and nothing is written or a beginning of the verdict
@@ -42,17 +47,19 @@ StopsChecking options source name old new (Command fault) = ⊥
 StopsChecking options source name old new (Store fault) = ⊥
 StopsChecking options source name old new (Serve fault) = ⊥
 StopsChecking options source name old new (Ask fault) = ⊥
+StopsChecking options source name old new (Sample fault) = ⊥
 
 -- a drawing: the same of the picture, and where memory is wanting nothing is written
-abbrev pub StopsDrawing : Option (List ℕ) → List ℕ → Option (List ℕ) → Option (List ℕ) → Fault → Type 0
-StopsDrawing source name old new (Unread shown) = (shown.name.now ≡ name) × Keeps old new
-StopsDrawing source name old new (Run fault) =
-    (text : List ℕ) × IsFront MAX_FILE_BYTES source text × NoPictureFor text (Keeps old new) fault × BeginsPicture text old new
-StopsDrawing source name old new NoSeparator = ⊥
-StopsDrawing source name old new (Command fault) = ⊥
-StopsDrawing source name old new (Store fault) = ⊥
-StopsDrawing source name old new (Serve fault) = ⊥
-StopsDrawing source name old new (Ask fault) = ⊥
+abbrev pub StopsDrawing : DrawOptions → Option (List ℕ) → List ℕ → Option (List ℕ) → Option (List ℕ) → Fault → Type 0
+StopsDrawing options source name old new (Unread shown) = (shown.name.now ≡ name) × Keeps old new
+StopsDrawing options source name old new (Run fault) =
+    (text : List ℕ) × IsFront MAX_FILE_BYTES source text × NoPictureFor text (Keeps old new) fault × BeginsPicture options.walk text old new
+StopsDrawing options source name old new NoSeparator = ⊥
+StopsDrawing options source name old new (Command fault) = ⊥
+StopsDrawing options source name old new (Store fault) = ⊥
+StopsDrawing options source name old new (Serve fault) = ⊥
+StopsDrawing options source name old new (Ask fault) = ⊥
+StopsDrawing options source name old new (Sample fault) = ⊥
 
 -- a run of this script over this set: one of them is faulty, and nothing is written; or memory or the writer fails, and
 -- nothing is written or a beginning of the run's lines
@@ -64,6 +71,7 @@ StopsRunTexts options set script old new (Command fault) = ⊥
 StopsRunTexts options set script old new (Store fault) = ⊥
 StopsRunTexts options set script old new (Serve fault) = ⊥
 StopsRunTexts options set script old new (Ask fault) = ⊥
+StopsRunTexts options set script old new (Sample fault) = ⊥
 
 -- the judging of a set before a run: the set is faulty, and nothing is written; or memory or the writer fails, and nothing
 -- is written or a beginning of the verdict that it offends
@@ -75,6 +83,7 @@ StopsJudging set old new (Command fault) = ⊥
 StopsJudging set old new (Store fault) = ⊥
 StopsJudging set old new (Serve fault) = ⊥
 StopsJudging set old new (Ask fault) = ⊥
+StopsJudging set old new (Sample fault) = ⊥
 
 -- the judging stops, or the run over a set that is accepted
 abbrev pub StopsRunJudged : RunOptions → List ℕ → List ℕ → Option (List ℕ) → Option (List ℕ) → Fault → Type 0
@@ -99,6 +108,7 @@ StopsRun flags set set_name script script_name old new (Command fault) = ⊥
 StopsRun flags set set_name script script_name old new (Store fault) = ⊥
 StopsRun flags set set_name script script_name old new (Serve fault) = ⊥
 StopsRun flags set set_name script script_name old new (Ask fault) = ⊥
+StopsRun flags set set_name script script_name old new (Sample fault) = ⊥
 
 -- a run of an input: it can't be read, or memory is wanting for it, or no line of it is `--`, and nothing is written;
 -- or the run of its two parts stops
@@ -114,3 +124,25 @@ StopsRunInput flags source name old new (Command fault) = ⊥
 StopsRunInput flags source name old new (Store fault) = ⊥
 StopsRunInput flags source name old new (Serve fault) = ⊥
 StopsRunInput flags source name old new (Ask fault) = ⊥
+StopsRunInput flags source name old new (Sample fault) = ⊥
+
+-- how the program tells why no script was made
+abbrev pub sampling_fault : SampleFault → Fault
+sampling_fault (NoSet fault) = Run (SetFault fault)
+sampling_fault Unwritten = Run Write
+sampling_fault NoRoom = Run Memory
+sampling_fault NoCycle = Sample NoCycle
+sampling_fault TooLong = Sample TooLong
+
+-- the making of a script for the text that was read of a source
+pub record StopsSamplingText (cycle : Bool) (source : Option (List ℕ)) (old new : Option (List ℕ)) (fault : Fault) : Type 0 where
+  pub text : List ℕ
+  pub front : IsFront MAX_FILE_BYTES source text
+  pub found : SampleFault
+  pub told : fault ≡ sampling_fault found
+  pub stops : NoSampleFor cycle text (Keeps old new) found
+  pub part : BeginsSample cycle text old new
+
+-- the source can't be read, and nothing is written; or no script is made for what was read of it, or it can't be written
+abbrev pub StopsSampling : Bool → Option (List ℕ) → List ℕ → Option (List ℕ) → Option (List ℕ) → Fault → Type 0
+StopsSampling cycle source name old new fault = (StopsReading name fault × Keeps old new) ⊎ StopsSamplingText cycle source old new fault

@@ -1,17 +1,19 @@
 //! Why the program stops short: the one line on standard error, and the status.
 ghost use Rattle.std.specs.Prelude.{◌≡◌};
 ghost use Rattle.lynx_jobs.specs.Statuses.{status_of};
+ghost use Rattle.lynx_jobs.specs.Stopped.{sampling_fault};
 
 use crate::shown::Shown;
 use lynx_ask::AskFault;
 use lynx_command::CommandFault;
 use lynx_input::InputFault;
+use lynx_random::SampleFault;
 use lynx_run::RunFault;
 use lynx_serve::ServeFault;
 use lynx_show::ShowFault;
 use thiserror::Error;
 
-/// Why the program did not end with status 0 or 1.
+/// Why the program did not do what it was asked for.
 #[derive(Clone, Copy, Debug, PartialEq, Eq, Error)]
 pub enum Fault<'a> {
     /// The words ask for nothing that there is.
@@ -34,6 +36,9 @@ pub enum Fault<'a> {
     /// Asking a service stopped; never for want of memory or a writer.
     #[error("{0}")]
     Ask(AskFault),
+    /// No script was made; never for a faulty text, want of memory or a writer.
+    #[error("{0}")]
+    Sample(SampleFault),
 }
 
 impl<'a> Fault<'a> {
@@ -85,7 +90,19 @@ impl<'a> Fault<'a> {
         }
     }
 
-    /// The exit status: 2 for faulty words or texts, 3 for want of memory, 4 for what can't be read or written.
+    /// The fault of making a script.
+    pub fn of_sampling(fault: SampleFault) -> Fault<'a>
+        ensures { result ≡ sampling_fault fault }
+    {
+        match fault {
+            SampleFault::Set(fault) => Fault::Run(RunFault::Set(fault)),
+            SampleFault::Write => Fault::Run(RunFault::Write),
+            SampleFault::Memory => Fault::Run(RunFault::Memory),
+            fault => Fault::Sample(fault),
+        }
+    }
+
+    /// The exit status: 1 where no run ended with a cycle that was looked for, 2 for faulty words or texts, 3 for want of memory, 4 for what can't be read or written.
     pub fn status(&self) -> u8
         ensures { result ≡ status_of self.now }
     {
@@ -96,6 +113,10 @@ impl<'a> Fault<'a> {
             Fault::Ask(AskFault::Line(_)) => 2,
             Fault::Unread(_) | Fault::Run(RunFault::Write) => 4,
             Fault::Store(_) | Fault::Serve(_) | Fault::Ask(_) => 4,
+            Fault::Sample(SampleFault::NoCycle) => 1,
+            Fault::Sample(SampleFault::Set(_) | SampleFault::TooLong) => 2,
+            Fault::Sample(SampleFault::Memory) => 3,
+            Fault::Sample(SampleFault::Write) => 4,
         }
     }
 }

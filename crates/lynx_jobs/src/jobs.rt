@@ -3,12 +3,14 @@ ghost use Rattle.std.specs.Prelude.{◌≡◌, Ok, Err};
 ghost use Rattle.lynx_jobs.specs.Statuses.{finished_as};
 
 use crate::fault::Fault;
+use crate::hints::{Hints, Named};
+use crate::reading::text_of;
 use crate::serving::{ask_port, serve_file};
-use crate::texts::{DONE, check_source, draw_source, read_text, run_input, run_sources};
-use lynx_command::{INPUT, Job, RunFlags};
-use lynx_input::InputFault;
+use crate::texts::{DONE, check_source, draw_source, run_input, run_sources, sample_source};
+use lynx_command::{INPUT, Job, RunFlags, SampleFlags};
+use lynx_input::{InputFault, MAX_INPUT_BYTES, read_all};
 use lynx_keep::Keeper;
-use lynx_run::{CheckOptions, RunFault};
+use lynx_run::{CheckOptions, DrawOptions, RunFault};
 use lynx_serve::Service;
 use lynx_show::{ShowFault, show_store, upgrade_and_tell};
 use lynx_stores::Stores;
@@ -25,7 +27,7 @@ use std::{fs, io};
 /// Does what the words ask for, and gives the status. Files and streams are those of `host`, threads and sockets come by
 /// `rt`, which `main` alone can hand out, and a service opens its stores by `stores`. Files are read in the order of the
 /// words. Output is written as it fills a buffer, where somebody waits for it, and at the end, also where a
-/// fault stops the job.
+/// fault stops the job. What the fault's line doesn't tell is left in `hints`, where it is wanted.
 pub fn do_job<
     'a,
     R: Threads
@@ -38,24 +40,25 @@ pub fn do_job<
         + 'static,
     K: Keeper + Send + Drop + 'static,
     S: Stores<K>,
->(host: &HostRuntime, rt: R, stores: &S, job: Job<'a>) -> Result<u8, Fault<'a>> {
+>(host: &HostRuntime, rt: R, stores: &S, job: Job<'a>, hints: &mut Hints) -> Result<u8, Fault<'a>> {
     let Ok(mut writer) = BufWriter::new(host.alloc(), io::writer(host)) else {
         return Err(Fault::Run(RunFault::Memory));
     };
     let done = match job {
-        Job::Check { set, why } => check_file(host, set, why, &mut writer),
-        Job::Draw { set } => draw_file(host, set, &mut writer),
-        Job::Run { set, script, flags } => run_files(host, set, script, flags, &mut writer),
-        Job::RunInput { flags } => {
-            run_input(host.alloc(), INPUT, &mut host.reader(), flags, &mut writer)
-        }
+        Job::Check { set, why } => check_file(host, set, why, hints, &mut writer),
+        Job::Draw { set, walk } => draw_file(host, set, walk, hints, &mut writer),
+        Job::Sample { set, flags } => sample_file(host, set, flags, hints, &mut writer),
+        Job::Run { set, script, flags } => run_files(host, set, script, flags, hints, &mut writer),
+        Job::RunInput { flags } => run_standard_input(host, flags, hints, &mut writer),
         Job::Show { store } => show_file(host, store, &mut writer),
         Job::Upgrade { store } => upgrade_file(host, store, &mut writer),
         Job::Serve { set, folder, port } => {
-            serve_file(host, rt, stores, set, Service { folder, port }, &mut writer)
+            let service = Service { folder, port };
+            serve_file(host, rt, stores, set, service, hints, &mut writer)
         }
-        Job::Ask { set, port } => ask_port(host, &rt, set, port, &mut writer),
+        Job::Ask { set, port } => ask_port(host, &rt, set, port, hints, &mut writer),
     };
+    hints.note_unread(host, host.alloc(), &done);
     let flushed = writer.flush().is_ok();
     finished(done, flushed)
 }
@@ -75,51 +78,93 @@ fn check_file<'a, R: Files + AllocGlobal, W: Write>(
     rt: &R,
     set: &'a str,
     why: bool,
+    hints: &mut Hints,
     writer: &mut W,
 ) -> Result<u8, Fault<'a>> {
-    let Ok(mut file) = fs::open(rt, set) else {
-        return Err(Fault::of_reading(set, InputFault::Read));
-    };
-    check_source(rt.alloc(), set, &mut file, CheckOptions { why }, writer)
+    let read = text_of(rt, set)?;
+    let text = read.as_slice();
+    let done = check_source(rt.alloc(), set, &mut &*text, CheckOptions { why }, writer);
+    hints.note_set(rt.alloc(), Named { name: set, text }, &done);
+    done
 }
 
 /// Draws the set of a file.
 fn draw_file<'a, R: Files + AllocGlobal, W: Write>(
     rt: &R,
     set: &'a str,
+    walk: bool,
+    hints: &mut Hints,
     writer: &mut W,
 ) -> Result<u8, Fault<'a>> {
-    let Ok(mut file) = fs::open(rt, set) else {
-        return Err(Fault::of_reading(set, InputFault::Read));
-    };
-    draw_source(rt.alloc(), set, &mut file, writer)
+    let read = text_of(rt, set)?;
+    let text = read.as_slice();
+    let done = draw_source(rt.alloc(), set, &mut &*text, DrawOptions { walk }, writer);
+    hints.note_set(rt.alloc(), Named { name: set, text }, &done);
+    done
 }
 
-/// Runs the script of a file over the set of another.
+/// Makes a random script for the set of a file.
+fn sample_file<'a, R: Files + AllocGlobal, W: Write>(
+    rt: &R,
+    set: &'a str,
+    flags: SampleFlags,
+    hints: &mut Hints,
+    writer: &mut W,
+) -> Result<u8, Fault<'a>> {
+    let read = text_of(rt, set)?;
+    let text = read.as_slice();
+    let done = sample_source(rt.alloc(), set, &mut &*text, flags, writer);
+    hints.note_set(rt.alloc(), Named { name: set, text }, &done);
+    done
+}
+
+/// Runs the script of a file over the set of another, which is read first.
 fn run_files<'a, R: Files + AllocGlobal, W: Write>(
     rt: &R,
     set: &'a str,
     script: &'a str,
     flags: RunFlags,
+    hints: &mut Hints,
     writer: &mut W,
 ) -> Result<u8, Fault<'a>> {
-    let Ok(mut set_file) = fs::open(rt, set) else {
-        return Err(Fault::of_reading(set, InputFault::Read));
-    };
-    let Ok(mut script_file) = fs::open(rt, script) else {
-        // A set that can't be read is told before a script that can't.
-        read_text(rt.alloc(), set, &mut set_file)?;
-        return Err(Fault::of_reading(script, InputFault::Read));
-    };
-    run_sources(
+    let (set_read, script_read) = (text_of(rt, set)?, text_of(rt, script)?);
+    let (set_text, script_text) = (set_read.as_slice(), script_read.as_slice());
+    let done = run_sources(
         rt.alloc(),
         set,
-        &mut set_file,
+        &mut &*set_text,
         script,
-        &mut script_file,
+        &mut &*script_text,
         flags,
         writer,
-    )
+    );
+    let set = Named {
+        name: set,
+        text: set_text,
+    };
+    let script = Named {
+        name: script,
+        text: script_text,
+    };
+    hints.note_run(rt.alloc(), set, script, &done);
+    done
+}
+
+/// Runs the script of standard input over the set that stands before it.
+fn run_standard_input<W: Write>(
+    rt: &HostRuntime,
+    flags: RunFlags,
+    hints: &mut Hints,
+    writer: &mut W,
+) -> Result<u8, Fault<'static>> {
+    let read = match read_all(rt.alloc(), &mut rt.reader(), MAX_INPUT_BYTES) {
+        Ok(read) => read,
+        Err(fault) => return Err(Fault::of_reading(INPUT, fault)),
+    };
+    let input = read.as_slice();
+    let done = run_input(rt.alloc(), INPUT, &mut &*input, flags, writer);
+    hints.note_input(rt.alloc(), input, &done);
+    done
 }
 
 /// Whether a file has a byte. None where it can't be read.

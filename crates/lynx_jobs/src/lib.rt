@@ -2,12 +2,15 @@
 #![tactic(auto)]
 
 pub use fault::Fault;
+pub use hints::Hints;
 pub use jobs::do_job;
-pub use texts::{check_source, draw_source, run_input, run_sources};
+pub use texts::{check_source, draw_source, run_input, run_sources, sample_source};
 
 pub mod fault;
+pub mod hints;
 pub mod jobs;
 pub mod laws;
+mod reading;
 mod serving;
 pub mod shown;
 pub mod texts;

@@ -1,6 +1,8 @@
 //! Serving clients, and asking a service.
 use crate::fault::Fault;
-use crate::texts::{DONE, OFFENDING, read_text};
+use crate::hints::{Hints, Named};
+use crate::reading::text_of;
+use crate::texts::{DONE, OFFENDING};
 use lynx_ask::{AskFault, ask};
 use lynx_command::INPUT;
 use lynx_input::InputFault;
@@ -13,21 +15,11 @@ use lynx_stores::Stores;
 use lynx_text::parse;
 use lynx_words::FaultKind;
 use std::alloc::Global;
-use std::fs;
 use std::io::{BufReader, Write};
 use std::net::{Ipv4Addr, Net, TcpListener, TcpStream};
-use std::rt::Files;
 use std::sync::Wait;
 use std::thread::Threads;
 use std::time::Clock;
-
-/// The text of a file.
-fn text_of<'a, R: Files + AllocGlobal>(rt: &R, name: &'a str) -> Result<Vec<u8>, Fault<'a>> {
-    let Ok(mut file) = fs::open(rt, name) else {
-        return Err(Fault::of_reading(name, InputFault::Read));
-    };
-    read_text(rt.alloc(), name, &mut file)
-}
 
 /// The set that a text spells.
 fn set_of<'a>(alloc: Global, text: &[u8]) -> Result<ChainSet, Fault<'a>> {
@@ -76,10 +68,14 @@ pub(crate) fn serve_file<
     stores: &S,
     name: &'a str,
     service: Service<'_>,
+    hints: &mut Hints,
     writer: &mut W,
 ) -> Result<u8, Fault<'a>> {
-    let text = text_of(host, name)?;
-    let Some(set) = accepted_set(host.alloc(), text.as_slice(), writer)? else {
+    let read = text_of(host, name)?;
+    let text = read.as_slice();
+    let accepted = accepted_set(host.alloc(), text, writer);
+    hints.note_set(host.alloc(), Named { name, text }, &accepted);
+    let Some(set) = accepted? else {
         return Ok(OFFENDING);
     };
     let progress = Progress::new(host);
@@ -96,10 +92,14 @@ pub(crate) fn ask_port<'a, R: Net<Listener = TcpListener, Stream = TcpStream>, W
     rt: &R,
     name: &'a str,
     port: u16,
+    hints: &mut Hints,
     writer: &mut W,
 ) -> Result<u8, Fault<'a>> {
-    let text = text_of(host, name)?;
-    let set = set_of(host.alloc(), text.as_slice())?;
+    let read = text_of(host, name)?;
+    let text = read.as_slice();
+    let set = set_of(host.alloc(), text);
+    hints.note_set(host.alloc(), Named { name, text }, &set);
+    let set = set?;
     let Ok(mut stream) = TcpStream::connect(rt, (Ipv4Addr::LOCALHOST, port)) else {
         return Err(Fault::of_asking(AskFault::Connect));
     };

@@ -2,14 +2,16 @@
 ghost use Rattle.std.specs.Prelude.{◌≡◌, IfOk, IfErr, IfSome, Ok, Err, take};
 ghost use Rattle.lynx_input.specs.declared.source.TheConstants.{MAX_FILE_BYTES};
 ghost use Rattle.lynx_jobs.specs.Statuses.{status_of_ending, status_of_finding};
-ghost use Rattle.lynx_jobs.specs.Done.{HasChecked, HasDrawn, HasRun, HasRunAs, HasRunInput, HasRunJudged, HasRunTexts};
-ghost use Rattle.lynx_jobs.specs.Stopped.{StopsChecking, StopsDrawing, StopsReading, StopsRun, StopsRunAs, StopsRunInput, StopsRunJudged, StopsRunTexts};
+ghost use Rattle.lynx_jobs.specs.Done.{HasChecked, HasDrawn, HasRun, HasRunAs, HasRunInput, HasRunJudged, HasRunTexts, HasSampled};
+ghost use Rattle.lynx_jobs.specs.Stopped.{StopsChecking, StopsDrawing, StopsReading, StopsRun, StopsRunAs, StopsRunInput, StopsRunJudged, StopsRunTexts, StopsSampling};
 
 use crate::fault::Fault;
-use lynx_command::RunFlags;
+use lynx_command::{RunFlags, SampleFlags};
 use lynx_input::{MAX_FILE_BYTES, MAX_INPUT_BYTES, read_all, split_input};
+use lynx_random::{SampleOptions, sample_text};
 use lynx_run::{
-    CheckOptions, Ending, Finding, RunOptions, check_text, draw_text, refuse_text, run_texts,
+    CheckOptions, DrawOptions, Ending, Finding, RunOptions, check_text, draw_text, refuse_text,
+    run_texts,
 };
 use std::alloc::Global;
 use std::io::{Read, Write};
@@ -81,17 +83,43 @@ pub fn draw_source<'a, R: Read, W: Write>(
     alloc: Global,
     name: &'a str,
     source: &mut R,
+    options: DrawOptions,
     writer: &mut W,
 ) -> Result<u8, Fault<'a>>
     ensures ok { IfOk result (λ status. IfSome (R.remaining source.old) (λ bytes.
-        HasDrawn bytes (W.contents writer.old) (W.contents writer.new) status)) }
-    ensures err { IfErr result (StopsDrawing (R.remaining source.old) name.now
+        HasDrawn options bytes (W.contents writer.old) (W.contents writer.new) status)) }
+    ensures err { IfErr result (StopsDrawing options (R.remaining source.old) name.now
         (W.contents writer.old) (W.contents writer.new)) }
 {
     let text = read_text(alloc, name, source)?;
-    match draw_text(alloc, text.as_slice(), writer) {
+    match draw_text(alloc, text.as_slice(), options, writer) {
         Ok(finding) => Ok(status_of_finding(finding)),
         Err(fault) => Err(Fault::Run(fault)),
+    }
+}
+
+/// Makes a random script for the set of a source, and writes it.
+pub fn sample_source<'a, R: Read, W: Write>(
+    alloc: Global,
+    name: &'a str,
+    source: &mut R,
+    flags: SampleFlags,
+    writer: &mut W,
+) -> Result<u8, Fault<'a>>
+    ensures ok { IfOk result (λ status. IfSome (R.remaining source.old) (λ bytes.
+        HasSampled flags.cycle bytes (W.contents writer.old) (W.contents writer.new) status)) }
+    ensures err { IfErr result (StopsSampling flags.cycle (R.remaining source.old) name.now
+        (W.contents writer.old) (W.contents writer.new)) }
+{
+    let text = read_text(alloc, name, source)?;
+    let options = SampleOptions {
+        seed: flags.seed,
+        begins: flags.begins,
+        cycle: flags.cycle,
+    };
+    match sample_text(alloc, text.as_slice(), options, writer) {
+        Ok(()) => Ok(DONE),
+        Err(fault) => Err(Fault::of_sampling(fault)),
     }
 }
 

@@ -1,7 +1,7 @@
 //! Each job from sources in memory, with ample memory.
-use lynx_command::{Job, RunFlags, command, job_of};
+use lynx_command::{Job, RunFlags, SampleFlags, command, job_of};
 use lynx_jobs::{check_source, draw_source, run_input, run_sources};
-use lynx_run::CheckOptions;
+use lynx_run::{CheckOptions, DrawOptions};
 use lynx_samples::rows::PAYMENT;
 use lynx_samples::texts::{CROSSING, PAY_AND_NOTE};
 use std::alloc::Global;
@@ -26,7 +26,8 @@ fn a_check_has_the_status_of_its_verdict(rt: HostRuntime) {
 /// The status of a picture of the text.
 fn status_of_picture(alloc: Global, text: &str) -> Option<u8> {
     let mut picture = Vec::new(alloc);
-    draw_source(alloc, "set", &mut text.as_bytes(), &mut picture).ok()
+    let options = DrawOptions::default();
+    draw_source(alloc, "set", &mut text.as_bytes(), options, &mut picture).ok()
 }
 
 #[test]
@@ -113,6 +114,45 @@ fn words_ask_for_jobs(rt: HostRuntime) -> Result<(), Fail> {
     ] {
         assert!(rt; ask_for(rt.alloc(), words, Job::Check { set: "a", why })?);
     }
-    assert!(rt; ask_for(rt.alloc(), &["lynx", "draw", "a"], Job::Draw { set: "a" })?);
+    for (words, walk) in [
+        (["lynx", "draw", "a"].as_slice(), false),
+        (["lynx", "draw", "a", "--walk"].as_slice(), true),
+    ] {
+        assert!(rt; ask_for(rt.alloc(), words, Job::Draw { set: "a", walk })?);
+    }
+    Ok(())
+}
+
+/// A script with no word about it but the set.
+const USUAL: SampleFlags = SampleFlags {
+    seed: 0,
+    begins: 8,
+    cycle: false,
+};
+
+#[test]
+fn a_random_script_is_asked_for_by_its_words(rt: HostRuntime) -> Result<(), Fail> {
+    let seeded = SampleFlags {
+        seed: 18_446_744_073_709_551_615,
+        ..USUAL
+    };
+    let long = SampleFlags {
+        begins: 100,
+        cycle: true,
+        ..USUAL
+    };
+    for (words, flags) in [
+        (["lynx", "sample", "a"].as_slice(), USUAL),
+        (
+            ["lynx", "sample", "a", "--seed", "18446744073709551615"].as_slice(),
+            seeded,
+        ),
+        (
+            ["lynx", "sample", "--begins", "100", "a", "--cycle"].as_slice(),
+            long,
+        ),
+    ] {
+        assert!(rt; ask_for(rt.alloc(), words, Job::Sample { set: "a", flags })?);
+    }
     Ok(())
 }

@@ -1,6 +1,7 @@
 //! Writers that fail, at each line of a run and of a verdict, and at a picture.
 use lynx_run::{
-    CheckOptions, Ending, Finding, RunFault, RunOptions, check_text, draw_text, run_texts,
+    CheckOptions, DrawOptions, Ending, Finding, RunFault, RunOptions, check_text, draw_text,
+    run_texts,
 };
 use lynx_samples::full::Full;
 use lynx_samples::rows::PAYMENT;
@@ -55,7 +56,12 @@ fn a_broken_pipe_ends_the_verdict(rt: HostRuntime) {
 /// What is found where so many pictures can be written.
 fn drawn_in(alloc: Global, left: usize) -> Result<Finding, RunFault> {
     let mut writer = Full { left };
-    draw_text(alloc, CROSSING.as_bytes(), &mut writer)
+    draw_text(
+        alloc,
+        CROSSING.as_bytes(),
+        DrawOptions::default(),
+        &mut writer,
+    )
 }
 
 #[test]

@@ -6,13 +6,13 @@ use Rattle.lynx_jobs.proofs.texts.draw_source.Goals as goal
 
 pub returns-in-Ok-clause-ok : goal.returns-in-Ok-clause-ok
 returns-in-Ok-clause-ok g c =
-    drawn_known _ _ _ _ _ c.in-Ok.finding _ c.in_ok-text.ensures.ok c.as_slice.ensures.value c.status_of_finding.ensures c.in-Ok.ensures.ok
+    drawn_known c.args.options _ _ _ _ _ c.in-Ok.finding _ c.in_ok-text.ensures.ok c.as_slice.ensures.value c.status_of_finding.ensures c.in-Ok.ensures.ok
 
 pub returns-in_err-text-clause-err : goal.returns-in_err-text-clause-err
 returns-in_err-text-clause-err g c =
     let unread : IfErr c.from_residual.result (StopsReading c.args.name.now) = search rules in
-    drawing_unread c.from_residual.result (g.R.Read.remaining c.args.source.now) c.args.name.now (g.W.Write.contents c.args.writer.now) unread
+    drawing_unread c.args.options c.from_residual.result (g.R.Read.remaining c.args.source.now) c.args.name.now (g.W.Write.contents c.args.writer.now) unread
 
 pub returns-clause-err : goal.returns-clause-err
 returns-clause-err g c =
-    drawing_stops (g.R.Read.remaining c.args.source.now) c.args.name.now c.in_ok-text.text.items c.as_slice.result.now _ _ c.in-Err.fault c.in_ok-text.ensures.ok c.as_slice.ensures.value c.in-Err.ensures.err c.in-Err.ensures.part
+    drawing_stops c.args.options (g.R.Read.remaining c.args.source.now) c.args.name.now c.in_ok-text.text.items c.as_slice.result.now _ _ c.in-Err.fault c.in_ok-text.ensures.ok c.as_slice.ensures.value c.in-Err.ensures.err c.in-Err.ensures.part

@@ -3,6 +3,7 @@
 
 pub use explained::Explained;
 pub use explaining::{explain, explain_by_search};
+pub use touching::touches_in;
 
 mod begun;
 mod by_origin;
@@ -19,4 +20,4 @@ mod picks;
 mod ranks;
 mod rising;
 mod table;
-mod touching;
+pub mod touching;

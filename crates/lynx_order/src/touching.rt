@@ -20,8 +20,8 @@ pub(crate) struct Touching {
     pub touches: Items<Touch>,
 }
 
-/// What the chain's hop touched in an entry.
-pub(crate) fn touches_in(
+/// What the chain's hop touched in an entry: nothing where the entry isn't one of the chain's hops.
+pub fn touches_in(
     alloc: Global,
     set: &ChainSet,
     chain: &ChainId,

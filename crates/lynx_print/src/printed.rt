@@ -13,7 +13,7 @@ use std::alloc::{AllocError, Global};
 use std::fmt::Write;
 
 /// A list of values: single spaces between them, or `-` where there is none.
-fn push_values(text: &mut String, values: &[u64]) -> Result<(), AllocError>
+pub fn push_values(text: &mut String, values: &[u64]) -> Result<(), AllocError>
     ensures { OnOk result (string_bytes text.new ≡ string_bytes text.old
         ++ values_text values.now) }
 {
@@ -27,7 +27,7 @@ fn push_values(text: &mut String, values: &[u64]) -> Result<(), AllocError>
 }
 
 /// Values with a space before each.
-fn push_spaced(text: &mut String, values: &[u64]) -> Result<(), AllocError>
+pub fn push_spaced(text: &mut String, values: &[u64]) -> Result<(), AllocError>
     ensures { OnOk result (string_bytes text.new ≡ string_bytes text.old ++ spaced values.now) }
 {
     for value in values {
@@ -242,7 +242,7 @@ pub fn conflict_line(
 }
 
 /// Chains with a space before each.
-fn push_chains(text: &mut String, chains: &[ChainId]) -> Result<(), AllocError>
+fn push_each_chain(text: &mut String, chains: &[ChainId]) -> Result<(), AllocError>
     ensures { OnOk result (string_bytes text.new
         ≡ string_bytes text.old ++ flat_map (λ one. 32 ∷ chain_text one) chains.now) }
 {
@@ -252,17 +252,24 @@ fn push_chains(text: &mut String, chains: &[ChainId]) -> Result<(), AllocError>
     Ok(())
 }
 
+/// Chains with a space before each, or ` -` where there is none.
+pub fn push_chains(text: &mut String, chains: &[ChainId]) -> Result<(), AllocError>
+    ensures { OnOk result (string_bytes text.new ≡ string_bytes text.old ++ chains_text chains.now) }
+{
+    if chains.is_empty() {
+        text.push_str(" -")
+    } else {
+        push_each_chain(text, chains)
+    }
+}
+
 /// A line of chains behind a word: `order` or `cycle`. Where there is no chain, `-` stands in their place.
 pub fn chains_line(alloc: Global, word: &str, chains: &[ChainId]) -> Result<String, AllocError>
     ensures { IfOk result (λ text. string_bytes text ≡ with_feed (word.now
         ++ chains_text chains.now)) }
 {
     let mut text = String::from_str(alloc, word)?;
-    if chains.is_empty() {
-        text.push_str(" -")?;
-    } else {
-        push_chains(&mut text, chains)?;
-    }
+    push_chains(&mut text, chains)?;
     text.push_str("\n")?;
     Ok(text)
 }

@@ -126,8 +126,8 @@ impl World {
         self.set.has_server(server)
     }
 
-    /// The server that the message is for.
-    fn destination_of(&self, message: &Message) -> ServerId
+    /// The server that the message is for, or the first one where its program has no such hop.
+    pub fn destination_of(&self, message: &Message) -> ServerId
         ensures { result ≡ destination_of self.now.set message.now }
     {
         match self.set.hop(message.program, usize::from(message.hop)) {

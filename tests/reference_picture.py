@@ -26,6 +26,10 @@ LEGEND = ("Solid arrows lead to the next hop. Dashed lines join hops that may co
 CONFLICTS = "  edge [style=dashed, dir=none];\n"
 STEPS = '  edge [dir=forward, penwidth=2, color="#cc0000", fontcolor="#cc0000", fontsize=12];\n'
 EXCUSED_STEPS = STEPS.replace("#cc0000", "#cc7700")
+# a group of one origin with more programs than this stands in a box, without its conflicts
+MAX_LINED = 10
+# the programs that stand side by side in a box
+ROW = 7
 # by the first line of the verdict: the caption, and how the steps of the closed walk that offends are drawn
 LOOKS = {
     "accepted": (ACCEPTED, STEPS),
@@ -70,6 +74,41 @@ def conflicts(chains):
     found = places(chains)
     return [(left, right) for number, left in enumerate(found) for right in found[number:]
             if tables_met(chains, left, right)]
+
+
+def groups(chains, edges):
+    """The groups of programs that conflicts join, each in the order of the set."""
+    left, found = list(chains.programs), []
+    while left:
+        group = {left[0]}
+        while True:
+            reached = {end[0] for edge in edges for end in edge if group & {edge[0][0], edge[1][0]}}
+            if reached <= group:
+                break
+            group |= reached
+        found.append([program for program in left if program in group])
+        left = [program for program in left if program not in group]
+    return found
+
+
+def boxes(chains, edges):
+    """The groups that stand in a box, by the first program of each."""
+    return {group[0]: group for group in groups(chains, edges)
+            if len(group) > MAX_LINED and len({chains.origin(program) for program in group}) == 1}
+
+
+def box(chains, group, edges):
+    """A box with the programs of a group."""
+    pairs = sum(left[0] in group for left, _ in edges)
+    lines = [f'  subgraph "cluster group of {group[0]}" {{',
+             f'    label="{len(group)} programs that begin at server {chains.origin(group[0])}: '
+             f'{pairs} pairs of their hops may conflict, and are not drawn";']
+    for program in group:
+        lines += cluster(chains, program, False)
+    for above, below in zip(group, group[ROW:]):
+        last = len(chains.hops(above)) - 1
+        lines.append(f"    {node((above, last), False)} -> {node((below, 0), False)} [style=invis];")
+    return lines + ["  }"]
 
 
 def node(place, again):
@@ -121,12 +160,17 @@ def picture(text, of_walk=False):
     walk = reference.least_walk(chains) or []
     walked = steps(walk, drawn_twice)
     shown = [program for program in chains.programs if not of_walk or program in {left[0] for left, _ in walk}]
+    large = boxes(chains, edges)
+    boxed = {program for group in large.values() for program in group}
     lines = []
     for program in shown:
-        lines += cluster(chains, program, False) + (cluster(chains, program, True) if program in drawn_twice else [])
+        if program in large:
+            lines += box(chains, large[program], edges)
+        elif program not in boxed:
+            lines += cluster(chains, program, False) + (cluster(chains, program, True) if program in drawn_twice else [])
     dashed = []
     for left, right in edges:
-        if not {left[0], right[0]} <= set(shown):
+        if not {left[0], right[0]} <= set(shown) or left[0] in boxed:
             continue
         ends = {(left, False), (right, left[0] == right[0])}
         if not any(is_conflict and {source, target} == ends for source, target, is_conflict in walked):

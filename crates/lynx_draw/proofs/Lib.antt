@@ -1,4 +1,2 @@
-pub mod Conflicts
-pub mod EdgesFrom
 pub mod Ranges
 pub mod Written

@@ -1,6 +1,5 @@
 -- Programs as clusters of nodes.
 use Rattle.std.specs.Prelude.{Bool, true, false, ℕ, ◌+◌, List, [], ◌∷◌, ◌++◌, Option, Some, None, codes, take, if◌then◌else◌}
-use Rattle.std.specs.List.{flat_map}
 use Rattle.std.specs.Option.{option_map_or}
 use Rattle.lynx_set.specs.declared.interval.Interval.{Interval}
 use Rattle.lynx_set.specs.declared.program.ParameterRange.{ParameterRange}
@@ -8,8 +7,7 @@ use Rattle.lynx_set.specs.Intervals.{range_of}
 use Rattle.lynx_set.specs.Text.{interval_word}
 use Rattle.lynx_set.specs.Set.{Set}
 use Rattle.lynx_set.specs.Lookups.{program_at, program_name, ranges_of}
-use Rattle.lynx_draw.specs.declared.edges.Edge.{Edge}
-use Rattle.lynx_draw.specs.Spots.{again_word, is_drawn_twice}
+use Rattle.lynx_draw.specs.Spots.{again_word}
 use Rattle.lynx_draw.specs.Nodes.{drawn_hops}
 
 -- the parameters of a program
@@ -42,11 +40,3 @@ cluster_name set program again = codes "  subgraph \"cluster " ++ program_name s
 
 abbrev pub cluster_text : Set → ℕ → Bool → List ℕ
 cluster_text set program again = cluster_name set program again ++ cluster_label set program again ++ drawn_hops set program again ++ codes "  }\n"
-
--- a program, and once more where it is drawn twice
-abbrev pub program_text : Set → List Edge → ℕ → List ℕ
-program_text set edges program = cluster_text set program false ++ (if is_drawn_twice edges program then cluster_text set program true else [])
-
--- these programs
-abbrev pub clusters_text : Set → List Edge → List ℕ → List ℕ
-clusters_text set edges programs = flat_map (program_text set edges) programs

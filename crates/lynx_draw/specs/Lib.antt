@@ -1,10 +1,11 @@
-pub mod Edges
 pub mod Tables
 pub mod Spots
 pub mod Steps
 pub mod Colours
 pub mod Nodes
 pub mod Clusters
+pub mod Boxes
+pub mod Programs
 pub mod Lines
 pub mod Picture
 pub mod Shown

@@ -2,7 +2,7 @@
 use Rattle.std.specs.Prelude.{not, ◌+◌, ℕ, List, [], ◌∷◌, ◌++◌, codes, decimal, filter}
 use Rattle.std.specs.List.{flat_map}
 use Rattle.lynx_set.specs.Set.{Set}
-use Rattle.lynx_draw.specs.declared.edges.Edge.{Edge}
+use Rattle.lynx_groups.specs.declared.edges.Edge.{Edge}
 use Rattle.lynx_graph.specs.declared.meeting.Place.{Place}
 use Rattle.lynx_draw.specs.declared.spot.Spot.{Spot}
 use Rattle.lynx_draw.specs.declared.steps.Step.{Step}
@@ -10,7 +10,8 @@ use Rattle.lynx_draw.specs.declared.steps.Way.{Way}
 use Rattle.lynx_draw.specs.declared.steps.Way.TheVariants.{Conflict, Chain}
 use Rattle.lynx_draw.specs.Spots.{left_spot, right_spot, spot_text}
 use Rattle.lynx_draw.specs.Steps.{is_walked}
-use Rattle.lynx_draw.specs.Tables.{listed, tables_met}
+use Rattle.lynx_groups.specs.Tables.{tables_met}
+use Rattle.lynx_draw.specs.Tables.{listed}
 
 -- the beginning of a line: the two nodes, and where its label begins
 abbrev pub arrow : Set → Spot → Spot → List ℕ

@@ -9,7 +9,7 @@ use Rattle.lynx_set.specs.declared.action.Action.{Action}
 use Rattle.lynx_set.specs.declared.program.Hop.{Hop}
 use Rattle.lynx_draw.specs.declared.spot.Spot.{Spot}
 use Rattle.lynx_draw.specs.Spots.{spot_text}
-use Rattle.lynx_draw.specs.Colours.{colour_of}
+use Rattle.lynx_draw.specs.Colours.{colour_at}
 
 -- the line of an action, which binds the name at that place if it binds one
 abbrev pub action_text : List (List ℕ) → List (List ℕ) → ℕ → Action → List ℕ
@@ -30,7 +30,7 @@ node_head set spot = codes "    " ++ spot_text set spot ++ codes " [label=\""
 
 -- where its label ends, and its colour
 abbrev pub node_end : ℕ → List ℕ
-node_end server = codes "\", fillcolor=\"" ++ colour_of server ++ codes "\"];\n"
+node_end server = codes "\", fillcolor=\"" ++ colour_at server ++ codes "\"];\n"
 
 -- the node of a hop: what it is, its actions, and its server's colour
 abbrev pub node_line : Set → List (List ℕ) → ℕ → Spot → Hop → List ℕ

@@ -1,17 +1,21 @@
 -- The whole picture of a set.
-use Rattle.std.specs.Prelude.{ℕ, List, [], ◌++◌, codes, Option, Some, None}
+use Rattle.std.specs.Prelude.{◌≡◌, ℕ, List, [], ◌++◌, codes, Option, Some, None}
 use Rattle.lynx_set.specs.Set.{Set}
 use Rattle.lynx_verdict.specs.declared.verdict.Verdict.{Verdict}
 use Rattle.lynx_graph.specs.declared.visit.Visit.{Visit}
 use Rattle.lynx_verdict.specs.declared.verdict.Verdict.TheVariants.{Accepted, Offending}
 use Rattle.lynx_draw.specs.declared.picture.TheConstants.{HEAD, ACCEPTED, EXCUSED, OFFENDING, LEGEND, CONFLICTS, EXCUSED_STEPS, STEPS}
-use Rattle.lynx_draw.specs.declared.edges.Edge.{Edge}
+use Rattle.lynx_groups.specs.declared.edges.Edge.{Edge}
 use Rattle.lynx_draw.specs.declared.steps.Step.{Step}
-use Rattle.lynx_draw.specs.Edges.{edges_of}
+use Rattle.lynx_groups.specs.Edges.{edges_of}
+use Rattle.lynx_groups.specs.Together.{AreLed}
+use Rattle.lynx_groups.specs.declared.members.Member.{Member}
 use Rattle.lynx_draw.specs.Steps.{steps_of}
 use Rattle.lynx_draw.specs.Shown.{shown_edges, shown_programs, walk_in}
 use Rattle.lynx_draw.specs.declared.shown.Shown.{Shown}
-use Rattle.lynx_draw.specs.Clusters.{clusters_text}
+use Rattle.lynx_draw.specs.declared.boxes.Boxes.{Boxes}
+use Rattle.lynx_draw.specs.Boxes.{boxes_of}
+use Rattle.lynx_draw.specs.Programs.{programs_text}
 use Rattle.lynx_draw.specs.Lines.{conflict_lines, step_lines}
 
 -- an accepted set has a closed walk that is excused, or none
@@ -38,8 +42,16 @@ style_of (Accepted own) = accepted_style own.excused
 style_of (Offending walk blocks) = STEPS.now
 
 -- the programs, the conflicts by which no step goes, and the steps
-abbrev pub picture_of : Shown → Set → Verdict → List ℕ
-picture_of shown set verdict =
-    HEAD.now ++ caption verdict ++ LEGEND.now ++ clusters_text set (edges_of set) (shown_programs shown set verdict)
-    ++ CONFLICTS.now ++ conflict_lines set (steps_in (edges_of set) verdict) (shown_edges shown verdict (edges_of set))
-    ++ style_of verdict ++ step_lines set 1 (steps_in (edges_of set) verdict) ++ codes "}\n"
+abbrev pub picture_with : Shown → Set → Verdict → Boxes → List Edge → List Step → List ℕ
+picture_with shown set verdict boxes edges steps =
+    HEAD.now ++ caption verdict ++ LEGEND.now ++ programs_text set boxes edges (shown_programs shown set verdict)
+    ++ CONFLICTS.now ++ conflict_lines set steps (shown_edges shown verdict boxes edges)
+    ++ style_of verdict ++ step_lines set 1 steps ++ codes "}\n"
+
+-- the same where programs have these leaders
+abbrev pub picture_of : Shown → Set → Verdict → List Member → List ℕ
+picture_of shown set verdict members = picture_with shown set verdict (boxes_of set members) (edges_of set) (steps_in (edges_of set) verdict)
+
+-- the picture of a set and of a verdict: each program's leader is the least of its group
+abbrev pub IsPicture : Shown → Set → Verdict → List ℕ → Type 0
+IsPicture shown set verdict text = (members : List Member) × AreLed set members × (text ≡ picture_of shown set verdict members)

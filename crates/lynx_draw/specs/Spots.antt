@@ -3,7 +3,7 @@ use Rattle.std.specs.Prelude.{Bool, false, ◌&&◌, ◌==◌, ℕ, List, [], �
 use Rattle.std.specs.List.{list_any}
 use Rattle.lynx_set.specs.Set.{Set}
 use Rattle.lynx_set.specs.Lookups.{program_name}
-use Rattle.lynx_draw.specs.declared.edges.Edge.{Edge}
+use Rattle.lynx_groups.specs.declared.edges.Edge.{Edge}
 use Rattle.lynx_draw.specs.declared.spot.Spot.{Spot}
 
 -- some two hops of the program may conflict, or a hop with itself

@@ -2,7 +2,7 @@
 use Rattle.std.specs.Prelude.{Bool, false, not, ◌&&◌, ◌||◌, ◌==◌, ℕ, List, [], ◌∷◌, ◌++◌, if◌then◌else◌}
 use Rattle.std.specs.List.{list_any}
 use Rattle.lynx_graph.specs.declared.visit.Visit.{Visit}
-use Rattle.lynx_draw.specs.declared.edges.Edge.{Edge}
+use Rattle.lynx_groups.specs.declared.edges.Edge.{Edge}
 use Rattle.lynx_draw.specs.declared.spot.Spot.{Spot}
 use Rattle.lynx_draw.specs.declared.steps.Stay.{Stay}
 use Rattle.lynx_draw.specs.declared.steps.Step.{Step}

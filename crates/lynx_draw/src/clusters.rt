@@ -3,11 +3,9 @@
 ghost use Rattle.std.specs.Prelude.{◌≡◌, ◌≤◌, ◌++◌, OnOk, length};
 ghost use Rattle.lynx_names.specs.declared.limits.TheConstants.{MAX_PARAMETERS};
 ghost use Rattle.lynx_set.specs.Lookups.{program_name, ranges_of};
-ghost use Rattle.lynx_draw.specs.Clusters.{cluster_label, cluster_name, cluster_text, clusters_text, first_label, parameters_of, parameters_text, program_text, range_text, second_label};
+ghost use Rattle.lynx_draw.specs.Clusters.{cluster_label, cluster_name, cluster_text, first_label, parameters_of, parameters_text, range_text, second_label};
 
-use crate::edges::Edge;
 use crate::nodes::put_hops;
-use crate::spot::is_drawn_twice;
 use lynx_graph::program_of;
 use lynx_names::{Memory, ProgramId};
 use lynx_set::{ChainSet, Interval, ParameterRange, range_of};
@@ -132,7 +130,8 @@ fn put_cluster_name(
     Ok(())
 }
 
-fn put_cluster(
+/// Writes a program, or the program drawn again.
+pub(crate) fn put_cluster(
     alloc: Global,
     out: &mut Vec<u8>,
     set: &ChainSet,
@@ -146,40 +145,5 @@ fn put_cluster(
     put_cluster_label(alloc, out, set, program, again)?;
     put_hops(alloc, out, set, program, again)?;
     out.extend_from_slice(b"  }\n".as_slice())?;
-    Ok(())
-}
-
-/// Writes a program once or twice.
-fn put_program(
-    alloc: Global,
-    out: &mut Vec<u8>,
-    set: &ChainSet,
-    edges: &[Edge],
-    program: ProgramId,
-) -> Result<(), Memory>
-    ensures { OnOk result (out.new.items ≡ out.old.items
-        ++ program_text set.now edges.now program) }
-{
-    put_cluster(alloc, out, set, program, false)?;
-    if is_drawn_twice(edges, program) {
-        put_cluster(alloc, out, set, program, true)?;
-    }
-    Ok(())
-}
-
-/// Writes these programs of a set of which these hops may conflict.
-pub(crate) fn put_clusters(
-    alloc: Global,
-    out: &mut Vec<u8>,
-    set: &ChainSet,
-    edges: &[Edge],
-    programs: &[ProgramId],
-) -> Result<(), Memory>
-    ensures { OnOk result (out.new.items ≡ out.old.items
-        ++ clusters_text set.now edges.now programs.now) }
-{
-    for program in programs {
-        put_program(alloc, out, set, edges, *program)?;
-    }
     Ok(())
 }

@@ -1,15 +1,14 @@
-//! The colours of servers.
+//! The colours of pictures.
 
 ghost use Rattle.std.specs.Prelude.{◌≡◌};
-ghost use Rattle.lynx_draw.specs.Colours.{colour_of};
+ghost use Rattle.lynx_draw.specs.Colours.{colour_at};
 
-use lynx_names::ServerId;
-
-/// The colour of a server's hops: light enough to be written on, and told apart by those who see few colours.
-pub(crate) fn colour_of(server: ServerId) -> &'static [u8]
-    ensures { result.now ≡ colour_of server }
+/// The colour of that number: light enough to be written on, and told apart by those who see few colours. There are 16,
+/// and after the last comes the first again.
+pub fn colour_at(number: usize) -> &'static [u8]
+    ensures { result.now ≡ colour_at number }
 {
-    match server.number() {
+    match number % 16 {
         0 => b"#99ddff",
         1 => b"#eedd88",
         2 => b"#bbcc33",

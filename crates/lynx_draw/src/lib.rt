@@ -1,17 +1,17 @@
 //! A picture of a set of chain programs, as a graph that Graphviz draws.
 #![tactic(auto)]
 
-pub use edges::{Edge, conflict_edges};
-pub use lynx_graph::Place;
+pub use colours::colour_at;
 pub use picture::draw;
 pub use shown::Shown;
 
+mod boxes;
 mod clusters;
-mod colours;
-pub mod edges;
+pub mod colours;
 mod lines;
 mod nodes;
 pub mod picture;
+mod programs;
 pub mod shown;
 mod spot;
 mod steps;

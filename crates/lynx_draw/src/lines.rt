@@ -5,11 +5,11 @@ ghost use Rattle.std.specs.List.{flat_map};
 ghost use Rattle.lynx_draw.specs.Steps.{is_walked};
 ghost use Rattle.lynx_draw.specs.Lines.{arrow, conflict_line, conflict_lines, met_text, step_end, step_line, step_lines};
 
-use crate::edges::Edge;
 use crate::spot::{Spot, left_spot, put_spot, right_spot};
 use crate::steps::{Step, Way, is_walked};
-use crate::tables::{put_listed, tables_met};
+use crate::tables::put_listed;
 use lynx_graph::Place;
+use lynx_groups::{Edge, tables_met};
 use lynx_names::Memory;
 use lynx_set::ChainSet;
 use lynx_text::printing::put_number;

@@ -5,7 +5,7 @@ ghost use Rattle.lynx_names.specs.declared.limits.TheConstants.{MAX_ACTIONS};
 ghost use Rattle.lynx_set.specs.Text.{bound_in};
 ghost use Rattle.lynx_draw.specs.Nodes.{action_text, actions_text, arrow_text, drawn_hops, hop_label, hop_text, node_end, node_head, node_line, spot_at};
 
-use crate::colours::colour_of;
+use crate::colours::colour_at;
 use crate::spot::{Spot, put_spot};
 use lynx_graph::Place;
 use lynx_names::{Memory, ProgramId, ServerId};
@@ -90,7 +90,7 @@ fn put_node_end(out: &mut Vec<u8>, server: ServerId) -> Result<(), Memory>
     ensures { OnOk result (out.new.items ≡ out.old.items ++ node_end server) }
 {
     out.extend_from_slice(b"\", fillcolor=\"".as_slice())?;
-    out.extend_from_slice(colour_of(server))?;
+    out.extend_from_slice(colour_at(server.index()))?;
     out.extend_from_slice(b"\"];\n".as_slice())?;
     Ok(())
 }
@@ -161,7 +161,8 @@ fn put_hop(
     Ok(next)
 }
 
-fn spot_at(program: ProgramId, hop: usize, again: bool) -> Spot
+/// Where a hop of a program is drawn.
+pub(crate) fn spot_at(program: ProgramId, hop: usize, again: bool) -> Spot
     ensures { result ≡ spot_at program hop again }
 {
     Spot {

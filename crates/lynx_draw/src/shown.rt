@@ -1,10 +1,11 @@
 //! Which programs and conflicts of a set are drawn.
-ghost use Rattle.std.specs.Prelude.{◌≡◌, ◌&&◌, IfOk};
+ghost use Rattle.std.specs.Prelude.{◌≡◌, ◌&&◌, IfOk, not};
 ghost use Rattle.lynx_draw.specs.Shown.{shown_edges, shown_programs, shows, shows_edge, walk_in};
 
-use crate::edges::Edge;
+use crate::boxes::{Boxes, is_boxed};
 use crate::steps::visits;
 use lynx_graph::{Visit, program_of};
+use lynx_groups::Edge;
 use lynx_names::{Memory, ProgramId};
 use lynx_set::ChainSet;
 use lynx_verdict::Verdict;
@@ -62,11 +63,13 @@ pub(crate) fn shown_programs(
     Ok(programs)
 }
 
-/// Whether both ends of the edge are drawn.
-fn shows_edge(shown: Shown, verdict: &Verdict, edge: &Edge) -> bool
-    ensures { result ≡ shows_edge shown verdict.now edge.now }
+/// Whether both ends of the edge are drawn, and it isn't within a box.
+fn shows_edge(shown: Shown, verdict: &Verdict, boxes: &Boxes, edge: &Edge) -> bool
+    ensures { result ≡ shows_edge shown verdict.now boxes.now edge.now }
 {
-    shows(shown, verdict, edge.left.program) && shows(shown, verdict, edge.right.program)
+    shows(shown, verdict, edge.left.program)
+        && shows(shown, verdict, edge.right.program)
+        && !is_boxed(boxes, edge.left.program)
 }
 
 /// The edges that are drawn.
@@ -74,13 +77,15 @@ pub(crate) fn shown_edges(
     alloc: Global,
     edges: &[Edge],
     verdict: &Verdict,
+    boxes: &Boxes,
     shown: Shown,
 ) -> Result<Vec<Edge>, Memory>
-    ensures { IfOk result (λ drawn. drawn.items ≡ shown_edges shown verdict.now edges.now) }
+    ensures { IfOk result (λ drawn. drawn.items
+        ≡ shown_edges shown verdict.now boxes.now edges.now) }
 {
     let mut drawn = Vec::new(alloc);
     for edge in edges {
-        if shows_edge(shown, verdict, edge) {
+        if shows_edge(shown, verdict, boxes, edge) {
             drawn.push(*edge)?;
         }
     }

@@ -3,8 +3,8 @@
 ghost use Rattle.std.specs.Prelude.{◌≡◌, ◌++◌, OnOk};
 ghost use Rattle.lynx_draw.specs.Spots.{is_drawn_twice, left_spot, right_spot, spot_text, spot_word};
 
-use crate::edges::Edge;
 use lynx_graph::Place;
+use lynx_groups::Edge;
 use lynx_names::{Memory, ProgramId};
 use lynx_set::ChainSet;
 use lynx_text::printing::{put_number, put_word};

@@ -3,9 +3,9 @@
 ghost use Rattle.std.specs.Prelude.{◌≡◌, ◌++◌, IfOk, OnOk};
 ghost use Rattle.lynx_draw.specs.Steps.{is_again, is_along, is_walked, joins, stay_of, stays_of, steps_around, steps_of, steps_to, same_spot, visits};
 
-use crate::edges::Edge;
 use crate::spot::{Spot, is_drawn_twice, left_spot, right_spot};
 use lynx_graph::{Place, Visit};
+use lynx_groups::Edge;
 use lynx_names::{Items, Memory, ProgramId};
 use std::alloc::Global;
 

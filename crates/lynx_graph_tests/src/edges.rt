@@ -1,5 +1,5 @@
 //! The conflict edges of worked sets.
-use lynx_draw::{Edge, conflict_edges};
+use lynx_groups::{Edge, conflict_edges};
 use lynx_names::Memory;
 use lynx_samples::texts::{PAY_AND_NOTE, TRIP, set_of};
 use std::alloc::Global;

@@ -1,7 +1,8 @@
 //! Sets of as many programs and hops as there may be.
 use crate::verdicts::gives;
-use lynx_draw::{Shown, conflict_edges, draw};
+use lynx_draw::{Shown, draw};
 use lynx_graph::{BlockWalk, Walk};
+use lynx_groups::conflict_edges;
 use lynx_names::Memory;
 use lynx_samples::texts::set_of;
 use lynx_verdict::Verdict;

@@ -1,7 +1,8 @@
 //! Calls on texts and sets, which stay as they are.
 use crate::tried::{Called, Tried, ended, made_again, of_result};
-use lynx_draw::{Shown, conflict_edges, draw};
+use lynx_draw::{Shown, draw};
 use lynx_foot::footprint;
+use lynx_groups::conflict_edges;
 use lynx_names::{Memory, ProgramId, TryCopy};
 use lynx_samples::made::program;
 use lynx_samples::rows::PAYMENT;

@@ -7,7 +7,7 @@ use Rattle.lynx_verdict.specs.Verdicts.{Judges}
 use Rattle.lynx_set.specs.Rules.{IsSet}
 use Rattle.lynx_set.specs.Set.{Set}
 use Rattle.lynx_set.specs.Text.{text_of}
-use Rattle.lynx_draw.specs.Picture.{picture_of}
+use Rattle.lynx_draw.specs.Picture.{IsPicture}
 use Rattle.lynx_draw.specs.declared.shown.Shown.{Shown}
 use Rattle.lynx_draw.specs.declared.shown.Shown.TheVariants.{All, Walk}
 use Rattle.lynx_run.specs.declared.run.RunFault.{RunFault}
@@ -31,7 +31,7 @@ shown_by walk = if walk then Walk else All
 -- the picture shows the set and a verdict on it, and the finding is the verdict's
 abbrev pub IsDrawing : Bool → Set → Finding → List ℕ → Type 0
 IsDrawing walk chains finding picture =
-    (verdict : Verdict) × Judges chains verdict × (finding ≡ finding_of verdict) × (picture ≡ picture_of (shown_by walk) chains verdict)
+    (verdict : Verdict) × Judges chains verdict × (finding ≡ finding_of verdict) × IsPicture (shown_by walk) chains verdict picture
 
 -- what is found of a set text, and its picture
 pub record Draws (walk : Bool) (text : List ℕ) (finding : Finding) (picture : List ℕ) : Type 0 where

@@ -3,25 +3,14 @@ use Rattle.std.specs.Prelude.{Bool, false, ◌==◌, ◌&&◌, ◌||◌, nat_lt,
 use Rattle.std.specs.List.{enumerate_from, flat_map, list_all, list_any}
 use Rattle.lynx_words.specs.Lines.{with_feed}
 use Rattle.lynx_set.specs.Set.{Set}
-use Rattle.lynx_set.specs.Lookups.{hops_of, origin_of, program_name}
-use Rattle.lynx_graph.specs.Tests.{same_server}
-use Rattle.lynx_draw.specs.declared.edges.Edge.{Edge}
+use Rattle.lynx_set.specs.Lookups.{hops_of, program_name}
+use Rattle.lynx_groups.specs.declared.edges.Edge.{Edge}
 use Rattle.lynx_verdict.specs.declared.accepted.Reason.{Reason}
 use Rattle.lynx_verdict.specs.declared.accepted.Reason.TheVariants.{Walks, Blocks as ByBlocks}
-use Rattle.lynx_why.specs.declared.members.Member.{Member}
+use Rattle.lynx_groups.specs.Groups.{begin_at_one_server, group_of, leaders_of}
+use Rattle.lynx_groups.specs.declared.members.Member.{Member}
 use Rattle.lynx_why.specs.declared.groups.GroupReason.{GroupReason}
 use Rattle.lynx_why.specs.declared.groups.GroupReason.TheVariants.{OneOrigin, OneHop, NoWalk, Blocks}
-
--- the programs that lead themselves, and a group, which is all that have one leader
-abbrev pub leaders_of : List Member → List ℕ
-leaders_of members = map (λ member. member.program) (filter (λ member. member.program == member.leader) members)
-
-abbrev pub group_of : List Member → ℕ → List ℕ
-group_of members leader = map (λ member. member.program) (filter (λ member. member.leader == leader) members)
-
--- each program of the group begins at the server where its leader does
-abbrev pub begin_at_one_server : Set → ℕ → List ℕ → Bool
-begin_at_one_server set leader group = list_all (λ program. same_server (origin_of set program) (origin_of set leader)) group
 
 -- some edge is at the hop
 abbrev pub is_met : List Edge → ℕ → ℕ → Bool

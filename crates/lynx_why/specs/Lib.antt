@@ -1,6 +1,5 @@
 pub mod HopLines
 pub mod Meets
-pub mod Together
 pub mod Groups
 pub mod Busy
 pub mod Whys

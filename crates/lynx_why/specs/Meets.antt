@@ -6,8 +6,8 @@ use Rattle.lynx_words.specs.Lines.{spaced, with_feed}
 use Rattle.lynx_set.specs.Set.{Set}
 use Rattle.lynx_set.specs.Lookups.{program_name, server_at}
 use Rattle.lynx_graph.specs.declared.meeting.Place.{Place}
-use Rattle.lynx_draw.specs.declared.edges.Edge.{Edge}
-use Rattle.lynx_draw.specs.Tables.{tables_met}
+use Rattle.lynx_groups.specs.declared.edges.Edge.{Edge}
+use Rattle.lynx_groups.specs.Tables.{tables_met}
 use Rattle.lynx_why.specs.HopLines.{line_of}
 
 -- a hop: its program, and its number from 0

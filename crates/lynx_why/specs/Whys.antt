@@ -4,12 +4,12 @@ use Rattle.lynx_set.specs.Set.{Set}
 use Rattle.lynx_verdict.specs.declared.verdict.Verdict.{Verdict}
 use Rattle.lynx_verdict.specs.declared.verdict.Verdict.TheVariants.{Accepted, Offending}
 use Rattle.lynx_verdict.specs.Reasons.{reason_of}
-use Rattle.lynx_draw.specs.Edges.{edges_of}
-use Rattle.lynx_why.specs.declared.members.Member.{Member}
+use Rattle.lynx_groups.specs.Edges.{edges_of}
+use Rattle.lynx_groups.specs.declared.members.Member.{Member}
 use Rattle.lynx_why.specs.Busy.{busy_lines}
 use Rattle.lynx_why.specs.Groups.{group_lines}
 use Rattle.lynx_why.specs.Meets.{meet_lines}
-use Rattle.lynx_why.specs.Together.{AreLed}
+use Rattle.lynx_groups.specs.Together.{AreLed}
 
 -- the groups of an accepted set, each led by the least of its programs; an offending set has none
 abbrev pub AreGroupLines : Set → Verdict → List ℕ → Type 0

@@ -1,3 +1,2 @@
 -- Definitions that no public clause cites: they serve the functions within.
 pub mod Counts
-pub mod Joining

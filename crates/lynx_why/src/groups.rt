@@ -2,12 +2,11 @@
 
 ghost use Rattle.std.specs.Prelude.{◌≡◌, ◌++◌, ◌==◌, ◌||◌, OnOk, IfOk, length, map, filter, nat_lt};
 ghost use Rattle.std.specs.List.{flat_map, list_any, enumerate_from};
-ghost use Rattle.lynx_why.specs.Groups.{begin_at_one_server, group_line, group_lines, group_of, group_reason, hops_met, is_met, leaders_of, meet_at_one_hop, names_text, reason_word};
+ghost use Rattle.lynx_groups.specs.Groups.{group_of, leaders_of};
+ghost use Rattle.lynx_why.specs.Groups.{group_line, group_lines, group_reason, hops_met, is_met, meet_at_one_hop, names_text, reason_word};
 
-use crate::members::Member;
-use lynx_draw::Edge;
 use lynx_graph::Place;
-use lynx_graph::meeting::same_server;
+use lynx_groups::{Edge, Member, begin_at_one_server, group_of, leaders_of};
 use lynx_names::{Memory, ProgramId};
 use lynx_set::ChainSet;
 use lynx_text::printing::put_word;
@@ -25,37 +24,6 @@ pub(crate) enum GroupReason {
     NoWalk,
     /// No walk of blocks of the set offends.
     Blocks,
-}
-
-/// The programs that lead a group, each the least of its group.
-fn leaders_of(alloc: Global, members: &[Member]) -> Result<Vec<ProgramId>, Memory>
-    ensures { IfOk result (λ leaders. leaders.items ≡ leaders_of members.now) }
-{
-    let leaders = members
-        .iter()
-        .filter(|member| member.program == member.leader)
-        .map(|member| member.program)
-        .collect(alloc)?;
-    Ok(leaders)
-}
-
-/// The programs of the group that the program leads.
-fn group_of(alloc: Global, members: &[Member], leader: ProgramId) -> Result<Vec<ProgramId>, Memory>
-    ensures { IfOk result (λ group. group.items ≡ group_of members.now leader) }
-{
-    let group = members
-        .iter()
-        .filter(|member| member.leader == leader)
-        .map(|member| member.program)
-        .collect(alloc)?;
-    Ok(group)
-}
-
-/// Whether each program begins at the server where the leader does.
-fn begin_at_one_server(set: &ChainSet, leader: ProgramId, group: &[ProgramId]) -> bool
-    ensures { result ≡ begin_at_one_server set.now leader group.now }
-{
-    group.iter().all(|program| same_server(set.origin(*program), set.origin(leader)))
 }
 
 /// Whether the hop meets another, or another instance of itself.

@@ -9,5 +9,3 @@ mod groups;
 pub mod hop_lines;
 pub mod lines;
 mod meets;
-mod members;
-mod tables;

@@ -2,14 +2,13 @@
 
 ghost use Rattle.std.specs.Prelude.{◌≡◌, ℕ, List, ◌++◌, OnOk, IfOk};
 ghost use Rattle.lynx_set.specs.Rules.{IsSet};
-ghost use Rattle.lynx_draw.specs.Edges.{edges_of};
+ghost use Rattle.lynx_groups.specs.Edges.{edges_of};
 ghost use Rattle.lynx_why.specs.Whys.{AreGroupLines, IsWhy};
 
 use crate::busy::put_busy_lines;
 use crate::groups::put_group_lines;
 use crate::meets::put_meet_lines;
-use crate::members::members_of;
-use lynx_draw::{Edge, conflict_edges};
+use lynx_groups::{Edge, conflict_edges, members_of};
 use lynx_names::Memory;
 use lynx_set::ChainSet;
 use lynx_verdict::Verdict;

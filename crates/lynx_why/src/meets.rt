@@ -7,9 +7,8 @@ ghost use Rattle.lynx_set.specs.Rules.{IsSet};
 ghost use Rattle.lynx_why.specs.Meets.{hops_text, lines_text, meet_line, meet_lines, place_text, server_text, tables_text};
 
 use crate::hop_lines::line_of;
-use crate::tables::tables_met;
-use lynx_draw::Edge;
 use lynx_graph::Place;
+use lynx_groups::{Edge, tables_met};
 use lynx_names::Memory;
 use lynx_set::{ChainSet, Name};
 use lynx_text::printing::{put_number, put_word};

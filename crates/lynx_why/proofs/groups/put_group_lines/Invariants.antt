@@ -1,6 +1,7 @@
 use Rattle.std.proofs.Common.{◌≡◌, ◌++◌, drop}
 use Rattle.std.specs.List.{flat_map}
-use Rattle.lynx_why.specs.Groups.{group_line, leaders_of}
+use Rattle.lynx_groups.specs.Groups.{leaders_of}
+use Rattle.lynx_why.specs.Groups.{group_line}
 use Rattle.lynx_why.proofs.groups.put_group_lines.Given as goal
 
 -- what is written and what is left are the whole

@@ -1,0 +1,70 @@
+//! The programs of a picture.
+
+ghost use Rattle.std.specs.Prelude.{◌≡◌, ◌++◌, OnOk};
+ghost use Rattle.std.specs.List.{flat_map};
+ghost use Rattle.lynx_draw.specs.Programs.{drawn_text, program_text, programs_text};
+
+use crate::boxes::{Boxes, is_boxed, put_box};
+use crate::clusters::put_cluster;
+use crate::spot::is_drawn_twice;
+use lynx_groups::{Edge, leader_of};
+use lynx_names::{Memory, ProgramId};
+use lynx_set::ChainSet;
+use std::alloc::Global;
+
+/// Writes a program once or twice.
+fn put_program(
+    alloc: Global,
+    out: &mut Vec<u8>,
+    set: &ChainSet,
+    edges: &[Edge],
+    program: ProgramId,
+) -> Result<(), Memory>
+    ensures { OnOk result (out.new.items ≡ out.old.items
+        ++ program_text set.now edges.now program) }
+{
+    put_cluster(alloc, out, set, program, false)?;
+    if is_drawn_twice(edges, program) {
+        put_cluster(alloc, out, set, program, true)?;
+    }
+    Ok(())
+}
+
+/// Writes a program. One that leads a large group stands for its box, and the others of the group for nothing.
+fn put_drawn(
+    alloc: Global,
+    out: &mut Vec<u8>,
+    set: &ChainSet,
+    boxes: &Boxes,
+    edges: &[Edge],
+    program: ProgramId,
+) -> Result<(), Memory>
+    ensures { OnOk result (out.new.items ≡ out.old.items
+        ++ drawn_text set.now boxes.now edges.now program) }
+{
+    if !is_boxed(boxes, program) {
+        put_program(alloc, out, set, edges, program)
+    } else if leader_of(boxes.members.as_slice(), program) == program {
+        put_box(alloc, out, set, boxes, edges, program)
+    } else {
+        Ok(())
+    }
+}
+
+/// Writes these programs of a set of which these hops may conflict.
+pub(crate) fn put_programs(
+    alloc: Global,
+    out: &mut Vec<u8>,
+    set: &ChainSet,
+    boxes: &Boxes,
+    edges: &[Edge],
+    programs: &[ProgramId],
+) -> Result<(), Memory>
+    ensures { OnOk result (out.new.items ≡ out.old.items
+        ++ programs_text set.now boxes.now edges.now programs.now) }
+{
+    for program in programs {
+        put_drawn(alloc, out, set, boxes, edges, *program)?;
+    }
+    Ok(())
+}

@@ -1,0 +1,9 @@
+pub mod Places
+pub mod Nodes
+pub mod Messages
+pub mod Fates
+pub mod Labels
+pub mod Columns
+pub mod Arrows
+pub mod Meetings
+pub mod Charts

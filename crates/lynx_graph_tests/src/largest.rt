@@ -47,10 +47,26 @@ fn the_largest_sets_take_seconds(rt: HostRuntime) {
     }
 }
 
-/// How many edges the set has all of whose hops conflict, and how many lines its picture.
-fn counts(alloc: Global) -> Result<(usize, usize), Memory> {
-    let text = large_text(alloc, "set t 0 1\n", 1)?;
-    let set = set_of(alloc, text.as_str())?;
+/// The text of as many programs, all of whose hops at server 0 conflict, and the last of which begins at server 1.
+fn text_of_two_origins(alloc: Global) -> Result<String, Memory> {
+    let mut text = String::from_str(
+        alloc,
+        "lynx 1\nservers 2\ntable t\nshard 0 9 0\nshard 10 18446744073709551615 1\n",
+    )?;
+    for number in 0..63u8 {
+        add_program(&mut text, number, "set t 0 1\n", 1)?;
+    }
+    text.push_str("program last\nhop 1\nset t 10 1\n")?;
+    for _ in 0..7u8 {
+        text.push_str("hop 0\nset t 0 1\n")?;
+    }
+    text.push_str("end\n")?;
+    Ok(text)
+}
+
+/// How many edges the set of a text has, and how many lines its picture where no walk is drawn.
+fn counts(alloc: Global, text: &str) -> Result<(usize, usize), Memory> {
+    let set = set_of(alloc, text)?;
     let edges = conflict_edges(alloc, &set)?;
     let verdict = Box::new(
         alloc,
@@ -61,9 +77,27 @@ fn counts(alloc: Global) -> Result<(usize, usize), Memory> {
     Ok((edges.len(), lines))
 }
 
-/// 512 hops make 512 * 513 / 2 pairs; of the picture's lines 8 are no edges, and each of the 64 programs, drawn
-/// twice, has 3 lines, 8 nodes and 7 arrows.
+fn counts_of_one_origin(alloc: Global) -> Result<(usize, usize), Memory> {
+    let text = large_text(alloc, "set t 0 1\n", 1)?;
+    counts(alloc, text.as_str())
+}
+
+fn counts_of_two_origins(alloc: Global) -> Result<(usize, usize), Memory> {
+    let text = text_of_two_origins(alloc)?;
+    counts(alloc, text.as_str())
+}
+
+/// 512 hops make 512 * 513 / 2 pairs, which aren't drawn, since all programs begin at one server. Of the picture's lines 8 are
+/// no program's, 3 are the box's and 57 put the programs in rows of seven; each of the 64 programs has 3 lines, 8 nodes and
+/// 7 arrows.
 #[test]
-fn the_largest_set_is_drawn(rt: HostRuntime) {
-    assert!(rt; counts(rt.alloc()) == Ok((131_328, 131_328 + 8 + 64 * 2 * 18)));
+fn the_largest_set_is_drawn_in_a_box(rt: HostRuntime) {
+    assert!(rt; counts_of_one_origin(rt.alloc()) == Ok((131_328, 8 + 3 + 57 + 64 * 18)));
+}
+
+/// 511 hops at server 0 make 511 * 512 / 2 pairs, and the one at server 1 conflicts with itself; of the picture's lines 8 are no
+/// edges, and each of the 64 programs, drawn twice, has 3 lines, 8 nodes and 7 arrows.
+#[test]
+fn a_set_of_two_origins_is_drawn_whole(rt: HostRuntime) {
+    assert!(rt; counts_of_two_origins(rt.alloc()) == Ok((130_817, 130_817 + 8 + 64 * 2 * 18)));
 }

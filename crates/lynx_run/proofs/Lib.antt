@@ -1,4 +1,5 @@
 pub mod Asked
+pub mod Charted
 pub mod Owing
 pub mod Printed
 pub mod Reaching

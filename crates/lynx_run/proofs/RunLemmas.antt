@@ -10,6 +10,7 @@ pub use Rattle.lynx_io.proofs.Parts.{appends_both}
 use Rattle.lynx_set.specs.Set.{Set}
 use Rattle.lynx_world.specs.Tables.{cells_of, triple_cmp}
 use Rattle.lynx_entry.specs.declared.event.Event.{Event}
+use Rattle.lynx_entry.specs.declared.event.Outcome.{Outcome}
 use Rattle.lynx_names.specs.declared.limits.TheConstants.{MAX_HELD}
 use Rattle.lynx_world.specs.Worlds.{WorldState, new_world}
 use Rattle.lynx_world.specs.Steps.{step}
@@ -70,6 +71,15 @@ pub world_on : (start world after : WorldState) (events : List Event) (event : E
     world ≡ world_after start events → after ≡ (step MAX_HELD world event).world → after ≡ world_after start (events ++ event ∷ [])
 world_on start world after events event same now =
     now ∙ ap (λ w. (step MAX_HELD w event).world) same ∙ sym (world_after-push start events event)
+
+-- what one more event comes to
+pub outcomes_on : (start world : WorldState) (events : List Event) (event : Event) (before after : List Outcome) (outcome : Outcome) →
+    world ≡ world_after start events → before ≡ outcomes_of start events → outcome ≡ (step MAX_HELD world event).outcome → after ≡ before ++ outcome ∷ [] →
+    after ≡ outcomes_of start (events ++ event ∷ [])
+outcomes_on start world events event before after outcome same so_far now pushed =
+    pushed ∙ ap (λ outcomes. outcomes ++ outcome ∷ []) so_far
+    ∙ ap (λ last. outcomes_of start events ++ last ∷ []) (now ∙ ap (λ w. (step MAX_HELD w event).outcome) same)
+    ∙ sym (outcomes_of-push start events event)
 
 -- the lines of the cells, and then the one that explains the list
 pub end_prints : (first second third : Option (List ℕ)) (world : WorldState) (cells : List (ℕ × ℕ × ℕ)) (explained : Explained) →

@@ -42,13 +42,6 @@ lines_cut first second third start world events done rest event same whole befor
     (part_on first second third (outcome_lines start done) (outcome_lines after (event ∷ rest)) before
     (part_of_more second third (with_feed (outcome_text (step MAX_HELD after event).outcome)) (outcome_lines (step MAX_HELD after event).world rest) part_is))
 
--- an outcome that isn't want of memory is the step's
-pub outcome_is : (applied came : Outcome) (world after : WorldState) (event : Event) (old : WorldState) →
-    ((applied ≡ Memory) × (after ≡ old)) ⊎ (record { outcome = applied; world = after } ≡ step MAX_HELD world event) →
-    (came ≡ applied) × (applied ≢ Memory) → came ≡ (step MAX_HELD world event).outcome
-outcome_is applied came world after event old (inl wanting) kept = absurd (kept.1 wanting.0)
-outcome_is applied came world after event old (inr stepped) kept = kept.0 ∙ ap (λ s. s.outcome) stepped
-
 -- the lines of the cells, and a beginning of the one that explains
 pub end_cut : (first second third : Option (List ℕ)) (world : WorldState) (cells : List (ℕ × ℕ × ℕ)) (explained : Explained) →
     IsPermutation (cells_of world) cells → IsSorted triple_cmp cells → Appends first second (cell_lines world.set.tables cells) →

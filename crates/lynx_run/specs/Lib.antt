@@ -1,3 +1,4 @@
+pub mod Charts
 pub mod Checks
 pub mod Drawings
 pub mod Options

@@ -17,6 +17,7 @@ ghost use Rattle.lynx_script.specs.Scripts.{IsScript, script_of};
 ghost use Rattle.std.specs.Io.KnownBytes.{Appends, Keeps};
 
 use crate::options::{RunOptions, write_rest};
+use crate::running::run_event;
 use crate::writing::write_bytes;
 use lynx_names::{Memory, TableId};
 use lynx_order::{Explained, explain};
@@ -76,8 +77,8 @@ impl From<AllocError> for RunFault {
     }
 }
 
-/// The set that a text spells.
-pub(crate) fn read_set(alloc: Global, text: &[u8]) -> Result<ChainSet, RunFault>
+/// The set that a text spells. [`RunFault::Script`] and [`RunFault::Write`] are never its fault.
+pub fn read_set(alloc: Global, text: &[u8]) -> Result<ChainSet, RunFault>
     ensures found { IfOk result (λ set. IsSet set × (text.now ≡ text_of set)) }
     ensures only { IfErr result (λ fault. (fault ≡ RunFault.Memory) ⊎ ((found : TextFault)
         × (fault ≡ RunFault.Set found) × IsNoSet text.now × (found.kind ≢ FaultKind.Memory))) }
@@ -92,7 +93,11 @@ pub(crate) fn read_set(alloc: Global, text: &[u8]) -> Result<ChainSet, RunFault>
 }
 
 /// The events that a script spells.
-fn read_script(alloc: Global, set: &ChainSet, text: &[u8]) -> Result<Vec<Event>, RunFault>
+pub(crate) fn read_script(
+    alloc: Global,
+    set: &ChainSet,
+    text: &[u8],
+) -> Result<Vec<Event>, RunFault>
     ensures found { IfOk result (λ events. IsScript set.now events.items
         × (text.now ≡ script_of set.now events.items)) }
     ensures only { IfErr result (λ fault. (fault ≡ RunFault.Memory) ⊎ ((found : TextFault)
@@ -105,16 +110,6 @@ fn read_script(alloc: Global, set: &ChainSet, text: &[u8]) -> Result<Vec<Event>,
             FaultKind::Memory => Err(RunFault::Memory),
             _ => Err(RunFault::Script(fault)),
         },
-    }
-}
-
-/// What an event came to, unless memory was wanting.
-fn unless_memory(outcome: Outcome) -> Result<Outcome, Memory>
-    ensures { IfOk result (λ came. (came ≡ outcome) × (outcome ≢ Outcome.Memory)) }
-{
-    match outcome {
-        Outcome::Memory => Err(Memory),
-        came => Ok(came),
     }
 }
 
@@ -131,7 +126,7 @@ fn write_outcome<W: Write>(alloc: Global, outcome: &Outcome, writer: &mut W) -> 
 }
 
 /// Runs one event, and writes its line, unless memory was wanting.
-fn run_event<W: Write>(
+fn run_and_write<W: Write>(
     alloc: Global,
     world: &mut World,
     event: Event,
@@ -144,7 +139,7 @@ fn run_event<W: Write>(
         (with_feed (outcome_text (step MAX_HELD world.old event).outcome))) }
     ensures late { IfErr result IsLate }
 {
-    let outcome = unless_memory(world.apply(alloc, event))?;
+    let outcome = run_event(alloc, world, event)?;
     write_outcome(alloc, &outcome, writer)
 }
 
@@ -163,7 +158,7 @@ fn run_events<W: Write>(
     ensures late { IfErr result IsLate }
 {
     for event in events {
-        run_event(alloc, world, event, writer)?;
+        run_and_write(alloc, world, event, writer)?;
     }
     Ok(())
 }
@@ -189,7 +184,7 @@ fn write_each_cell<W: Write>(
 }
 
 /// How the run ends that is explained so.
-fn ending_of(explained: &Explained) -> Ending
+pub(crate) fn ending_of(explained: &Explained) -> Ending
     ensures { result ≡ ending_of explained.now }
 {
     match explained {

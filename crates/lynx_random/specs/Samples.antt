@@ -1,5 +1,5 @@
 -- What a random script is to be, and why none comes.
-use Rattle.std.specs.Prelude.{◌≡◌, ◌≢◌, ◌⊎◌, ℕ, Bool, true, false, List, Option}
+use Rattle.std.specs.Prelude.{◌≡◌, ◌⊎◌, ℕ, Bool, true, false, List, Option}
 use Rattle.std.specs.Io.KnownBytes.{Keeps}
 use Rattle.lynx_io.specs.Written.{AppendsPart}
 use Rattle.lynx_names.specs.declared.chain.ChainId.{ChainId}
@@ -9,14 +9,14 @@ use Rattle.lynx_set.specs.Text.{text_of}
 use Rattle.lynx_entry.specs.declared.event.Event.{Event}
 use Rattle.lynx_order.specs.declared.explained.Explained.TheVariants.{Cycle}
 use Rattle.lynx_script.specs.Scripts.{IsScript, script_of}
-use Rattle.lynx_words.specs.declared.fault.FaultKind.TheVariants.{Memory as NoMemory}
 use Rattle.lynx_world.specs.Placed.{Placed}
 use Rattle.lynx_world.specs.Worlds.{new_world}
 use Rattle.lynx_run.specs.declared.owed.OwedHop.{OwedHop}
 use Rattle.lynx_run.specs.Owed.{IsOwed}
-use Rattle.lynx_run.specs.Runs.{Explains, IsNoSet, world_after}
+use Rattle.lynx_run.specs.Drawings.{NoPictureFor}
+use Rattle.lynx_run.specs.Runs.{Explains, world_after}
 use Rattle.lynx_random.specs.declared.fault.SampleFault.{SampleFault}
-use Rattle.lynx_random.specs.declared.fault.SampleFault.TheVariants.{Set as SetFault, NoCycle, TooLong, Write, Memory}
+use Rattle.lynx_random.specs.declared.fault.SampleFault.TheVariants.{Run, NoCycle, TooLong}
 
 -- no chain of the list owes a hop
 abbrev pub OwesNothing : Set → List Placed → Type 0
@@ -45,13 +45,12 @@ pub record IsSample (cycle : Bool) (set script : List ℕ) : Type 0 where
   pub spelled : set ≡ text_of chains
   pub sample : IsSampleOver cycle chains script
 
--- why no script comes, and that nothing is written but where writing fails
+-- why no script comes, and that nothing is written but where writing fails: the text is that of no set, as for a picture;
+-- or no cycle was found; or the script would be too long
 abbrev pub NoSampleFor : Bool → List ℕ → Type 0 → SampleFault → Type 0
-NoSampleFor cycle set unwritten (SetFault fault) = IsNoSet set × unwritten × (fault.kind ≢ NoMemory)
+NoSampleFor cycle set unwritten (Run fault) = NoPictureFor set unwritten fault
 NoSampleFor cycle set unwritten NoCycle = (cycle ≡ true) × unwritten
 NoSampleFor cycle set unwritten TooLong = unwritten
-NoSampleFor cycle set unwritten Write = Unit {0}
-NoSampleFor cycle set unwritten Memory = unwritten
 
 -- Where a fault stops it, nothing is written, or a beginning of such a script.
 abbrev pub BeginsSample : Bool → List ℕ → Option (List ℕ) → Option (List ℕ) → Type 0

@@ -1,21 +1,19 @@
 //! The judgement on a script's text before it is written.
-ghost use Rattle.std.specs.Prelude.{◌≡◌, Bool, false, IsTrue, IfOk, IfErr, OnOk};
-ghost use Rattle.lynx_names.specs.declared.limits.TheConstants.{MAX_HELD};
-ghost use Rattle.lynx_world.specs.Steps.{step};
+ghost use Rattle.std.specs.Prelude.{◌≡◌, Bool, false, IsTrue, IfOk, IfErr};
 ghost use Rattle.lynx_world.specs.Worlds.{new_world};
 ghost use Rattle.lynx_run.specs.Runs.{world_after};
 ghost use Rattle.lynx_random.specs.Samples.{EndsWell, HasCycle, IsSampleOver, OwesNothing};
 ghost use Rattle.lynx_random.specs.inner.Found.{NotFoundFor};
 
 use crate::fault::SampleFault;
-use lynx_entry::{Event, Outcome};
+use lynx_entry::Event;
 use lynx_names::{Memory, TryCopy};
 use lynx_order::{Explained, explain};
-use lynx_run::owed_hops;
+use lynx_run::{RunFault, owed_hops, run_in_new_world};
 use lynx_script::parse_script;
 use lynx_set::ChainSet;
 use lynx_words::{FaultKind, TextFault};
-use lynx_world::{World, empty_keepers};
+use lynx_world::World;
 use std::alloc::Global;
 
 /// Whether the text is that of a script whose run leaves no hop owed and, where a cycle is asked for, ends with one.
@@ -40,7 +38,7 @@ fn no_script(fault: TextFault) -> Result<bool, SampleFault>
     ensures only { IfErr result (λ fault. (cycle : Bool) → NotFoundFor cycle fault) }
 {
     match fault.kind {
-        FaultKind::Memory => Err(SampleFault::Memory),
+        FaultKind::Memory => Err(SampleFault::Run(RunFault::Memory)),
         FaultKind::TooLong => Err(SampleFault::TooLong),
         _ => Ok(false),
     }
@@ -56,8 +54,9 @@ fn run_ends_well(
     ensures { IfOk result (λ well. IsTrue well → EndsWell cycle set.now
         (world_after (new_world set.now) events.items).list) }
 {
-    let world = world_of(alloc, set, events)?;
-    ends_well(alloc, &world, cycle)
+    let own = set.copy(alloc)?;
+    let ran = run_in_new_world(alloc, own, events)?;
+    ends_well(alloc, &ran.world, cycle)
 }
 
 /// Whether no chain of the world owes a hop and, where a cycle is asked for, one explains the world.
@@ -92,35 +91,5 @@ fn has_cycle(alloc: Global, world: &World) -> Result<bool, Memory>
     match explain(alloc, world)? {
         Explained::Order(_) => Ok(false),
         Explained::Cycle(_) => Ok(true),
-    }
-}
-
-/// The world after the events.
-fn world_of(alloc: Global, set: &ChainSet, events: Vec<Event>) -> Result<World, Memory>
-    ensures { IfOk result (λ world. world ≡ world_after (new_world set.now) events.items) }
-{
-    let keepers = empty_keepers(alloc, set)?;
-    let mut world = World::new(alloc, set.copy(alloc)?, keepers)?;
-    run_events(alloc, &mut world, events)?;
-    Ok(world)
-}
-
-/// Runs the events in order.
-fn run_events(alloc: Global, world: &mut World, events: Vec<Event>) -> Result<(), Memory>
-    ensures { OnOk result (world.new ≡ world_after world.old events.items) }
-{
-    for event in events {
-        run_event(alloc, world, event)?;
-    }
-    Ok(())
-}
-
-/// Runs one event, unless memory was wanting.
-fn run_event(alloc: Global, world: &mut World, event: Event) -> Result<(), Memory>
-    ensures { OnOk result (world.new ≡ (step MAX_HELD world.old event).world) }
-{
-    match world.apply(alloc, event) {
-        Outcome::Memory => Err(Memory),
-        _ => Ok(()),
     }
 }

@@ -17,4 +17,3 @@ mod plan;
 pub mod sample;
 pub mod script;
 mod steps;
-mod writing;

@@ -1,10 +1,7 @@
 //! A random script for a set text.
-ghost use Rattle.std.specs.Prelude.{◌≡◌, ◌≢◌, ◌⊎◌, ℕ, List, true, OnOk, OnErr, IfOk, IfErr};
+ghost use Rattle.std.specs.Prelude.{ℕ, List, OnOk, OnErr, IfOk, IfErr};
 ghost use Rattle.std.specs.Io.KnownBytes.{Appends, Keeps};
 ghost use Rattle.std.specs.String.{string_bytes};
-ghost use Rattle.lynx_set.specs.Rules.{IsSet};
-ghost use Rattle.lynx_set.specs.Text.{text_of};
-ghost use Rattle.lynx_run.specs.Runs.{IsNoSet};
 ghost use Rattle.lynx_random.specs.Samples.{BeginsSample, IsSample, IsSampleOver, NoSampleFor};
 ghost use Rattle.lynx_random.specs.inner.Found.{NotFoundFor};
 
@@ -12,10 +9,8 @@ use crate::choices::Choices;
 use crate::drawn::drawn_script;
 use crate::fault::SampleFault;
 use crate::judged::is_sample;
-use crate::writing::write_bytes;
+use lynx_run::{read_set, write_bytes};
 use lynx_set::ChainSet;
-use lynx_text::parse;
-use lynx_words::{FaultKind, TextFault};
 use std::alloc::Global;
 use std::io::Write;
 
@@ -54,22 +49,6 @@ pub fn sample_text<W: Write>(
     let script = sample_over(alloc, &set, options)?;
     write_bytes(writer, script.as_bytes())?;
     Ok(())
-}
-
-/// The set that a text spells.
-fn read_set(alloc: Global, text: &[u8]) -> Result<ChainSet, SampleFault>
-    ensures found { IfOk result (λ set. IsSet set × (text.now ≡ text_of set)) }
-    ensures only { IfErr result (λ fault. (fault ≡ SampleFault.Memory) ⊎ ((found : TextFault)
-        × (fault ≡ SampleFault.Set found) × IsNoSet text.now
-        × (found.kind ≢ FaultKind.Memory))) }
-{
-    match parse(alloc, text) {
-        Ok(set) => Ok(set),
-        Err(fault) => match fault.kind {
-            FaultKind::Memory => Err(SampleFault::Memory),
-            _ => Err(SampleFault::Set(fault)),
-        },
-    }
 }
 
 /// The first script of those that are drawn whose run ends as it is asked for.

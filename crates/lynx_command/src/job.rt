@@ -1,6 +1,6 @@
 //! What the words of the command line ask for.
 ghost use Rattle.std.specs.Prelude.{option_map};
-ghost use Rattle.lynx_command.specs.Jobs.{RunsAs};
+ghost use Rattle.lynx_command.specs.Jobs.{DrawsAs, RunsAs};
 
 use thiserror::Error;
 
@@ -42,6 +42,11 @@ pub enum Job<'a> {
     Draw {
         set: &'a str,
         walk: bool,
+    },
+    /// Draw a run of the script of the second file over the set of the first.
+    Chart {
+        set: &'a str,
+        script: &'a str,
     },
     /// Make a random script for the set of a file.
     Sample {
@@ -86,6 +91,9 @@ pub enum CommandFault {
     NoScript,
     #[error("one script too many")]
     ScriptTooMany,
+    /// The programs of a walk are those of a set, and not of a run.
+    #[error("--walk draws no run")]
+    WalkOfRun,
     /// The first word is a command that the program hasn't. The parser refuses it first.
     #[error("no such command")]
     NoCommand,
@@ -110,5 +118,20 @@ pub(crate) fn job_of_run<'a>(
         None => Err(CommandFault::NoScript),
         Some(_) if set == INPUT => Err(CommandFault::ScriptTooMany),
         Some(script) => Ok(Job::Run { set, script, flags }),
+    }
+}
+
+/// What `draw` and its words ask for: the picture of a set, or with a script that of a run.
+pub(crate) fn job_of_draw<'a>(
+    set: &'a str,
+    script: Option<&'a str>,
+    walk: bool,
+) -> Result<Job<'a>, CommandFault>
+    ensures { DrawsAs set.now (option_map (λ own. own.now) script.entry) walk result }
+{
+    match script {
+        None => Ok(Job::Draw { set, walk }),
+        Some(_) if walk => Err(CommandFault::WalkOfRun),
+        Some(script) => Ok(Job::Chart { set, script }),
     }
 }

@@ -3,13 +3,18 @@ ghost use Rattle.std.specs.Prelude.{◌≡◌, Ok, None};
 ghost use Rattle.clap.specs.Matches.{subcommand_name_of};
 ghost use Rattle.lynx_command.specs.Jobs.{AskedBy, no_flags};
 
-use crate::job::{CommandFault, INPUT, Job, NO_FLAGS, RunFlags, SampleFlags, job_of_run};
+use crate::job::{
+    CommandFault, INPUT, Job, NO_FLAGS, RunFlags, SampleFlags, job_of_draw, job_of_run,
+};
 use clap::{Arg, ArgAction, ArgMatches, Command, value_parser};
 use std::alloc::{AllocError, Global};
 
 /// The statuses that the program ends with, and the words of faults, as the help tells them at its end.
 const STATUSES_AND_FAULTS: &str =
     "Statuses:\n  0  done: the set is accepted, an order explains the run\n  1  the set offends, or the run ends with a cycle\n  2  faulty words or a faulty text\n  3  out of memory\n  4  a file, a store, a socket or a thread fails, or the audit at the end of a service\n\nA faulty text is told with its line and one of these words: too-long, bad-version, bad-line,\nbad-name, bad-number, repeated, unknown, need-not-first, limit-passed, literal-elsewhere,\nshard-gap, shard-overlap, shard-server. With --hints, and on a terminal, the place is shown.";
+
+/// The script of a run or of the picture of one.
+const SCRIPT: &str = "SCRIPT";
 
 /// The option of each command that reads a text.
 const HINTS: &str = "hints";
@@ -40,6 +45,11 @@ fn set_file<'a>(alloc: Global) -> Arg<'a> {
     Arg::new(alloc, "SET")
         .required(true)
         .help("The file of the set's text; - is a file of that name")
+}
+
+/// The script of a command that may have one.
+fn script_file<'a>(alloc: Global) -> Arg<'a> {
+    Arg::new(alloc, SCRIPT).help("The file of the script; - is a file of that name")
 }
 
 /// An option without a value.
@@ -76,11 +86,14 @@ fn check_command<'a>(alloc: Global) -> Result<Command<'a>, AllocError> {
 
 fn draw_command<'a>(alloc: Global) -> Result<Command<'a>, AllocError> {
     Command::new(alloc, "draw")
-        .about("Draw a set of chain programs, in the DOT language of Graphviz")
+        .about(
+            "Draw a set of chain programs, or a run of a script, in the DOT language of Graphviz",
+        )
         .after_help(
-            "Dashed lines join hops that may conflict, red steps are those by which the set offends.\nStatus 0 where the set is accepted, 1 where it offends: it is drawn all the same.\nExample: lynx draw payment.set | dot -Tsvg > payment.svg",
+            "Of a set: dashed lines join hops that may conflict, red steps are those by which the set offends.\nStatus 0 where the set is accepted, 1 where it offends: it is drawn all the same.\nOf a run: each server's entries stand in a column, arrows are messages, red lines lead around a cycle.\nStatus 0 where an order explains the run, 1 where it ends with a cycle. The set isn't checked.\nExample: lynx draw payment.set | dot -Tsvg > payment.svg",
         )
         .arg(set_file(alloc))?
+        .arg(script_file(alloc))?
         .arg(flag(
             alloc,
             WALK,
@@ -129,14 +142,13 @@ fn run_command<'a>(alloc: Global) -> Result<Command<'a>, AllocError> {
     let set = Arg::new(alloc, "SET").required(true).help(
         "The file of the set's text, or - alone for standard input: a set text, a line --, a script",
     );
-    let script = Arg::new(alloc, "SCRIPT").help("The file of the script; - is a file of that name");
     Command::new(alloc, "run")
         .about("Run a script over a set of chain programs")
         .after_help(
             "The set isn't checked unless --checked is given: an offending one can end with a cycle, status 1.\nExample: lynx run payment.set payment.script",
         )
         .arg(set)?
-        .arg(script)?
+        .arg(script_file(alloc))?
         .arg(flag(
             alloc,
             CHECKED,
@@ -304,15 +316,12 @@ pub fn job_of<'a>(matches: &ArgMatches<'a>) -> Result<Job<'a>, CommandFault>
             set,
             why: words.get_flag(WHY),
         }),
-        "draw" => Ok(Job::Draw {
-            set,
-            walk: words.get_flag(WALK),
-        }),
+        "draw" => job_of_draw(set, words.get_str(SCRIPT), words.get_flag(WALK)),
         "sample" => Ok(Job::Sample {
             set,
             flags: sample_flags_of(words),
         }),
-        "run" => job_of_run(set, words.get_str("SCRIPT"), flags_of(words)),
+        "run" => job_of_run(set, words.get_str(SCRIPT), flags_of(words)),
         "show" => Ok(Job::Show {
             store: words.get_str("STORE").unwrap_or(INPUT),
         }),

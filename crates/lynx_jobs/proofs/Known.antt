@@ -5,14 +5,16 @@ use Rattle.lynx_input.specs.declared.source.TheConstants.{MAX_FILE_BYTES, MAX_IN
 use Rattle.lynx_input.specs.Inputs.{IsCut}
 use Rattle.std.specs.Io.KnownBytes.{Appends}
 use Rattle.lynx_run.specs.declared.verdict.Finding.{Finding}
+use Rattle.lynx_run.specs.declared.run.Ending.{Ending}
+use Rattle.lynx_run.specs.Charts.{Charts}
 use Rattle.lynx_run.specs.Checks.{Finds}
 use Rattle.lynx_run.specs.declared.options.CheckOptions.{CheckOptions}
 use Rattle.lynx_run.specs.declared.options.DrawOptions.{DrawOptions}
 use Rattle.lynx_run.specs.Drawings.{Draws}
 use Rattle.lynx_random.specs.Samples.{IsSample}
-use Rattle.lynx_jobs.specs.Done.{HasChecked, HasDrawn, HasRun, HasRunAs, HasRunInput, HasSampled}
+use Rattle.lynx_jobs.specs.Done.{HasCharted, HasChecked, HasDrawn, HasRun, HasRunAs, HasRunInput, HasSampled}
 use Rattle.lynx_command.specs.declared.job.RunFlags.{RunFlags}
-use Rattle.lynx_jobs.specs.Statuses.{status_of_finding}
+use Rattle.lynx_jobs.specs.Statuses.{status_of_ending, status_of_finding}
 use Rattle.lynx_jobs.specs.Stopped.{IsFront}
 
 -- a verdict on the set of one source
@@ -40,6 +42,22 @@ drawn_known options (Some bytes) text slice old new finding status front same st
   picture = drawn.0;
   draws = subst (λ (read : List ℕ). Draws options.walk read finding drawn.0) (same ∙ front) drawn.1;
   written = drawn.2;
+  status_is = status_is;
+}
+
+-- a chart of a run of two sources
+pub charted_known : (set_known script_known : Option (List ℕ)) (set script set_slice script_slice : List ℕ) (old new : Option (List ℕ)) (ending : Ending) (status : ℕ) →
+    IsFront MAX_FILE_BYTES set_known set → IsFront MAX_FILE_BYTES script_known script → set_slice ≡ set → script_slice ≡ script → status ≡ status_of_ending ending →
+    (chart : List ℕ) × Charts set_slice script_slice ending chart × Appends old new chart →
+    IfSome set_known (λ set_bytes. IfSome script_known (λ script_bytes. HasCharted set_bytes script_bytes old new status))
+charted_known None script_known set script set_slice script_slice old new ending status set_is script_is s t status_is charted = set_is
+charted_known (Some set_bytes) None set script set_slice script_slice old new ending status set_is script_is s t status_is charted = script_is
+charted_known (Some set_bytes) (Some script_bytes) set script set_slice script_slice old new ending status set_is script_is s t status_is charted = record {
+  ending = ending;
+  chart = charted.0;
+  charts = subst (λ (text : List ℕ). Charts text (take MAX_FILE_BYTES script_bytes) ending charted.0) (s ∙ set_is)
+      (subst (λ (text : List ℕ). Charts set_slice text ending charted.0) (t ∙ script_is) charted.1);
+  written = charted.2;
   status_is = status_is;
 }
 

@@ -6,6 +6,7 @@ use Rattle.lynx_input.specs.declared.source.TheConstants.{MAX_FILE_BYTES, MAX_IN
 use Rattle.lynx_input.specs.Inputs.{IsCut}
 use Rattle.lynx_run.specs.declared.run.Ending.{Ending}
 use Rattle.lynx_run.specs.declared.verdict.Finding.{Finding}
+use Rattle.lynx_run.specs.Charts.{Charts}
 use Rattle.lynx_run.specs.Checks.{Finds}
 use Rattle.lynx_run.specs.Drawings.{Draws}
 use Rattle.lynx_command.specs.declared.job.RunFlags.{RunFlags}
@@ -35,6 +36,15 @@ pub record HasDrawn (options : DrawOptions) (source : List ℕ) (old new : Optio
   pub draws : Draws options.walk (take MAX_FILE_BYTES source) finding picture
   pub written : Appends old new picture
   pub status_is : status ≡ status_of_finding finding
+
+-- the chart of a run of the script that one source begins with over the set that another does is written, and the status
+-- is that of the run's ending
+pub record HasCharted (set script : List ℕ) (old new : Option (List ℕ)) (status : ℕ) : Type 0 where
+  pub ending : Ending
+  pub chart : List ℕ
+  pub charts : Charts (take MAX_FILE_BYTES set) (take MAX_FILE_BYTES script) ending chart
+  pub written : Appends old new chart
+  pub status_is : status ≡ status_of_ending ending
 
 -- the lines of a run of this script over this set are written, and the status is that of its ending
 pub record HasRunTexts (options : RunOptions) (set script : List ℕ) (old new : Option (List ℕ)) (status : ℕ) : Type 0 where

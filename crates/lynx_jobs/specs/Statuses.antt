@@ -5,7 +5,8 @@ use Rattle.lynx_jobs.specs.declared.fault.Fault.TheVariants.{Ask, Command, NoSep
 use Rattle.lynx_ask.specs.declared.fault.AskFault.{AskFault}
 use Rattle.lynx_ask.specs.declared.fault.AskFault.TheVariants.{Line}
 use Rattle.lynx_random.specs.declared.fault.SampleFault.{SampleFault}
-use Rattle.lynx_random.specs.declared.fault.SampleFault.TheVariants.{NoCycle, TooLong, Set as NoSet, Write as Unwritten, Memory as NoRoom}
+use Rattle.lynx_random.specs.declared.fault.SampleFault.TheVariants.{NoCycle, TooLong, Run as Stopped}
+use Rattle.lynx_run.specs.declared.run.RunFault.{RunFault}
 use Rattle.lynx_run.specs.declared.run.RunFault.TheVariants.{Set as SetFault, Script as ScriptFault, Write, Memory}
 use Rattle.lynx_run.specs.declared.run.Ending.{Ending}
 use Rattle.lynx_run.specs.declared.run.Ending.TheVariants.{Ordered, Cyclic}
@@ -17,23 +18,25 @@ abbrev pub status_of_asking : AskFault → ℕ
 status_of_asking (Line fault) = 2
 status_of_asking fault = 4
 
+-- of a run, a check or a picture: 2 for a text, 3 for want of memory, 4 for what can't be written
+abbrev pub status_of_run : RunFault → ℕ
+status_of_run (SetFault fault) = 2
+status_of_run (ScriptFault fault) = 2
+status_of_run Write = 4
+status_of_run Memory = 3
+
 -- of making a script: 1 where no run ended with a cycle, 2 where the script would be too long, and else as of a run
 abbrev pub status_of_sampling : SampleFault → ℕ
 status_of_sampling NoCycle = 1
 status_of_sampling TooLong = 2
-status_of_sampling (NoSet fault) = 2
-status_of_sampling Unwritten = 4
-status_of_sampling NoRoom = 3
+status_of_sampling (Stopped fault) = status_of_run fault
 
 -- 2: the words or a text. 3: want of memory. 4: what can't be read or written
 abbrev pub status_of : Fault → ℕ
 status_of (Command fault) = 2
 status_of NoSeparator = 2
 status_of (Unread name) = 4
-status_of (Run (SetFault fault)) = 2
-status_of (Run (ScriptFault fault)) = 2
-status_of (Run Write) = 4
-status_of (Run Memory) = 3
+status_of (Run fault) = status_of_run fault
 status_of (Store fault) = 4
 status_of (Serve fault) = 4
 status_of (Ask fault) = status_of_asking fault

@@ -1,6 +1,6 @@
 //! Why the program stops short: the one line on standard error, and the status.
 ghost use Rattle.std.specs.Prelude.{◌≡◌};
-ghost use Rattle.lynx_jobs.specs.Statuses.{status_of};
+ghost use Rattle.lynx_jobs.specs.Statuses.{status_of, status_of_run};
 ghost use Rattle.lynx_jobs.specs.Stopped.{sampling_fault};
 
 use crate::shown::Shown;
@@ -36,9 +36,20 @@ pub enum Fault<'a> {
     /// Asking a service stopped; never for want of memory or a writer.
     #[error("{0}")]
     Ask(AskFault),
-    /// No script was made; never for a faulty text, want of memory or a writer.
+    /// No script was made; never for what stops a run too.
     #[error("{0}")]
     Sample(SampleFault),
+}
+
+/// The status of a run, a check or a picture that stopped.
+fn status_of_run(fault: RunFault) -> u8
+    ensures { result ≡ status_of_run fault }
+{
+    match fault {
+        RunFault::Set(_) | RunFault::Script(_) => 2,
+        RunFault::Memory => 3,
+        RunFault::Write => 4,
+    }
 }
 
 impl<'a> Fault<'a> {
@@ -95,9 +106,7 @@ impl<'a> Fault<'a> {
         ensures { result ≡ sampling_fault fault }
     {
         match fault {
-            SampleFault::Set(fault) => Fault::Run(RunFault::Set(fault)),
-            SampleFault::Write => Fault::Run(RunFault::Write),
-            SampleFault::Memory => Fault::Run(RunFault::Memory),
+            SampleFault::Run(fault) => Fault::Run(fault),
             fault => Fault::Sample(fault),
         }
     }
@@ -107,16 +116,11 @@ impl<'a> Fault<'a> {
         ensures { result ≡ status_of self.now }
     {
         match self {
-            Fault::Command(_) | Fault::NoSeparator => 2,
-            Fault::Run(RunFault::Set(_) | RunFault::Script(_)) => 2,
-            Fault::Run(RunFault::Memory) => 3,
-            Fault::Ask(AskFault::Line(_)) => 2,
-            Fault::Unread(_) | Fault::Run(RunFault::Write) => 4,
-            Fault::Store(_) | Fault::Serve(_) | Fault::Ask(_) => 4,
+            Fault::Command(_) | Fault::NoSeparator | Fault::Ask(AskFault::Line(_)) => 2,
+            Fault::Unread(_) | Fault::Store(_) | Fault::Serve(_) | Fault::Ask(_) => 4,
+            Fault::Run(fault) | Fault::Sample(SampleFault::Run(fault)) => status_of_run(*fault),
             Fault::Sample(SampleFault::NoCycle) => 1,
-            Fault::Sample(SampleFault::Set(_) | SampleFault::TooLong) => 2,
-            Fault::Sample(SampleFault::Memory) => 3,
-            Fault::Sample(SampleFault::Write) => 4,
+            Fault::Sample(SampleFault::TooLong) => 2,
         }
     }
 }

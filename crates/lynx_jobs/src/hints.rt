@@ -19,6 +19,12 @@ pub(crate) struct Named<'a> {
     pub text: &'a [u8],
 }
 
+impl<'a> Named<'a> {
+    pub(crate) fn new(name: &'a str, text: &'a [u8]) -> Named<'a> {
+        Named { name, text }
+    }
+}
+
 /// The lines behind the one that tells a fault. They are made only where they are wanted, and for want of memory there are
 /// none.
 #[derive(Debug, Drop)]
@@ -112,14 +118,8 @@ impl Hints {
     ) {
         match split_input(input) {
             Some((set, script)) => {
-                let set = Named {
-                    name: "standard input",
-                    text: set,
-                };
-                let script = Named {
-                    name: "standard input, script",
-                    text: script,
-                };
+                let set = Named::new("standard input", set);
+                let script = Named::new("standard input, script", script);
                 self.note_run(alloc, set, script, done);
             }
             None if self.is_wanted => self.lines = separator_hint(alloc, input).ok(),

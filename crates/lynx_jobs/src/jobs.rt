@@ -6,7 +6,9 @@ use crate::fault::Fault;
 use crate::hints::{Hints, Named};
 use crate::reading::text_of;
 use crate::serving::{ask_port, serve_file};
-use crate::texts::{DONE, check_source, draw_source, run_input, run_sources, sample_source};
+use crate::texts::{
+    DONE, chart_sources, check_source, draw_source, run_input, run_sources, sample_source,
+};
 use lynx_command::{INPUT, Job, RunFlags, SampleFlags};
 use lynx_input::{InputFault, MAX_INPUT_BYTES, read_all};
 use lynx_keep::Keeper;
@@ -47,6 +49,7 @@ pub fn do_job<
     let done = match job {
         Job::Check { set, why } => check_file(host, set, why, hints, &mut writer),
         Job::Draw { set, walk } => draw_file(host, set, walk, hints, &mut writer),
+        Job::Chart { set, script } => chart_files(host, set, script, hints, &mut writer),
         Job::Sample { set, flags } => sample_file(host, set, flags, hints, &mut writer),
         Job::Run { set, script, flags } => run_files(host, set, script, flags, hints, &mut writer),
         Job::RunInput { flags } => run_standard_input(host, flags, hints, &mut writer),
@@ -84,7 +87,7 @@ fn check_file<'a, R: Files + AllocGlobal, W: Write>(
     let read = text_of(rt, set)?;
     let text = read.as_slice();
     let done = check_source(rt.alloc(), set, &mut &*text, CheckOptions { why }, writer);
-    hints.note_set(rt.alloc(), Named { name: set, text }, &done);
+    hints.note_set(rt.alloc(), Named::new(set, text), &done);
     done
 }
 
@@ -99,7 +102,30 @@ fn draw_file<'a, R: Files + AllocGlobal, W: Write>(
     let read = text_of(rt, set)?;
     let text = read.as_slice();
     let done = draw_source(rt.alloc(), set, &mut &*text, DrawOptions { walk }, writer);
-    hints.note_set(rt.alloc(), Named { name: set, text }, &done);
+    hints.note_set(rt.alloc(), Named::new(set, text), &done);
+    done
+}
+
+/// Draws a run of the script of a file over the set of another, which is read first.
+fn chart_files<'a, R: Files + AllocGlobal, W: Write>(
+    rt: &R,
+    set: &'a str,
+    script: &'a str,
+    hints: &mut Hints,
+    writer: &mut W,
+) -> Result<u8, Fault<'a>> {
+    let (set_read, script_read) = (text_of(rt, set)?, text_of(rt, script)?);
+    let (set_text, script_text) = (set_read.as_slice(), script_read.as_slice());
+    let done = chart_sources(
+        rt.alloc(),
+        set,
+        &mut &*set_text,
+        script,
+        &mut &*script_text,
+        writer,
+    );
+    let (set, script) = (Named::new(set, set_text), Named::new(script, script_text));
+    hints.note_run(rt.alloc(), set, script, &done);
     done
 }
 
@@ -114,7 +140,7 @@ fn sample_file<'a, R: Files + AllocGlobal, W: Write>(
     let read = text_of(rt, set)?;
     let text = read.as_slice();
     let done = sample_source(rt.alloc(), set, &mut &*text, flags, writer);
-    hints.note_set(rt.alloc(), Named { name: set, text }, &done);
+    hints.note_set(rt.alloc(), Named::new(set, text), &done);
     done
 }
 
@@ -138,14 +164,7 @@ fn run_files<'a, R: Files + AllocGlobal, W: Write>(
         flags,
         writer,
     );
-    let set = Named {
-        name: set,
-        text: set_text,
-    };
-    let script = Named {
-        name: script,
-        text: script_text,
-    };
+    let (set, script) = (Named::new(set, set_text), Named::new(script, script_text));
     hints.note_run(rt.alloc(), set, script, &done);
     done
 }

@@ -4,7 +4,7 @@
 pub use fault::Fault;
 pub use hints::Hints;
 pub use jobs::do_job;
-pub use texts::{check_source, draw_source, run_input, run_sources, sample_source};
+pub use texts::{chart_sources, check_source, draw_source, run_input, run_sources, sample_source};
 
 pub mod fault;
 pub mod hints;

@@ -2,16 +2,16 @@
 ghost use Rattle.std.specs.Prelude.{◌≡◌, IfOk, IfErr, IfSome, Ok, Err, take};
 ghost use Rattle.lynx_input.specs.declared.source.TheConstants.{MAX_FILE_BYTES};
 ghost use Rattle.lynx_jobs.specs.Statuses.{status_of_ending, status_of_finding};
-ghost use Rattle.lynx_jobs.specs.Done.{HasChecked, HasDrawn, HasRun, HasRunAs, HasRunInput, HasRunJudged, HasRunTexts, HasSampled};
-ghost use Rattle.lynx_jobs.specs.Stopped.{StopsChecking, StopsDrawing, StopsReading, StopsRun, StopsRunAs, StopsRunInput, StopsRunJudged, StopsRunTexts, StopsSampling};
+ghost use Rattle.lynx_jobs.specs.Done.{HasCharted, HasChecked, HasDrawn, HasRun, HasRunAs, HasRunInput, HasRunJudged, HasRunTexts, HasSampled};
+ghost use Rattle.lynx_jobs.specs.Stopped.{StopsCharting, StopsChecking, StopsDrawing, StopsReading, StopsRun, StopsRunAs, StopsRunInput, StopsRunJudged, StopsRunTexts, StopsSampling};
 
 use crate::fault::Fault;
 use lynx_command::{RunFlags, SampleFlags};
 use lynx_input::{MAX_FILE_BYTES, MAX_INPUT_BYTES, read_all, split_input};
 use lynx_random::{SampleOptions, sample_text};
 use lynx_run::{
-    CheckOptions, DrawOptions, Ending, Finding, RunOptions, check_text, draw_text, refuse_text,
-    run_texts,
+    CheckOptions, DrawOptions, Ending, Finding, RunOptions, chart_texts, check_text, draw_text,
+    refuse_text, run_texts,
 };
 use std::alloc::Global;
 use std::io::{Read, Write};
@@ -94,6 +94,29 @@ pub fn draw_source<'a, R: Read, W: Write>(
     let text = read_text(alloc, name, source)?;
     match draw_text(alloc, text.as_slice(), options, writer) {
         Ok(finding) => Ok(status_of_finding(finding)),
+        Err(fault) => Err(Fault::Run(fault)),
+    }
+}
+
+/// Draws a run of the script of a source over the set of another, which is read first, and gives the run's status.
+pub fn chart_sources<'a, R: Read, S: Read, W: Write>(
+    alloc: Global,
+    set_name: &'a str,
+    set: &mut R,
+    script_name: &'a str,
+    script: &mut S,
+    writer: &mut W,
+) -> Result<u8, Fault<'a>>
+    ensures ok { IfOk result (λ status. IfSome (R.remaining set.old) (λ set_bytes.
+        IfSome (S.remaining script.old) (λ script_bytes.
+        HasCharted set_bytes script_bytes (W.contents writer.old) (W.contents writer.new) status))) }
+    ensures err { IfErr result (StopsCharting (R.remaining set.old) set_name.now
+        (S.remaining script.old) script_name.now (W.contents writer.old) (W.contents writer.new)) }
+{
+    let set = read_text(alloc, set_name, set)?;
+    let script = read_text(alloc, script_name, script)?;
+    match chart_texts(alloc, set.as_slice(), script.as_slice(), writer) {
+        Ok(ending) => Ok(status_of_ending(ending)),
         Err(fault) => Err(Fault::Run(fault)),
     }
 }

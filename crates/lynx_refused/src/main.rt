@@ -90,6 +90,7 @@ const CALLS: &[(&str, Call)] = &[
     ("World::cells", Call::World(WorldCall::Cells)),
     ("explain", Call::World(WorldCall::Explain)),
     ("owed_hops", Call::World(WorldCall::Owed)),
+    ("chart", Call::World(WorldCall::Chart)),
     ("serve", Call::Service(ServiceCall::Serve)),
     ("Cluster::begin", Call::Service(ServiceCall::Begin)),
 ];

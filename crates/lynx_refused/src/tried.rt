@@ -1,4 +1,6 @@
 //! What comes of a call that is made again where memory was wanting to it.
+ghost use Rattle.std.specs.Prelude.{◌≡◌, ◌↔◌, IsOk, IsTrue};
+
 use lynx_names::Memory;
 
 /// What a call answered.
@@ -41,7 +43,9 @@ impl Tried {
 }
 
 /// What was answered by a call that may want memory and nothing else.
-pub fn of_result<T: Drop>(answer: Result<T, Memory>) -> Called {
+pub fn of_result<T: Drop>(answer: Result<T, Memory>) -> Called
+    ensures { (result ≡ Called.Done) ↔ IsOk answer }
+{
     match answer {
         Ok(_) => Called::Done,
         Err(Memory) => Called::Refused,
@@ -49,7 +53,9 @@ pub fn of_result<T: Drop>(answer: Result<T, Memory>) -> Called {
 }
 
 /// What comes of a call that is over.
-pub fn ended(answered: Called) -> Tried {
+pub fn ended(answered: Called) -> Tried
+    ensures { (result ≡ Tried.Done) ↔ (answered ≡ Called.Done) }
+{
     match answered {
         Called::Done => Tried::Done,
         Called::Refused => Tried::Lost,
@@ -58,7 +64,9 @@ pub fn ended(answered: Called) -> Tried {
 }
 
 /// What comes of a call to which memory was wanting, and which was made again.
-pub fn made_again(is_as_before: bool, second: Called) -> Tried {
+pub fn made_again(is_as_before: bool, second: Called) -> Tried
+    ensures { (result ≡ Tried.Again) ↔ (IsTrue is_as_before × (second ≡ Called.Done)) }
+{
     match second {
         Called::Done if is_as_before => Tried::Again,
         Called::Done => Tried::Changed,

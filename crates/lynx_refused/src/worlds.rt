@@ -1,5 +1,6 @@
 //! Calls on a world.
 use crate::tried::{Called, Tried, ended, made_again, of_result};
+use lynx_chart::chart;
 use lynx_names::{Memory, ServerId, Stamp};
 use lynx_order::explain;
 use lynx_run::owed_hops;
@@ -27,6 +28,8 @@ pub enum WorldCall {
     Explain,
     /// What is owed is listed.
     Owed,
+    /// The run is drawn.
+    Chart,
 }
 
 fn event(alloc: Global, call: WorldCall) -> Result<Event, Memory> {
@@ -76,12 +79,19 @@ fn world(alloc: Global) -> Result<Box<World>, Memory> {
     Ok(world)
 }
 
+/// The chart of the run.
+fn charted(alloc: Global, world: &World) -> Result<Vec<u8>, Memory> {
+    let explained = explain(alloc, world)?;
+    chart(alloc, world, &[], &explained)
+}
+
 /// Makes it once.
 fn make(alloc: Global, call: WorldCall, world: &mut World) -> Result<Called, Memory> {
     match call {
         WorldCall::Cells => Ok(of_result(world.cells(alloc))),
         WorldCall::Explain => Ok(of_result(explain(alloc, world))),
         WorldCall::Owed => Ok(of_result(owed_hops(alloc, world))),
+        WorldCall::Chart => Ok(of_result(charted(alloc, world))),
         _ => {
             let event = event(alloc, call)?;
             applied(alloc, world, event)

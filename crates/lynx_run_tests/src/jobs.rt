@@ -120,6 +120,11 @@ fn words_ask_for_jobs(rt: HostRuntime) -> Result<(), Fail> {
     ] {
         assert!(rt; ask_for(rt.alloc(), words, Job::Draw { set: "a", walk })?);
     }
+    let chart = Job::Chart {
+        set: "a",
+        script: "b",
+    };
+    assert!(rt; ask_for(rt.alloc(), &["lynx", "draw", "a", "b"], chart)?);
     Ok(())
 }
 

@@ -1,7 +1,7 @@
-//! Writers that fail, at each line of a run and of a verdict, and at a picture.
+//! Writers that fail, at each line of a run and of a verdict, at a picture and at a chart.
 use lynx_run::{
-    CheckOptions, DrawOptions, Ending, Finding, RunFault, RunOptions, check_text, draw_text,
-    run_texts,
+    CheckOptions, DrawOptions, Ending, Finding, RunFault, RunOptions, chart_texts, check_text,
+    draw_text, run_texts,
 };
 use lynx_samples::full::Full;
 use lynx_samples::rows::PAYMENT;
@@ -62,6 +62,19 @@ fn drawn_in(alloc: Global, left: usize) -> Result<Finding, RunFault> {
         DrawOptions::default(),
         &mut writer,
     )
+}
+
+/// How a run ended where so many charts can be written.
+fn charted_in(alloc: Global, left: usize) -> Result<Ending, RunFault> {
+    let mut writer = Full { left };
+    let (set, script) = (PAYMENT.set.as_bytes(), PAYMENT.script.as_bytes());
+    chart_texts(alloc, set, script, &mut writer)
+}
+
+#[test]
+fn a_broken_pipe_ends_the_chart(rt: HostRuntime) {
+    assert!(rt; charted_in(rt.alloc(), 0) == Err(RunFault::Write));
+    assert!(rt; charted_in(rt.alloc(), 1) == Ok(Ending::Ordered));
 }
 
 #[test]

@@ -1,7 +1,7 @@
-use Rattle.std.proofs.Common.{IfErr, rules}
-use Rattle.lynx_jobs.specs.Stopped.{StopsReading}
+use Rattle.std.proofs.Common.{IfErr, inr, rules}
+use Rattle.lynx_jobs.specs.Stopped.{HasNoPicture, StopsReading, StopsText}
 use Rattle.lynx_jobs.proofs.Known.{drawn_known}
-use Rattle.lynx_jobs.proofs.Stops.{drawing_stops, drawing_unread}
+use Rattle.lynx_jobs.proofs.Stops.{text_stops, unread}
 use Rattle.lynx_jobs.proofs.texts.draw_source.Goals as goal
 
 pub returns-in-Ok-clause-ok : goal.returns-in-Ok-clause-ok
@@ -10,9 +10,11 @@ returns-in-Ok-clause-ok g c =
 
 pub returns-in_err-text-clause-err : goal.returns-in_err-text-clause-err
 returns-in_err-text-clause-err g c =
-    let unread : IfErr c.from_residual.result (StopsReading c.args.name.now) = search rules in
-    drawing_unread c.args.options c.from_residual.result (g.R.Read.remaining c.args.source.now) c.args.name.now (g.W.Write.contents c.args.writer.now) unread
+    let stops : IfErr c.from_residual.result (StopsReading c.args.name.now) = search rules in
+    let old = g.W.Write.contents c.args.writer.now in
+    unread (StopsText (HasNoPicture c.args.options old old) (g.R.Read.remaining c.args.source.now)) c.from_residual.result c.args.name.now old stops
 
 pub returns-clause-err : goal.returns-clause-err
 returns-clause-err g c =
-    drawing_stops c.args.options (g.R.Read.remaining c.args.source.now) c.args.name.now c.in_ok-text.text.items c.as_slice.result.now _ _ c.in-Err.fault c.in_ok-text.ensures.ok c.as_slice.ensures.value c.in-Err.ensures.err c.in-Err.ensures.part
+    inr (text_stops (HasNoPicture c.args.options _ _) _ c.in_ok-text.text.items c.as_slice.result.now c.in-Err.fault c.in_ok-text.ensures.ok c.as_slice.ensures.value
+    (c.in-Err.ensures.err, c.in-Err.ensures.part))

@@ -1,7 +1,7 @@
 use Rattle.std.proofs.Common.{IfErr, refl, rules}
-use Rattle.lynx_jobs.specs.Stopped.{StopsReading}
+use Rattle.lynx_jobs.specs.Stopped.{StopsReading, StopsSamplingText}
 use Rattle.lynx_jobs.proofs.Known.{sampled_known}
-use Rattle.lynx_jobs.proofs.Stops.{sampling_stops, sampling_unread}
+use Rattle.lynx_jobs.proofs.Stops.{sampling_stops, unread}
 use Rattle.lynx_jobs.proofs.texts.sample_source.Goals as goal
 
 pub returns-in-Ok-clause-ok : goal.returns-in-Ok-clause-ok
@@ -10,8 +10,9 @@ returns-in-Ok-clause-ok g c =
 
 pub returns-in_err-text-clause-err : goal.returns-in_err-text-clause-err
 returns-in_err-text-clause-err g c =
-    let unread : IfErr c.from_residual.result (StopsReading c.args.name.now) = search rules in
-    sampling_unread c.args.flags.cycle c.from_residual.result (g.R.Read.remaining c.args.source.now) c.args.name.now (g.W.Write.contents c.args.writer.now) unread
+    let stops : IfErr c.from_residual.result (StopsReading c.args.name.now) = search rules in
+    let old = g.W.Write.contents c.args.writer.now in
+    unread (StopsSamplingText c.args.flags.cycle (g.R.Read.remaining c.args.source.now) old old) c.from_residual.result c.args.name.now old stops
 
 pub returns-clause-err : goal.returns-clause-err
 returns-clause-err g c =

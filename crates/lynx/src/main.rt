@@ -7,7 +7,7 @@ use lynx_command::{CommandFault, Job, command, job_of, wants_hints};
 use lynx_files::Files;
 use lynx_jobs::{Fault, Hints, do_job};
 use lynx_keep::Keeper;
-use lynx_run::RunFault;
+use lynx_report::RunFault;
 use lynx_stores::Stores;
 use std::io::{self, IsTerminal};
 use std::net::{Net, TcpListener, TcpStream};

@@ -1,6 +1,6 @@
 -- What a client sends.
-use Rattle.lynx_forms.specs.declared.item.Item.{Item}
-use Rattle.lynx_forms.specs.declared.item.Item.TheVariants.{Request, Look, Quit, Shut}
+use Rattle.lynx_codec.specs.declared.item.Item.{Item}
+use Rattle.lynx_codec.specs.declared.item.Item.TheVariants.{Request, Look, Quit, Shut}
 
 -- an item that a client may send
 abbrev pub IsFromClient : Item → Type 0

@@ -1,7 +1,7 @@
 //! What is answered, as lines.
 use crate::fault::AskFault;
 use lynx_entry::{Answer, Outcome};
-use lynx_forms::{DecodeFault, Feed, Item, Looked};
+use lynx_codec::{DecodeFault, Feed, Item, Looked};
 use lynx_print::outcome_line;
 use std::alloc::Global;
 use std::io::{ErrorKind, Read};

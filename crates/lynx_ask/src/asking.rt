@@ -2,7 +2,7 @@
 use crate::answering::{line_of, next_item};
 use crate::fault::AskFault;
 use crate::reading::{Asked, item_of, read_asked};
-use lynx_forms::{Feed, encode};
+use lynx_codec::{Feed, encode};
 use lynx_io::write_bytes;
 use lynx_set::ChainSet;
 use std::alloc::Global;

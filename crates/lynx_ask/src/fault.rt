@@ -1,7 +1,7 @@
 //! Why asking stopped.
 use lynx_io::WriteFailed;
 use lynx_names::Memory;
-use lynx_words::{FaultKind, TextFault};
+use lynx_lex::{FaultKind, TextFault};
 use std::alloc::AllocError;
 use thiserror::Error;
 

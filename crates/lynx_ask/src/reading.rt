@@ -1,15 +1,15 @@
 //! What a line asks.
 ghost use Rattle.std.specs.Prelude.{IfOk};
-ghost use Rattle.lynx_forms.specs.Ranges.{IsInRange};
+ghost use Rattle.lynx_codec.specs.Ranges.{IsInRange};
 ghost use Rattle.lynx_ask.specs.Asking.{IsFromClient};
 
 use lynx_entry::{Event, Request};
-use lynx_forms::{Item, Look};
+use lynx_codec::{Item, Look};
 use lynx_names::ChainId;
 use lynx_names::limits::MAX_PARAMETERS;
 use lynx_script::parse_script;
 use lynx_set::ChainSet;
-use lynx_words::FaultKind;
+use lynx_lex::FaultKind;
 use std::alloc::Global;
 
 /// What a line asks for.

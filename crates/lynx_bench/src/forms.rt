@@ -1,10 +1,10 @@
 //! The forms of a payment, written and read again and again: none is kept, so memory stays small.
 ghost use Rattle.std.specs.Prelude.{◌≡◌, ◌<◌, ◌∷◌, [], IfOk};
-ghost use Rattle.lynx_forms.specs.Ranges.{IsInRange, IsMessageInRange, HaveOrder};
+ghost use Rattle.lynx_codec.specs.Ranges.{IsInRange, IsMessageInRange, HaveOrder};
 
 use lynx_entry::{BegunEntry, Entry, HopEntry, Message, Request, ResultLists};
-use lynx_forms::limits::MAX_FORM_BYTES;
-use lynx_forms::{DecodeFault, Feed, Item, append};
+use lynx_codec::limits::MAX_FORM_BYTES;
+use lynx_codec::{DecodeFault, Feed, Item, append};
 use lynx_names::{
     ChainId, ClientId, Memory, NumberAt, Numbers, ProgramId, ServerId, Stamp, Values,
 };

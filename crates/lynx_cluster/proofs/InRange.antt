@@ -12,9 +12,9 @@ use Rattle.lynx_entry.specs.declared.entry.Entry.{Entry}
 use Rattle.lynx_entry.specs.declared.entry.Entry.TheVariants.{Begun, Refused, Hop as HopRan}
 use Rattle.lynx_entry.specs.declared.request.Request.{Request}
 use Rattle.lynx_entry.specs.Entry.{History}
-use Rattle.lynx_forms.specs.declared.item.Looked.{Looked}
+use Rattle.lynx_codec.specs.declared.item.Looked.{Looked}
 use Rattle.lynx_names.specs.declared.memory.Memory.{Memory}
-use Rattle.lynx_forms.specs.Ranges.{IsAnswerInRange, IsLookedInRange}
+use Rattle.lynx_codec.specs.Ranges.{IsAnswerInRange, IsLookedInRange}
 use Rattle.lynx_rules.specs.Answers.{answer, answer_new, answer_recorded, begun_by, is_busy, is_full, only, recorded_answer, same_call}
 use Rattle.lynx_rules.specs.Checks.{are_keys_placed, request_fault, request_fault_in}
 use Rattle.lynx_rules.specs.Lawful.{is_record_of, record_of}

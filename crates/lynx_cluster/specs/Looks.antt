@@ -2,8 +2,8 @@
 use Rattle.std.specs.Prelude.{◌≡◌, ℕ, List, [], ◌∷◌, ◌++◌, Option, Some, None}
 use Rattle.lynx_entry.specs.declared.entry.Entry.{Entry}
 use Rattle.lynx_entry.specs.declared.entry.Entry.TheVariants as entries
-use Rattle.lynx_forms.specs.declared.item.Looked.{Looked}
-use Rattle.lynx_forms.specs.declared.item.Looked.TheVariants.{Absent, Found}
+use Rattle.lynx_codec.specs.declared.item.Looked.{Looked}
+use Rattle.lynx_codec.specs.declared.item.Looked.TheVariants.{Absent, Found}
 use Rattle.lynx_names.specs.declared.chain.ChainId.{ChainId}
 use Rattle.lynx_set.specs.Lookups.{server_at}
 use Rattle.lynx_set.specs.Set.{Set}

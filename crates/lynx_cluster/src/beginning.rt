@@ -3,7 +3,7 @@ ghost use Rattle.std.specs.Prelude.{◌≡◌, ◌++◌, max, true, false, IfOk,
 ghost use Rattle.lynx_weave.specs.Told.{greatest_told};
 ghost use Rattle.lynx_server.specs.Serving.{Begins, Lasts, begins_here};
 ghost use Rattle.lynx_server.specs.History.{IsLawfulHistory};
-ghost use Rattle.lynx_forms.specs.Ranges.{IsAnswerInRange};
+ghost use Rattle.lynx_codec.specs.Ranges.{IsAnswerInRange};
 ghost use Rattle.lynx_cluster.specs.Answers.{FitsRequest, IsAbove, IsLeft};
 ghost use Rattle.lynx_cluster.specs.Sessions.{is_noted, told_by};
 

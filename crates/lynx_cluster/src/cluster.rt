@@ -1,7 +1,7 @@
 //! A cluster, and the front of it that threads are lent.
 ghost use Rattle.std.specs.Prelude.{◌≡◌, ◌++◌, ◌↔◌, [], IfOk, IfSome, IsTrue, OnErr};
 ghost use Rattle.lynx_weave.specs.Told.{greatest_told};
-ghost use Rattle.lynx_forms.specs.Ranges.{IsAnswerInRange, IsLookedInRange};
+ghost use Rattle.lynx_codec.specs.Ranges.{IsAnswerInRange, IsLookedInRange};
 ghost use Rattle.lynx_cluster.specs.Answers.{FitsRequest, IsAbove};
 ghost use Rattle.lynx_cluster.specs.Clusters.{IsOf, home_of};
 ghost use Rattle.lynx_cluster.specs.Looks.{Looks};
@@ -10,7 +10,7 @@ ghost use Rattle.lynx_cluster.specs.Sessions.{told_by};
 use crate::gate::{Gate, Step};
 use crate::session::Session;
 use lynx_entry::{Answer, Entry, Request};
-use lynx_forms::Looked;
+use lynx_codec::Looked;
 use lynx_keep::Keeper;
 use lynx_names::{ChainId, Memory, ProgramId, ServerId};
 use lynx_server::Server;

@@ -1,12 +1,12 @@
 //! A look of a session at the state of a server.
 ghost use Rattle.std.specs.Prelude.{◌≡◌, ◌++◌, IfOk, OnErr};
-ghost use Rattle.lynx_forms.specs.Ranges.{IsLookedInRange};
+ghost use Rattle.lynx_codec.specs.Ranges.{IsLookedInRange};
 ghost use Rattle.lynx_server.specs.Acts.{act_of};
 ghost use Rattle.lynx_cluster.specs.Looks.{looked_at, seen_by};
 
 use crate::beginning::later;
 use crate::session::Session;
-use lynx_forms::Looked;
+use lynx_codec::Looked;
 use lynx_keep::Keeper;
 use lynx_names::{ChainId, Memory, Values};
 use lynx_server::Server;

@@ -1,10 +1,10 @@
 //! Clients that ask whatever comes.
 use lynx_cluster::{Front, Gate, Session};
 use lynx_entry::{Answer, Request};
-use lynx_forms::Looked;
+use lynx_codec::Looked;
 use lynx_keep::Keeper;
 use lynx_names::{ChainId, ClientId, Memory, Values};
-use lynx_samples::made::{program, values};
+use lynx_fixtures::made::{program, values};
 use std::alloc::Global;
 use std::sync::Wait;
 use std::thread;

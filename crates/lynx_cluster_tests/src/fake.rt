@@ -2,8 +2,8 @@
 use lynx_cluster::{Arrived, Due, Owed, Receipt, Steps, Worker};
 use lynx_link::{Parcel, links};
 use lynx_names::{ChainId, Memory, ServerId};
-use lynx_samples::made::message;
-use lynx_samples::parts::MessageParts;
+use lynx_fixtures::made::message;
+use lynx_fixtures::parts::MessageParts;
 use std::alloc::Global;
 use std::collections::VecDeque;
 use std::sync::Wait;

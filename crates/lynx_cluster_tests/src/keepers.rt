@@ -2,9 +2,9 @@
 use crate::trouble::Trouble;
 use lynx_keep::{FaultKeeper, MemoryKeeper, Planned};
 use lynx_names::{Memory, ServerId, Stamp};
-use lynx_samples::made::request;
-use lynx_samples::parts::RequestParts;
-use lynx_samples::texts::set_of;
+use lynx_fixtures::made::request;
+use lynx_fixtures::parts::RequestParts;
+use lynx_fixtures::texts::set_of;
 use lynx_server::Server;
 use lynx_store::SqlKeeper;
 use sqlite::{Connection, MemStore};

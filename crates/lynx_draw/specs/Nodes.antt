@@ -1,7 +1,7 @@
 -- Hops as nodes.
 use Rattle.std.specs.Prelude.{Bool, ◌==◌, ◌+◌, ◌-◌, ℕ, List, [], ◌∷◌, ◌++◌, codes, decimal, if◌then◌else◌}
 use Rattle.std.specs.Option.{option_map_or}
-use Rattle.lynx_words.specs.Lines.{joined}
+use Rattle.lynx_lex.specs.Lines.{joined}
 use Rattle.lynx_set.specs.Set.{Set}
 use Rattle.lynx_set.specs.Lookups.{program_at}
 use Rattle.lynx_set.specs.Text.{action_words, bound_in, bound_names}

@@ -1,9 +1,9 @@
 -- The whole picture of a set.
 use Rattle.std.specs.Prelude.{◌≡◌, ℕ, List, [], ◌++◌, codes, Option, Some, None}
 use Rattle.lynx_set.specs.Set.{Set}
-use Rattle.lynx_verdict.specs.declared.verdict.Verdict.{Verdict}
+use Rattle.lynx_check.specs.declared.verdict.Verdict.{Verdict}
 use Rattle.lynx_graph.specs.declared.visit.Visit.{Visit}
-use Rattle.lynx_verdict.specs.declared.verdict.Verdict.TheVariants.{Accepted, Offending}
+use Rattle.lynx_check.specs.declared.verdict.Verdict.TheVariants.{Accepted, Offending}
 use Rattle.lynx_draw.specs.declared.picture.TheConstants.{HEAD, ACCEPTED, EXCUSED, OFFENDING, LEGEND, CONFLICTS, EXCUSED_STEPS, STEPS}
 use Rattle.lynx_groups.specs.declared.edges.Edge.{Edge}
 use Rattle.lynx_draw.specs.declared.steps.Step.{Step}

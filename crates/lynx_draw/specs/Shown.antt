@@ -3,8 +3,8 @@ use Rattle.std.specs.Prelude.{Bool, true, not, ◌&&◌, ℕ, List, [], length, 
 use Rattle.std.specs.List.{range_with_len}
 use Rattle.lynx_set.specs.Set.{Set}
 use Rattle.lynx_graph.specs.declared.visit.Visit.{Visit}
-use Rattle.lynx_verdict.specs.declared.verdict.Verdict.{Verdict}
-use Rattle.lynx_verdict.specs.declared.verdict.Verdict.TheVariants.{Accepted, Offending}
+use Rattle.lynx_check.specs.declared.verdict.Verdict.{Verdict}
+use Rattle.lynx_check.specs.declared.verdict.Verdict.TheVariants.{Accepted, Offending}
 use Rattle.lynx_groups.specs.declared.edges.Edge.{Edge}
 use Rattle.lynx_draw.specs.declared.shown.Shown.{Shown}
 use Rattle.lynx_draw.specs.declared.shown.Shown.TheVariants.{All, Walk}

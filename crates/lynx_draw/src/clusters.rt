@@ -10,7 +10,7 @@ use lynx_graph::program_of;
 use lynx_names::{Memory, ProgramId};
 use lynx_set::{ChainSet, Interval, ParameterRange, range_of};
 use lynx_text::printing::{put_interval, put_word};
-use lynx_words::Name;
+use lynx_lex::Name;
 use std::alloc::Global;
 
 fn put_range(alloc: Global, out: &mut Vec<u8>, range: Option<Interval>) -> Result<(), Memory>

@@ -11,7 +11,7 @@ use lynx_graph::Place;
 use lynx_names::{Memory, ProgramId, ServerId};
 use lynx_set::{Action, ChainSet, Hop};
 use lynx_text::printing::{bound_names, put_action_words, put_number};
-use lynx_words::Name;
+use lynx_lex::Name;
 use std::alloc::Global;
 
 /// Writes an action on a line of its own, as the set's text has it.

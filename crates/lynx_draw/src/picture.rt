@@ -17,7 +17,7 @@ use crate::steps::{Step, steps_of};
 use lynx_groups::{Edge, conflict_edges, members_of};
 use lynx_names::{Items, Memory};
 use lynx_set::ChainSet;
-use lynx_verdict::Verdict;
+use lynx_check::Verdict;
 use std::alloc::Global;
 
 /// How all of it is drawn.

@@ -8,7 +8,7 @@ use lynx_graph::{Visit, program_of};
 use lynx_groups::Edge;
 use lynx_names::{Memory, ProgramId};
 use lynx_set::ChainSet;
-use lynx_verdict::Verdict;
+use lynx_check::Verdict;
 use std::alloc::Global;
 
 /// Which programs of a set are drawn.

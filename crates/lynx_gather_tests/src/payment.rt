@@ -2,9 +2,9 @@
 use lynx_entry::{Answer, Delivered};
 use lynx_keep::Keeper;
 use lynx_names::{Memory, ServerId, Stamp};
-use lynx_samples::made::{answer, delivered, message, request};
-use lynx_samples::parts::{AnswerParts, RequestParts};
-use lynx_samples::payments::{
+use lynx_fixtures::made::{answer, delivered, message, request};
+use lynx_fixtures::parts::{AnswerParts, RequestParts};
+use lynx_fixtures::payments::{
     DONE_AT_THREE, PAY, PAY_BEGUN, PAY_BEGUN_AGAIN, REPEATED_AT_THREE, SEED, SEED_BEGUN, SENT,
 };
 use lynx_server::Server;

@@ -4,10 +4,10 @@ use crate::verdicts::CHAINED;
 use crate::walks::{given, judged};
 use lynx_graph::{Block, BlockWalk, blocks_hold};
 use lynx_names::{Memory, ProgramId};
-use lynx_samples::texts::{
+use lynx_fixtures::texts::{
     CROSSING, EMPTY_SET, ONE_ORIGIN_JOINS, ONE_ORIGIN_SETS, PAY_AND_NOTE, TRIP, set_of,
 };
-use lynx_verdict::{Reason, Verdict, search_walk};
+use lynx_check::{Reason, Verdict, search_walk};
 use std::alloc::Global;
 
 /// A block by numbers: the program and the hop entered, the program and the hop left. Of one chain, where both programs

@@ -4,8 +4,8 @@ use lynx_draw::{Shown, draw};
 use lynx_graph::{BlockWalk, Walk};
 use lynx_groups::conflict_edges;
 use lynx_names::Memory;
-use lynx_samples::texts::set_of;
-use lynx_verdict::Verdict;
+use lynx_fixtures::texts::set_of;
+use lynx_check::Verdict;
 use std::alloc::Global;
 use std::fmt::Write;
 

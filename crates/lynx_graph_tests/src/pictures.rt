@@ -4,8 +4,8 @@ use crate::walks::judged;
 use lynx_draw::{Shown, draw};
 use lynx_graph::{BlockWalk, Visit, Walk};
 use lynx_names::{Memory, ProgramId};
-use lynx_samples::texts::{PAY_AND_NOTE, TRIP, set_of};
-use lynx_verdict::Verdict;
+use lynx_fixtures::texts::{PAY_AND_NOTE, TRIP, set_of};
+use lynx_check::Verdict;
 use std::alloc::Global;
 use std::fmt::Write;
 

@@ -2,7 +2,7 @@
 use crate::walks::{Hops, are_visits, given, judged, walk};
 use lynx_graph::walk_holds;
 use lynx_names::Memory;
-use lynx_samples::texts::{
+use lynx_fixtures::texts::{
     CROSSING, EMPTY_SET, LATE_AND_MARK, ONE_ORIGIN_JOINS, ONE_ORIGIN_ONLY, ONE_ORIGIN_SETS,
     PAY_AND_NOTE, TRIP, set_of,
 };

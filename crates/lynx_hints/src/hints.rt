@@ -10,7 +10,7 @@ use crate::set_faults::put_set_fault;
 use crate::view::put_line;
 use lynx_names::limits::MAX_TEXT_BYTES;
 use lynx_set::ChainSet;
-use lynx_words::{FaultKind, TextFault};
+use lynx_lex::{FaultKind, TextFault};
 use std::alloc::{AllocError, Global};
 use std::fmt::Write;
 

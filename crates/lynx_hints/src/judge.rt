@@ -1,14 +1,14 @@
 //! Which word of a set's line is at fault.
 
 ghost use Rattle.std.specs.Prelude.{◌≡◌};
-ghost use Rattle.lynx_words.specs.Digits.{begins_with_digit};
+ghost use Rattle.lynx_lex.specs.Digits.{begins_with_digit};
 
 use crate::known::{Known, find, number_at, place_of};
 use crate::role::Role;
 use crate::verb::Verb;
 use crate::word::{Word, word_at};
-use lynx_words::number::number;
-use lynx_words::{FaultKind, Name};
+use lynx_lex::number::number;
+use lynx_lex::{FaultKind, Name};
 
 /// A line of a set, and what is known before it.
 #[derive(Clone, Copy)]

@@ -3,8 +3,8 @@
 use crate::place::Place;
 use crate::verb::Verb;
 use crate::word::{Word, word_at, words_from, words_of};
-use lynx_words::lines::next_line;
-use lynx_words::number::number;
+use lynx_lex::lines::next_line;
+use lynx_lex::number::number;
 use std::alloc::{AllocError, Global};
 
 /// A name, and the line that declares it.

@@ -2,9 +2,9 @@
 
 ghost use Rattle.std.specs.Prelude.{◌≡◌, ◌-◌, [], slice_index_or};
 ghost use Rattle.std.specs.List.{slice_split};
-ghost use Rattle.lynx_words.specs.Lines.{is_feed};
+ghost use Rattle.lynx_lex.specs.Lines.{is_feed};
 
-use lynx_words::lines::next_line;
+use lynx_lex::lines::next_line;
 
 /// A line of a text.
 #[derive(Clone, Copy)]

@@ -12,7 +12,7 @@ use crate::verb::Verb;
 use crate::word::{Word, word_at, words_from, words_of};
 use lynx_names::limits::MAX_PARAMETERS;
 use lynx_set::ChainSet;
-use lynx_words::{FaultKind, TextFault};
+use lynx_lex::{FaultKind, TextFault};
 use std::alloc::{AllocError, Global};
 use std::fmt::Write;
 

@@ -9,8 +9,8 @@ use crate::script_verb::ScriptVerb;
 use crate::spelling::{put_bad_name, put_bad_number};
 use crate::word::Word;
 use lynx_set::ChainSet;
-use lynx_words::number::number;
-use lynx_words::{FaultKind, Name};
+use lynx_lex::number::number;
+use lynx_lex::{FaultKind, Name};
 use std::alloc::{AllocError, Global};
 use std::fmt::Write;
 

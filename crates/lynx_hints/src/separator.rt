@@ -6,7 +6,7 @@ ghost use Rattle.lynx_hints.specs.Heads.{separator_told};
 use crate::line::first_line;
 use crate::view::put_line;
 use crate::word::part_of;
-use lynx_words::lines::next_line;
+use lynx_lex::lines::next_line;
 use std::alloc::{AllocError, Global};
 use std::fmt::Write;
 

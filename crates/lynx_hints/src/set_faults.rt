@@ -14,8 +14,8 @@ use crate::verb::Verb;
 use crate::versions::put_bad_version;
 use crate::word::{Word, spread_interval, word_at, words_of};
 use lynx_shards::ShardFault;
-use lynx_words::number::number;
-use lynx_words::{FaultKind, TextFault};
+use lynx_lex::number::number;
+use lynx_lex::{FaultKind, TextFault};
 use std::alloc::{AllocError, Global};
 use std::fmt::Write;
 

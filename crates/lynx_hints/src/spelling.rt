@@ -3,7 +3,7 @@
 use crate::role::Role;
 use crate::word::Word;
 use lynx_names::limits::MAX_NAME_BYTES;
-use lynx_words::Name;
+use lynx_lex::Name;
 use std::alloc::AllocError;
 use std::fmt::Write;
 

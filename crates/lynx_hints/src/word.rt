@@ -1,7 +1,7 @@
 //! Words of a line, with their places.
 
 ghost use Rattle.std.specs.Prelude.{◌≡◌};
-ghost use Rattle.lynx_words.specs.Lines.{is_printable};
+ghost use Rattle.lynx_lex.specs.Lines.{is_printable};
 
 use crate::mark::Mark;
 use std::alloc::{AllocError, Global};

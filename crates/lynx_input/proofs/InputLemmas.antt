@@ -5,11 +5,11 @@ use Rattle.std.specs.List.{flat_map, AllByRecursion}
 use Rattle.std.proofs.lemmas.Grind.{flat_map-append}
 use Rattle.std.proofs.lemmas.List.{append-nil, length-append}
 use Rattle.std.proofs.Math.Seq.{take-append_seam}
-use Rattle.lynx_words.specs.Lines.{is_feed, next_line, with_feed}
-use Rattle.lynx_words.proofs.WordLaws.{and_true}
+use Rattle.lynx_lex.specs.Lines.{is_feed, next_line, with_feed}
+use Rattle.lynx_lex.proofs.WordLaws.{and_true}
 use Rattle.lynx_input.specs.Inputs.{IsOther, IsCut, HasNoCut}
-use Rattle.lynx_words.proofs.NextLine.{HasNoFeed, line_taken, last_line}
-use Rattle.lynx_words.proofs.Equal.{first_is, rest_is}
+use Rattle.lynx_lex.proofs.NextLine.{HasNoFeed, line_taken, last_line}
+use Rattle.lynx_lex.proofs.Equal.{first_is, rest_is}
 
 feed_not : (y : ℕ) → 10 ≡ y → not (is_feed y) ≡ true → ⊥
 feed_not y is none = let bad : false ≡ true = ap (λ n. not (is_feed n)) is ∙ none in cc

@@ -1,7 +1,7 @@
 -- The input: a set text, a line that is exactly `--`, and a script.
 use Rattle.std.specs.Prelude.{◌≡◌, ◌≢◌, not, true, ℕ, List, [], ◌++◌, ◌⊎◌, codes}
 use Rattle.std.specs.List.{flat_map, list_all, AllByRecursion}
-use Rattle.lynx_words.specs.Lines.{is_feed, with_feed}
+use Rattle.lynx_lex.specs.Lines.{is_feed, with_feed}
 
 -- a line, without its LF, that isn't `--`
 abbrev pub IsOther : List ℕ → Type 0

@@ -2,7 +2,7 @@
 ghost use Rattle.std.specs.Prelude.{◌≡◌, ◌≢◌, true, false, IfSome, IfNone, codes};
 ghost use Rattle.lynx_input.specs.Inputs.{IsCut, HasNoCut};
 
-use lynx_words::lines::next_line;
+use lynx_lex::lines::next_line;
 
 /// Cuts the input at its first line that is exactly `--`, with its LF or at the very end: the text before the
 /// line, and the text behind it. None where no line is `--`.

@@ -4,14 +4,14 @@ use Rattle.std.specs.Prelude.{Result, Ok, Err, IfOk, IfSome, take}
 use Rattle.lynx_input.specs.declared.source.TheConstants.{MAX_FILE_BYTES, MAX_INPUT_BYTES}
 use Rattle.lynx_input.specs.Inputs.{IsCut}
 use Rattle.std.specs.Io.KnownBytes.{Appends}
-use Rattle.lynx_run.specs.declared.verdict.Finding.{Finding}
-use Rattle.lynx_run.specs.declared.run.Ending.{Ending}
-use Rattle.lynx_run.specs.Charts.{Charts}
-use Rattle.lynx_run.specs.Checks.{Finds}
-use Rattle.lynx_run.specs.declared.options.CheckOptions.{CheckOptions}
-use Rattle.lynx_run.specs.declared.options.DrawOptions.{DrawOptions}
-use Rattle.lynx_run.specs.Drawings.{Draws}
-use Rattle.lynx_random.specs.Samples.{IsSample}
+use Rattle.lynx_report.specs.declared.verdict.Finding.{Finding}
+use Rattle.lynx_report.specs.declared.run.Ending.{Ending}
+use Rattle.lynx_report.specs.Charts.{Charts}
+use Rattle.lynx_report.specs.Checks.{Finds}
+use Rattle.lynx_report.specs.declared.options.CheckOptions.{CheckOptions}
+use Rattle.lynx_report.specs.declared.options.DrawOptions.{DrawOptions}
+use Rattle.lynx_report.specs.Drawings.{Draws}
+use Rattle.lynx_sample.specs.Samples.{IsSample}
 use Rattle.lynx_jobs.specs.Done.{HasCharted, HasChecked, HasDrawn, HasRun, HasRunAs, HasRunInput, HasSampled}
 use Rattle.lynx_command.specs.declared.job.RunFlags.{RunFlags}
 use Rattle.lynx_jobs.specs.Statuses.{status_of_ending, status_of_finding}

@@ -5,9 +5,9 @@ use Rattle.std.specs.Io.KnownBytes.{Keeps}
 use Rattle.std.proofs.KnownBytes.{Keeps-refl}
 use Rattle.lynx_input.specs.declared.source.TheConstants.{MAX_FILE_BYTES, MAX_INPUT_BYTES}
 use Rattle.lynx_input.specs.Inputs.{HasNoCut, IsCut}
-use Rattle.lynx_run.specs.declared.run.RunFault.{RunFault}
-use Rattle.lynx_random.specs.Samples.{BeginsSample, NoSampleFor}
-use Rattle.lynx_random.specs.declared.fault.SampleFault.{SampleFault}
+use Rattle.lynx_report.specs.declared.run.RunFault.{RunFault}
+use Rattle.lynx_sample.specs.Samples.{BeginsSample, NoSampleFor}
+use Rattle.lynx_sample.specs.declared.fault.SampleFault.{SampleFault}
 use Rattle.lynx_command.specs.declared.job.RunFlags.{RunFlags}
 use Rattle.lynx_jobs.specs.declared.fault.Fault.{Fault}
 use Rattle.lynx_jobs.specs.declared.fault.Fault.TheVariants.{NoSeparator, Run}

@@ -4,20 +4,20 @@ use Rattle.std.specs.Bool.{MatchBool}
 use Rattle.std.specs.Io.KnownBytes.{Appends}
 use Rattle.lynx_input.specs.declared.source.TheConstants.{MAX_FILE_BYTES, MAX_INPUT_BYTES}
 use Rattle.lynx_input.specs.Inputs.{IsCut}
-use Rattle.lynx_run.specs.declared.run.Ending.{Ending}
-use Rattle.lynx_run.specs.declared.verdict.Finding.{Finding}
-use Rattle.lynx_run.specs.Charts.{Charts}
-use Rattle.lynx_run.specs.Checks.{Finds}
-use Rattle.lynx_run.specs.Drawings.{Draws}
+use Rattle.lynx_report.specs.declared.run.Ending.{Ending}
+use Rattle.lynx_report.specs.declared.verdict.Finding.{Finding}
+use Rattle.lynx_report.specs.Charts.{Charts}
+use Rattle.lynx_report.specs.Checks.{Finds}
+use Rattle.lynx_report.specs.Drawings.{Draws}
 use Rattle.lynx_command.specs.declared.job.RunFlags.{RunFlags}
-use Rattle.lynx_run.specs.declared.options.CheckOptions.{CheckOptions}
-use Rattle.lynx_run.specs.declared.options.DrawOptions.{DrawOptions}
-use Rattle.lynx_run.specs.declared.options.RunOptions.{RunOptions}
-use Rattle.lynx_run.specs.declared.verdict.Finding.TheVariants.{Accepted, Offending}
-use Rattle.lynx_run.specs.Options.{PrintsWith}
-use Rattle.lynx_run.specs.Refusals.{Refuses}
-use Rattle.lynx_random.specs.Samples.{IsSample}
-use Rattle.lynx_verdict.specs.declared.accepted.Reason.{Reason}
+use Rattle.lynx_report.specs.declared.options.CheckOptions.{CheckOptions}
+use Rattle.lynx_report.specs.declared.options.DrawOptions.{DrawOptions}
+use Rattle.lynx_report.specs.declared.options.RunOptions.{RunOptions}
+use Rattle.lynx_report.specs.declared.verdict.Finding.TheVariants.{Accepted, Offending}
+use Rattle.lynx_report.specs.Options.{PrintsWith}
+use Rattle.lynx_report.specs.Refusals.{Refuses}
+use Rattle.lynx_sample.specs.Samples.{IsSample}
+use Rattle.lynx_check.specs.declared.accepted.Reason.{Reason}
 use Rattle.lynx_jobs.specs.Statuses.{status_of_finding, status_of_ending}
 
 -- the verdict on the set that the source begins with is written, with what the options ask for, and the status is the

@@ -4,14 +4,14 @@ use Rattle.lynx_jobs.specs.declared.fault.Fault.{Fault}
 use Rattle.lynx_jobs.specs.declared.fault.Fault.TheVariants.{Ask, Command, NoSeparator, Unread, Run, Sample, Serve, Store}
 use Rattle.lynx_ask.specs.declared.fault.AskFault.{AskFault}
 use Rattle.lynx_ask.specs.declared.fault.AskFault.TheVariants.{Line}
-use Rattle.lynx_random.specs.declared.fault.SampleFault.{SampleFault}
-use Rattle.lynx_random.specs.declared.fault.SampleFault.TheVariants.{NoCycle, TooLong, Run as Stopped}
-use Rattle.lynx_run.specs.declared.run.RunFault.{RunFault}
-use Rattle.lynx_run.specs.declared.run.RunFault.TheVariants.{Set as SetFault, Script as ScriptFault, Write, Memory}
-use Rattle.lynx_run.specs.declared.run.Ending.{Ending}
-use Rattle.lynx_run.specs.declared.run.Ending.TheVariants.{Ordered, Cyclic}
-use Rattle.lynx_run.specs.declared.verdict.Finding.{Finding}
-use Rattle.lynx_run.specs.declared.verdict.Finding.TheVariants.{Accepted, Offending}
+use Rattle.lynx_sample.specs.declared.fault.SampleFault.{SampleFault}
+use Rattle.lynx_sample.specs.declared.fault.SampleFault.TheVariants.{NoCycle, TooLong, Run as Stopped}
+use Rattle.lynx_report.specs.declared.run.RunFault.{RunFault}
+use Rattle.lynx_report.specs.declared.run.RunFault.TheVariants.{Set as SetFault, Script as ScriptFault, Write, Memory}
+use Rattle.lynx_report.specs.declared.run.Ending.{Ending}
+use Rattle.lynx_report.specs.declared.run.Ending.TheVariants.{Ordered, Cyclic}
+use Rattle.lynx_report.specs.declared.verdict.Finding.{Finding}
+use Rattle.lynx_report.specs.declared.verdict.Finding.TheVariants.{Accepted, Offending}
 
 -- of asking a service: 2 for a line that asks for nothing that there is
 abbrev pub status_of_asking : AskFault → ℕ

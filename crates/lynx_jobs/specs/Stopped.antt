@@ -3,22 +3,22 @@ use Rattle.std.specs.Prelude.{◌≡◌, ◌⊎◌, ℕ, Bool, List, Option, IfS
 use Rattle.std.specs.Io.KnownBytes.{Keeps}
 use Rattle.lynx_input.specs.declared.source.TheConstants.{MAX_FILE_BYTES, MAX_INPUT_BYTES}
 use Rattle.lynx_input.specs.Inputs.{HasNoCut, IsCut}
-use Rattle.lynx_run.specs.declared.run.RunFault.{RunFault}
-use Rattle.lynx_run.specs.declared.run.RunFault.TheVariants.{Memory}
-use Rattle.lynx_run.specs.Charts.{BeginsChart, NoChartFor}
-use Rattle.lynx_run.specs.Checks.{BeginsFinding, NoVerdictFor}
-use Rattle.lynx_run.specs.Drawings.{BeginsPicture, NoPictureFor}
-use Rattle.lynx_run.specs.Runs.{StopsFor}
+use Rattle.lynx_report.specs.declared.run.RunFault.{RunFault}
+use Rattle.lynx_report.specs.declared.run.RunFault.TheVariants.{Memory}
+use Rattle.lynx_report.specs.Charts.{BeginsChart, NoChartFor}
+use Rattle.lynx_report.specs.Checks.{BeginsFinding, NoVerdictFor}
+use Rattle.lynx_report.specs.Drawings.{BeginsPicture, NoPictureFor}
+use Rattle.lynx_report.specs.Runs.{StopsFor}
 use Rattle.std.specs.Bool.{MatchBool}
 use Rattle.lynx_command.specs.declared.job.RunFlags.{RunFlags}
-use Rattle.lynx_run.specs.declared.options.CheckOptions.{CheckOptions}
-use Rattle.lynx_run.specs.declared.options.DrawOptions.{DrawOptions}
-use Rattle.lynx_run.specs.declared.options.RunOptions.{RunOptions}
-use Rattle.lynx_run.specs.Options.{WritesPartWith}
-use Rattle.lynx_random.specs.Samples.{BeginsSample, NoSampleFor}
-use Rattle.lynx_random.specs.declared.fault.SampleFault.{SampleFault}
-use Rattle.lynx_random.specs.declared.fault.SampleFault.TheVariants.{NoCycle, TooLong, Run as Stopped}
-use Rattle.lynx_run.specs.Refusals.{BeginsRefusal}
+use Rattle.lynx_report.specs.declared.options.CheckOptions.{CheckOptions}
+use Rattle.lynx_report.specs.declared.options.DrawOptions.{DrawOptions}
+use Rattle.lynx_report.specs.declared.options.RunOptions.{RunOptions}
+use Rattle.lynx_report.specs.Options.{WritesPartWith}
+use Rattle.lynx_sample.specs.Samples.{BeginsSample, NoSampleFor}
+use Rattle.lynx_sample.specs.declared.fault.SampleFault.{SampleFault}
+use Rattle.lynx_sample.specs.declared.fault.SampleFault.TheVariants.{NoCycle, TooLong, Run as Stopped}
+use Rattle.lynx_report.specs.Refusals.{BeginsRefusal}
 use Rattle.lynx_jobs.specs.Done.{IsAccepted, options_of}
 use Rattle.lynx_jobs.specs.declared.fault.Fault.{Fault}
 use Rattle.lynx_jobs.specs.declared.fault.Fault.TheVariants.{Ask, Command, NoSeparator, Unread, Run, Sample, Serve, Store}

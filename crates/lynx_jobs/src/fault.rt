@@ -7,9 +7,9 @@ use crate::shown::Shown;
 use lynx_ask::AskFault;
 use lynx_command::CommandFault;
 use lynx_input::InputFault;
-use lynx_random::SampleFault;
-use lynx_run::RunFault;
-use lynx_serve::ServeFault;
+use lynx_sample::SampleFault;
+use lynx_report::RunFault;
+use lynx_service::ServeFault;
 use lynx_show::ShowFault;
 use thiserror::Error;
 

@@ -12,8 +12,8 @@ use crate::texts::{
 use lynx_command::{INPUT, Job, RunFlags, SampleFlags};
 use lynx_input::{InputFault, MAX_INPUT_BYTES, read_all};
 use lynx_keep::Keeper;
-use lynx_run::{CheckOptions, DrawOptions, RunFault};
-use lynx_serve::Service;
+use lynx_report::{CheckOptions, DrawOptions, RunFault};
+use lynx_service::Service;
 use lynx_show::{ShowFault, show_store, upgrade_and_tell};
 use lynx_stores::Stores;
 use sqlite::{Connection, File, FileStore};

@@ -1,7 +1,7 @@
 //! The limits of the store, by their numbers.
 ghost use Rattle.std.specs.Prelude.{◌≡◌, ◌^◌};
 ghost use Rattle.lynx_names.specs.declared.limits.TheConstants.{MAX_ACTIONS, MAX_ENTRIES, MAX_HELD, MAX_HOPS, MAX_NAME_BYTES, MAX_PARAMETERS, MAX_PROGRAMS, MAX_SERVERS, MAX_SHARDS, MAX_TABLES, MAX_TEXT_BYTES, STAMP_LIMIT};
-ghost use Rattle.lynx_forms.specs.declared.limits.TheConstants.{MAX_BODY_BYTES, MAX_FORM_BYTES};
+ghost use Rattle.lynx_codec.specs.declared.limits.TheConstants.{MAX_BODY_BYTES, MAX_FORM_BYTES};
 ghost use Rattle.lynx_input.specs.declared.source.TheConstants.{MAX_FILE_BYTES, MAX_INPUT_BYTES};
 
 /// The limits that contracts name by their constants: of a set, of a program, of a server, of byte forms, and of texts. A file is read

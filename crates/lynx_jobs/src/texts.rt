@@ -8,8 +8,8 @@ ghost use Rattle.lynx_jobs.specs.Stopped.{StopsCharting, StopsChecking, StopsDra
 use crate::fault::Fault;
 use lynx_command::{RunFlags, SampleFlags};
 use lynx_input::{MAX_FILE_BYTES, MAX_INPUT_BYTES, read_all, split_input};
-use lynx_random::{SampleOptions, sample_text};
-use lynx_run::{
+use lynx_sample::{SampleOptions, sample_text};
+use lynx_report::{
     CheckOptions, DrawOptions, Ending, Finding, RunOptions, chart_texts, check_text, draw_text,
     refuse_text, run_texts,
 };

@@ -5,16 +5,16 @@ use Rattle.std.proofs.lemmas.List.{append-nil}
 use Rattle.std.proofs.lemmas.List.Concat.{flat_map-append}
 use Rattle.lynx_entry.specs.declared.entry.Entry.{Entry}
 use Rattle.lynx_entry.specs.Entry.{History}
-use Rattle.lynx_forms.specs.declared.fault.DecodeFault.{DecodeFault}
-use Rattle.lynx_forms.specs.declared.fault.DecodeFault.TheVariants as faults
-use Rattle.lynx_forms.specs.declared.item.Item.{Item}
-use Rattle.lynx_forms.specs.declared.item.Item.TheVariants as items
-use Rattle.lynx_forms.specs.Form.{form}
-use Rattle.lynx_forms.specs.Front.{Found, front}
-use Rattle.lynx_forms.specs.Ranges.{IsItem}
-use Rattle.lynx_forms.specs.Feeding.{Stream, BeginsNoItem, Gives, Faults}
-use Rattle.lynx_forms.proofs.Fronts.{front_again}
-use Rattle.lynx_forms.proofs.Feeds.{no_form_begins_another}
+use Rattle.lynx_codec.specs.declared.fault.DecodeFault.{DecodeFault}
+use Rattle.lynx_codec.specs.declared.fault.DecodeFault.TheVariants as faults
+use Rattle.lynx_codec.specs.declared.item.Item.{Item}
+use Rattle.lynx_codec.specs.declared.item.Item.TheVariants as items
+use Rattle.lynx_codec.specs.Form.{form}
+use Rattle.lynx_codec.specs.Front.{Found, front}
+use Rattle.lynx_codec.specs.Ranges.{IsItem}
+use Rattle.lynx_codec.specs.Feeding.{Stream, BeginsNoItem, Gives, Faults}
+use Rattle.lynx_codec.proofs.Fronts.{front_again}
+use Rattle.lynx_codec.proofs.Feeds.{no_form_begins_another}
 use Rattle.lynx_keep.specs.Stored.{form_of, HasForm, forms_of, entries_from, first_entries, entries_in, AreStored, HasEntries}
 
 -- a form has a byte at least

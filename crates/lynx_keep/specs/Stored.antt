@@ -3,12 +3,12 @@ use Rattle.std.specs.Prelude.{◌≡◌, ℕ, zero, suc, List, [], ◌∷◌, le
 use Rattle.std.specs.List.{flat_map, AllByRecursion}
 use Rattle.lynx_entry.specs.declared.entry.Entry.{Entry}
 use Rattle.lynx_entry.specs.Entry.{History}
-use Rattle.lynx_forms.specs.declared.item.Item.{Item}
-use Rattle.lynx_forms.specs.declared.item.Item.TheVariants as items
-use Rattle.lynx_forms.specs.Form.{form}
-use Rattle.lynx_forms.specs.Front.{Found, front}
-use Rattle.lynx_forms.specs.Ranges.{IsItem}
-use Rattle.lynx_forms.specs.Feeding.{Stream}
+use Rattle.lynx_codec.specs.declared.item.Item.{Item}
+use Rattle.lynx_codec.specs.declared.item.Item.TheVariants as items
+use Rattle.lynx_codec.specs.Form.{form}
+use Rattle.lynx_codec.specs.Front.{Found, front}
+use Rattle.lynx_codec.specs.Ranges.{IsItem}
+use Rattle.lynx_codec.specs.Feeding.{Stream}
 
 abbrev pub form_of : Entry → List ℕ
 form_of entry = form (items.Entry entry)

@@ -1,5 +1,5 @@
 ghost use Rattle.std.specs.Prelude.{◌≡◌, ◌≤◌, IsErrOf, OnOk, IfOk, ℕ};
-ghost use Rattle.lynx_forms.specs.Entries.{IsEntryInRange};
+ghost use Rattle.lynx_codec.specs.Entries.{IsEntryInRange};
 ghost use Rattle.lynx_keep.specs.Kept.{HasRisen, KeptState, Terms, kept_in, with_entry};
 
 use crate::fault::KeepFault;

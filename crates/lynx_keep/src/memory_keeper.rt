@@ -1,5 +1,5 @@
 ghost use Rattle.std.specs.Prelude.{◌≡◌, ◌++◌, ◌∷◌, [], All, IfOk, OnOk, OnErr};
-ghost use Rattle.lynx_forms.specs.Entries.{IsEntryInRange};
+ghost use Rattle.lynx_codec.specs.Entries.{IsEntryInRange};
 ghost use Rattle.lynx_keep.specs.Kept.{nothing_kept, with_entry};
 ghost use Rattle.lynx_keep.specs.Stored.{AreStored, entries_in};
 
@@ -9,8 +9,8 @@ use crate::keeper::{Keeper, Loaded};
 use crate::reading::read_entries;
 use lynx_cells::{Cells, Changes};
 use lynx_entry::Entry;
-use lynx_forms::append_entry;
-use lynx_forms::limits::MAX_FORM_BYTES;
+use lynx_codec::append_entry;
+use lynx_codec::limits::MAX_FORM_BYTES;
 use lynx_names::{Memory, TryCopy};
 use std::alloc::Global;
 use std::marker::Model;

@@ -3,7 +3,7 @@ ghost use Rattle.std.specs.Prelude.{◌≡◌, ◌∷◌, [], IfNone, IfOk, IfSo
 ghost use Rattle.lynx_keep.specs.Stored.{AreStored, HasEntries, IsEntry, entries_in};
 
 use lynx_entry::Entry;
-use lynx_forms::{Feed, Item};
+use lynx_codec::{Feed, Item};
 use lynx_names::Memory;
 use std::alloc::Global;
 

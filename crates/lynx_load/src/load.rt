@@ -6,7 +6,7 @@ use crate::payer::{Payer, begun_now, payers};
 use crate::starting::start;
 use crate::texts::{last_hop, payment, seed};
 use lynx_cluster::{Front, Gate, Session};
-use lynx_forms::Looked;
+use lynx_codec::Looked;
 use lynx_keep::Keeper;
 use lynx_names::ChainId;
 use lynx_order::{Explained, explain};

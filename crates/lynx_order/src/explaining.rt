@@ -18,7 +18,7 @@ use crate::picked::pick_all;
 use crate::picks::first_marked;
 use crate::table::{all_touchings, table_of};
 use lynx_names::{ChainId, Items, Memory};
-use lynx_search::{Candidate, ChainTouch, Link, search};
+use lynx_order_search::{Candidate, ChainTouch, Link, search};
 use lynx_set::ChainSet;
 use lynx_world::World;
 use std::alloc::Global;

@@ -10,7 +10,7 @@ use crate::ranks::{inverts, ranks_of};
 use crate::touching::{any_collide, touches_in};
 use lynx_foot::Touch;
 use lynx_names::{ChainId, Items, Memory};
-use lynx_search::Link;
+use lynx_order_search::Link;
 use lynx_set::ChainSet;
 use lynx_world::World;
 use std::alloc::Global;

@@ -10,7 +10,7 @@ use crate::touching::touches_in;
 use lynx_entry::Entry;
 use lynx_foot::Touch;
 use lynx_names::{ChainId, Memory};
-use lynx_search::ChainTouch;
+use lynx_order_search::ChainTouch;
 use lynx_set::ChainSet;
 use lynx_world::World;
 use std::alloc::Global;

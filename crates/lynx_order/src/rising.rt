@@ -3,7 +3,7 @@ ghost use Rattle.std.specs.Prelude.{◌≡◌, ◌↔◌, IsTrue, IfSome, slice_
 ghost use Rattle.lynx_order.specs.inner.Certificates.{MayFollow, IsCounted, IsNoLater, IsOfCell, Rise, rank_at};
 
 use lynx_foot::Kind;
-use lynx_search::ChainTouch;
+use lynx_order_search::ChainTouch;
 
 /// The greatest rank of the chains that touched a cell in each way, 0 where none did.
 #[derive(Clone, Copy, Debug)]

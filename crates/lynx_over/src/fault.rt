@@ -5,7 +5,7 @@ use lynx_names::{Memory, ServerId};
 use lynx_server::OpenFault;
 use lynx_store::StoreFault;
 use lynx_weave::WeaveFault;
-use lynx_words::TextFault;
+use lynx_lex::TextFault;
 use std::alloc::{AllocError, AllocFailed};
 use thiserror::Error;
 

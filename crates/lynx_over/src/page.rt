@@ -11,7 +11,7 @@ use lynx_server::Server;
 use lynx_set::ChainSet;
 use lynx_stores::Stores;
 use lynx_text::parse;
-use lynx_words::FaultKind;
+use lynx_lex::FaultKind;
 use std::alloc::Global;
 use std::io::Write;
 

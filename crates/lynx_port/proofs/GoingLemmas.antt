@@ -4,7 +4,7 @@ use Rattle.std.specs.Prelude.{Bool, false}
 use Rattle.std.specs.List.{flat_map}
 use Rattle.std.specs.Io.KnownBytes.{Consumes, Keeps, IsAtEnd}
 use Rattle.std.proofs.KnownBytes.{Consumes-nil, Consumes-trans, Consumes-kept, Appends-nil}
-use Rattle.lynx_forms.specs.Form.{form}
+use Rattle.lynx_codec.specs.Form.{form}
 use Rattle.lynx_port.specs.declared.fault.PortFault.{PortFault}
 use Rattle.lynx_port.specs.declared.serving.Served.{Served}
 use Rattle.lynx_port.specs.Desks.{Begins, Looks, Answering, Replies}

@@ -3,11 +3,11 @@ use Rattle.std.proofs.Common.{◌≡◌, ℕ, List, [], ◌++◌, Option, None, 
 use Rattle.std.specs.Prelude.{Result, IfErr}
 use Rattle.std.specs.Io.KnownBytes.{Appends}
 use Rattle.std.proofs.KnownBytes.{Appends-nil}
-use Rattle.lynx_forms.specs.declared.fault.DecodeFault.{DecodeFault}
-use Rattle.lynx_forms.specs.declared.fault.DecodeFault.TheVariants as decoding
-use Rattle.lynx_forms.specs.declared.item.Item.{Item}
-use Rattle.lynx_forms.specs.Form.{form}
-use Rattle.lynx_forms.specs.Ranges.{IsItem}
+use Rattle.lynx_codec.specs.declared.fault.DecodeFault.{DecodeFault}
+use Rattle.lynx_codec.specs.declared.fault.DecodeFault.TheVariants as decoding
+use Rattle.lynx_codec.specs.declared.item.Item.{Item}
+use Rattle.lynx_codec.specs.Form.{form}
+use Rattle.lynx_codec.specs.Ranges.{IsItem}
 use Rattle.lynx_port.specs.declared.fault.PortFault.{PortFault}
 use Rattle.lynx_port.specs.declared.fault.PortFault.TheVariants as faults
 use Rattle.lynx_port.specs.Desks.{Begins, Looks, Replies}

@@ -5,9 +5,9 @@ use Rattle.std.specs.List.{flat_map, AllByRecursion}
 use Rattle.std.proofs.lemmas.Grind.{flat_map-append}
 use Rattle.std.specs.Io.KnownBytes.{Appends}
 use Rattle.std.proofs.KnownBytes.{Appends-nil, Appends-trans}
-use Rattle.lynx_forms.specs.declared.item.Item.{Item}
-use Rattle.lynx_forms.specs.Form.{form}
-use Rattle.lynx_forms.specs.Ranges.{IsItem}
+use Rattle.lynx_codec.specs.declared.item.Item.{Item}
+use Rattle.lynx_codec.specs.Form.{form}
+use Rattle.lynx_codec.specs.Ranges.{IsItem}
 use Rattle.lynx_port.specs.Desks.{Answering}
 use Rattle.lynx_port.specs.Talks.{Talks, Talked, Answered, AreAt, GoOn, ended_by}
 use Rattle.lynx_port.specs.inner.Steps.{WritesReply}

@@ -4,9 +4,9 @@ use Rattle.lynx_names.specs.declared.chain.ChainId.{ChainId}
 use Rattle.lynx_names.specs.declared.memory.Memory.{Memory}
 use Rattle.lynx_entry.specs.declared.request.Request.{Request}
 use Rattle.lynx_entry.specs.declared.answer.Answer.{Answer}
-use Rattle.lynx_forms.specs.declared.item.Looked.{Looked}
-use Rattle.lynx_forms.specs.declared.item.Item.{Item}
-use Rattle.lynx_forms.specs.declared.item.Item.TheVariants as items
+use Rattle.lynx_codec.specs.declared.item.Looked.{Looked}
+use Rattle.lynx_codec.specs.declared.item.Item.{Item}
+use Rattle.lynx_codec.specs.declared.item.Item.TheVariants as items
 
 -- to a request
 abbrev pub Begins : Type 0 → Type 1

@@ -1,13 +1,13 @@
 -- How the serving of a client ends.
 use Rattle.std.specs.Prelude.{◌≡◌, ◌≢◌, ℕ, ◌++◌, Bool, false, List, [], Option, Some, None, Ok, Err, ◌⊎◌}
 use Rattle.std.specs.Io.KnownBytes.{Consumes, IsAtEnd}
-use Rattle.lynx_forms.specs.declared.fault.DecodeFault.{DecodeFault}
-use Rattle.lynx_forms.specs.declared.fault.DecodeFault.TheVariants as decoding
-use Rattle.lynx_forms.specs.declared.item.Item.{Item}
-use Rattle.lynx_forms.specs.declared.item.Item.TheVariants as items
-use Rattle.lynx_forms.specs.Form.{form}
-use Rattle.lynx_forms.specs.Front.{front}
-use Rattle.lynx_forms.specs.Ranges.{IsItem}
+use Rattle.lynx_codec.specs.declared.fault.DecodeFault.{DecodeFault}
+use Rattle.lynx_codec.specs.declared.fault.DecodeFault.TheVariants as decoding
+use Rattle.lynx_codec.specs.declared.item.Item.{Item}
+use Rattle.lynx_codec.specs.declared.item.Item.TheVariants as items
+use Rattle.lynx_codec.specs.Form.{form}
+use Rattle.lynx_codec.specs.Front.{front}
+use Rattle.lynx_codec.specs.Ranges.{IsItem}
 use Rattle.lynx_port.specs.declared.fault.PortFault.{PortFault}
 use Rattle.lynx_port.specs.declared.fault.PortFault.TheVariants as faults
 use Rattle.lynx_port.specs.declared.serving.Served.{Served}

@@ -1,6 +1,6 @@
 -- The fault of a connection where an item can't be read.
-use Rattle.lynx_forms.specs.declared.fault.DecodeFault.{DecodeFault}
-use Rattle.lynx_forms.specs.declared.fault.DecodeFault.TheVariants as decoding
+use Rattle.lynx_codec.specs.declared.fault.DecodeFault.{DecodeFault}
+use Rattle.lynx_codec.specs.declared.fault.DecodeFault.TheVariants as decoding
 use Rattle.lynx_port.specs.declared.fault.PortFault.{PortFault}
 use Rattle.lynx_port.specs.declared.fault.PortFault.TheVariants as faults
 

@@ -2,10 +2,10 @@
 use Rattle.std.specs.Prelude.{◌≡◌, ℕ, ◌+◌, ◌++◌, Bool, true, false, List, [], ◌∷◌, length, Option, Some, None}
 use Rattle.std.specs.List.{flat_map, AllByRecursion}
 use Rattle.std.specs.Io.KnownBytes.{Appends}
-use Rattle.lynx_forms.specs.declared.item.Item.{Item}
-use Rattle.lynx_forms.specs.declared.item.Item.TheVariants as items
-use Rattle.lynx_forms.specs.Form.{form}
-use Rattle.lynx_forms.specs.Ranges.{IsItem}
+use Rattle.lynx_codec.specs.declared.item.Item.{Item}
+use Rattle.lynx_codec.specs.declared.item.Item.TheVariants as items
+use Rattle.lynx_codec.specs.Form.{form}
+use Rattle.lynx_codec.specs.Ranges.{IsItem}
 use Rattle.lynx_port.specs.Desks.{Answering}
 
 -- each frame is answered in order, from the desk's first state to its last

@@ -1,9 +1,9 @@
 //! Answers the frames of a feed in order.
 ghost use Rattle.std.specs.Prelude.{◌≡◌, ◌≤◌, ◌<◌, ◌+◌, ◌^◌, ◌++◌, ℕ, List, [], length, Some, None, Ok, IfOk, IfErr, OnOk, IfSome, IfNone};
-ghost use Rattle.lynx_forms.specs.Form.{form};
-ghost use Rattle.lynx_forms.specs.Front.{front};
-ghost use Rattle.lynx_forms.specs.Ranges.{IsItem};
-ghost use Rattle.lynx_forms.specs.Feeding.{Gives};
+ghost use Rattle.lynx_codec.specs.Form.{form};
+ghost use Rattle.lynx_codec.specs.Front.{front};
+ghost use Rattle.lynx_codec.specs.Ranges.{IsItem};
+ghost use Rattle.lynx_codec.specs.Feeding.{Gives};
 ghost use Rattle.lynx_port.specs.Desks.{Replies};
 ghost use Rattle.lynx_port.specs.Talks.{Answered, ended_by};
 ghost use Rattle.lynx_port.specs.Exits.{Stopped};
@@ -13,7 +13,7 @@ use crate::desk::Desk;
 use crate::fault::PortFault;
 use crate::replying::form_for;
 use crate::writing::write_form;
-use lynx_forms::{Feed, Item};
+use lynx_codec::{Feed, Item};
 use std::alloc::Global;
 use std::io::Write;
 

@@ -1,11 +1,11 @@
 use lynx_entry::{Answer, Request};
-use lynx_forms::Looked;
+use lynx_codec::Looked;
 use lynx_names::{ChainId, Memory};
 
 /// Who answers a client: a session with a cluster, say. Whatever it answers has a byte form.
 pub trait Desk {
     ghost use Rattle.std.specs.Prelude.{IfOk};
-    ghost use Rattle.lynx_forms.specs.Ranges.{IsAnswerInRange, IsLookedInRange};
+    ghost use Rattle.lynx_codec.specs.Ranges.{IsAnswerInRange, IsLookedInRange};
     ghost use Rattle.lynx_port.specs.Desks.{Begins, Looks};
 
     // What a begin may answer, and what a look may, each from one state of the desk to the next.

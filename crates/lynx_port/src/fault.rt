@@ -1,4 +1,4 @@
-use lynx_forms::DecodeFault;
+use lynx_codec::DecodeFault;
 use lynx_names::Memory;
 use std::alloc::AllocError;
 use thiserror::Error;

@@ -1,13 +1,13 @@
 //! What a frame is answered.
 ghost use Rattle.std.specs.Prelude.{IfOk, IfErr};
-ghost use Rattle.lynx_forms.specs.Ranges.{IsInRange};
+ghost use Rattle.lynx_codec.specs.Ranges.{IsInRange};
 ghost use Rattle.lynx_port.specs.Desks.{Replies};
 ghost use Rattle.lynx_port.specs.inner.Steps.{Refuses, IsReply};
 
 use crate::desk::Desk;
 use crate::fault::PortFault;
-use lynx_forms::limits::MAX_FORM_BYTES;
-use lynx_forms::{Item, append};
+use lynx_codec::limits::MAX_FORM_BYTES;
+use lynx_codec::{Item, append};
 use std::alloc::Global;
 
 fn reply_to<D: Desk>(frame: Item, desk: &mut D) -> Result<Item, PortFault>

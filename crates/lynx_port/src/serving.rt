@@ -1,14 +1,14 @@
 //! Serving one client.
 ghost use Rattle.std.specs.Prelude.{◌≡◌, ◌≢◌, [], false, None, Ok, IfOk, IfErr};
-ghost use Rattle.lynx_forms.specs.declared.fault.DecodeFault.TheVariants.{Short};
-ghost use Rattle.lynx_forms.specs.Front.{front};
+ghost use Rattle.lynx_codec.specs.declared.fault.DecodeFault.TheVariants.{Short};
+ghost use Rattle.lynx_codec.specs.Front.{front};
 ghost use Rattle.lynx_port.specs.Exits.{HasServed, HasFailed};
 
 use crate::answering::answer_all;
 use crate::desk::Desk;
 use crate::fault::PortFault;
 use crate::limits::{MAX_READ_BYTES, MAX_TURNS};
-use lynx_forms::Feed;
+use lynx_codec::Feed;
 use std::alloc::Global;
 use std::io::{ErrorKind, Read, Write};
 

@@ -3,7 +3,7 @@ use crate::bytes::hex;
 use crate::streams::{Manner, SMOOTH};
 use crate::talk::{PLAIN, Setting, talk};
 use crate::worked::{ENDS, INPUT, WRITTEN};
-use lynx_forms::DecodeFault;
+use lynx_codec::DecodeFault;
 use lynx_names::Memory;
 use lynx_port::{PortFault, Served};
 use std::alloc::Global;

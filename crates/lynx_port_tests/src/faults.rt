@@ -1,7 +1,7 @@
 //! Each fault of what a client sends, and want of memory.
 use crate::streams::{Manner, SMOOTH};
 use crate::talk::{Expected, PLAIN, Setting, comes_to};
-use lynx_forms::DecodeFault;
+use lynx_codec::DecodeFault;
 use lynx_port::PortFault;
 
 const BAD_TAG: PortFault = PortFault::Bad(DecodeFault::BadTag);

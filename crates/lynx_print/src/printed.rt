@@ -5,7 +5,7 @@ ghost use Rattle.std.specs.Fmt.{decimal};
 ghost use Rattle.std.specs.List.{flat_map};
 ghost use Rattle.lynx_names.specs.Chain.{chain_text};
 ghost use Rattle.lynx_print.specs.Printed.{spaced, values_text, again_text, answer_text, chains_text, next_text, hop_text, ran_text, delivered_text, outcome_text, entry_text};
-ghost use Rattle.lynx_words.specs.Lines.{with_feed};
+ghost use Rattle.lynx_lex.specs.Lines.{with_feed};
 
 use lynx_entry::{Answer, Delivered, Entry, Message, Outcome};
 use lynx_names::ChainId;

@@ -6,20 +6,20 @@ use Rattle.std.specs.List.{AllByRecursion, list_all}
 use Rattle.std.proofs.lemmas.Bool.Decides.{nat_tests}
 use Rattle.std.proofs.lemmas.List.Folds.{list_all-append}
 use Rattle.lynx_names.specs.declared.chain.ChainId.{ChainId}
-use Rattle.lynx_words.specs.declared.fault.FaultKind.{FaultKind}
-use Rattle.lynx_words.specs.declared.fault.FaultKind.TheVariants.{TooLong, BadVersion, BadLine, BadName, BadNumber, Repeated, Unknown, NeedNotFirst, LimitPassed, LiteralElsewhere, Shard, Memory}
-use Rattle.lynx_words.specs.Gives.{Fails as TextFails}
-use Rattle.lynx_words.specs.Lines.{is_word, is_filled, is_graphic, AreWords, next_line, words_in, texts, joined, line}
+use Rattle.lynx_lex.specs.declared.fault.FaultKind.{FaultKind}
+use Rattle.lynx_lex.specs.declared.fault.FaultKind.TheVariants.{TooLong, BadVersion, BadLine, BadName, BadNumber, Repeated, Unknown, NeedNotFirst, LimitPassed, LiteralElsewhere, Shard, Memory}
+use Rattle.lynx_lex.specs.Gives.{Fails as TextFails}
+use Rattle.lynx_lex.specs.Lines.{is_word, is_filled, is_graphic, AreWords, next_line, words_in, texts, joined, line}
 use Rattle.lynx_set.specs.Set.{Set}
 use Rattle.lynx_set.specs.Text.{name_at}
-use Rattle.lynx_words.proofs.WordLaws.{and_true, both_true, number-word, name-word, next_line_again}
+use Rattle.lynx_lex.proofs.WordLaws.{and_true, both_true, number-word, name-word, next_line_again}
 use Rattle.lynx_entry.specs.declared.request.Request.{Request}
 use Rattle.lynx_entry.specs.declared.event.Event.{Event}
 use Rattle.lynx_entry.specs.declared.event.Event.TheVariants.{Begin, Deliver, Wake, Lost, Restart}
 use Rattle.lynx_names.specs.Chain.{chain_text}
 use Rattle.lynx_script.specs.Scripts.{begin_words, message_words, event_words, FitsBegin, FitsServer, FitsMessage, FitsEvent, script_of}
 use Rattle.lynx_script.specs.inner.Spelled.{MeansUnread}
-use Rattle.lynx_words.proofs.Equal.{first_is, rest_is, some_none}
+use Rattle.lynx_lex.proofs.Equal.{first_is, rest_is, some_none}
 use Rattle.lynx_set.specs.Lookups.{program_names}
 
 -- the fourth of some words

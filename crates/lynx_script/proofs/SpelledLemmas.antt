@@ -14,17 +14,17 @@ use Rattle.std.proofs.lemmas.List.Sums.{passes_at_first, fails_before_first}
 use Rattle.std.proofs.lemmas.Option.{unwrap_or-slice_get}
 use Rattle.std.proofs.lemmas.Slice.Eq.{bytes_eq-Decides}
 use Rattle.lynx_names.specs.declared.chain.ChainId.{ChainId}
-use Rattle.lynx_words.specs.declared.fault.FaultKind.{FaultKind}
-use Rattle.lynx_words.specs.declared.fault.FaultKind.TheVariants.{TooLong, BadVersion, BadLine, BadName, BadNumber, Repeated, Unknown, NeedNotFirst, LimitPassed, LiteralElsewhere, Shard, Memory}
-use Rattle.lynx_words.specs.Lines.{◌>>=◌, texts}
+use Rattle.lynx_lex.specs.declared.fault.FaultKind.{FaultKind}
+use Rattle.lynx_lex.specs.declared.fault.FaultKind.TheVariants.{TooLong, BadVersion, BadLine, BadName, BadNumber, Repeated, Unknown, NeedNotFirst, LimitPassed, LiteralElsewhere, Shard, Memory}
+use Rattle.lynx_lex.specs.Lines.{◌>>=◌, texts}
 use Rattle.lynx_set.specs.Names.{place_of, place_below}
 use Rattle.lynx_set.specs.Set.{Set}
 use Rattle.lynx_set.specs.Text.{name_at}
-use Rattle.lynx_words.proofs.WordLaws.{and_true, cond_some, own}
+use Rattle.lynx_lex.proofs.WordLaws.{and_true, cond_some, own}
 use Rattle.lynx_names.specs.Chain.{chain_text}
 use Rattle.lynx_script.specs.Scripts.{is_colon, FitsServer}
 use Rattle.lynx_script.specs.inner.Spelled.{MeansUnread, IsRead}
-use Rattle.lynx_words.proofs.Equal.{first_is, rest_is}
+use Rattle.lynx_lex.proofs.Equal.{first_is, rest_is}
 
 -- a fault that means one thing means what follows from it
 pub fails_so : (kind : FaultKind) (only then : Type 0) → (only → then) → MeansUnread kind only → MeansUnread kind then

@@ -2,7 +2,7 @@
 ghost use Rattle.std.specs.Prelude.{ℕ, List, ◌≡◌, ◌≢◌, ◌<◌, ◌≤◌, ◌^◌, ◌↔◌, ◌⊎◌, ◌++◌, ◌∷◌, [], position, length, map, decimal, IfOk, IfErr, IfSome, IfNone, IsErrAnd, Some};
 ghost use Rattle.std.specs.List.{AllByRecursion, slice_split};
 ghost use Rattle.lynx_names.specs.declared.limits.TheConstants.{MAX_SERVERS, MAX_TEXT_BYTES};
-ghost use Rattle.lynx_words.specs.Lines.{next_line, texts, line};
+ghost use Rattle.lynx_lex.specs.Lines.{next_line, texts, line};
 ghost use Rattle.lynx_set.specs.Text.{name_at};
 ghost use Rattle.lynx_names.specs.Chain.{chain_text};
 ghost use Rattle.lynx_script.specs.Scripts.{is_colon, begin_words, message_words, event_words, FitsServer, FitsProgram, FitsBegin, FitsMessage, FitsEvent, script_of, IsScript};
@@ -13,9 +13,9 @@ use lynx_entry::{Event, Request};
 use lynx_names::limits::{MAX_PARAMETERS, MAX_TEXT_BYTES};
 use lynx_names::{ChainId, ClientId, Items, ProgramId, ServerId, Stamp, Values};
 use lynx_set::ChainSet;
-use lynx_words::lines::{next_line, words_of};
-use lynx_words::number::number;
-use lynx_words::{FaultKind, Name, TextFault};
+use lynx_lex::lines::{next_line, words_of};
+use lynx_lex::number::number;
+use lynx_lex::{FaultKind, Name, TextFault};
 use std::alloc::Global;
 
 /// The events that a script spells, all judged before any is run. An error tells the fault on the earliest line,

@@ -10,7 +10,7 @@ use Rattle.lynx_set.specs.declared.program.Program.{Program}
 use Rattle.lynx_set.specs.Set.{Set}
 use Rattle.lynx_set.specs.Lookups.{hops_of, program_at}
 use Rattle.lynx_rules.specs.Visits.{visits, visited}
-use Rattle.lynx_forms.specs.Ranges.{Rise, HaveOrder}
+use Rattle.lynx_codec.specs.Ranges.{Rise, HaveOrder}
 
 -- one more number before those that pass one test or the other
 one_more : (a b : Bool) (x : ℕ) (either one other : List ℕ) → length either ≤ length one + length other →

@@ -24,8 +24,8 @@ use Rattle.lynx_rules.specs.Tables.{tables_of}
 use Rattle.lynx_rules.specs.Checks.{do_args_fit, fits_hop, fits_program, request_fault_in, result_count, is_well_formed}
 use Rattle.lynx_rules.specs.Lawful.{IsLawful}
 use Rattle.lynx_rules.specs.Messages.{next_message}
-use Rattle.lynx_forms.specs.Ranges.{IsMessageInRange}
-use Rattle.lynx_forms.specs.Entries.{IsEntryInRange}
+use Rattle.lynx_codec.specs.Ranges.{IsMessageInRange}
+use Rattle.lynx_codec.specs.Entries.{IsEntryInRange}
 use Rattle.lynx_server.proofs.FewVisits.{few_hops, have_order, servers}
 use Rattle.lynx_server.proofs.ResultCounts.{meaning-few, meaning-need}
 

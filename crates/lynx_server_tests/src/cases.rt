@@ -2,8 +2,8 @@
 use crate::steps::{Step, comes_out};
 use lynx_keep::{FaultKeeper, MemoryKeeper, Planned};
 use lynx_names::Memory;
-use lynx_samples::made::{self, boxed};
-use lynx_samples::texts::set_of;
+use lynx_fixtures::made::{self, boxed};
+use lynx_fixtures::texts::set_of;
 use lynx_server::Server;
 use std::alloc::Global;
 

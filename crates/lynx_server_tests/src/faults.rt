@@ -3,12 +3,12 @@ use crate::cases::{Case, Row, lives};
 use crate::payments::NEXT;
 use crate::steps::Step;
 use lynx_keep::Planned;
-use lynx_samples::parts::{AnswerParts, DeliveredParts};
-use lynx_samples::payments::{
+use lynx_fixtures::parts::{AnswerParts, DeliveredParts};
+use lynx_fixtures::payments::{
     DONE_AT_FOUR, DONE_AT_THREE, PAY, PAY_BEGUN, PAY_BEGUN_AGAIN, REPEATED_AT_THREE, SEED,
     SEED_BEGUN, SENT,
 };
-use lynx_samples::texts::PAYMENT;
+use lynx_fixtures::texts::PAYMENT;
 
 /// The same request begins with the index and the stamp that it would have had.
 const BEGUN_WITHOUT_MEMORY: &[Row] = &[

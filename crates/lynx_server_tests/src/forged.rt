@@ -5,9 +5,9 @@ use lynx_entry::Delivered;
 use lynx_keep::FaultKeeper;
 use lynx_names::Memory;
 use lynx_names::limits::STAMP_LIMIT;
-use lynx_samples::made::message;
-use lynx_samples::parts::{AnswerParts, DeliveredParts, MessageParts, RequestParts};
-use lynx_samples::payments::DONE_AT_THREE;
+use lynx_fixtures::made::message;
+use lynx_fixtures::parts::{AnswerParts, DeliveredParts, MessageParts, RequestParts};
+use lynx_fixtures::payments::DONE_AT_THREE;
 use lynx_server::Server;
 use std::alloc::Global;
 

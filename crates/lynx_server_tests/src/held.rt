@@ -5,9 +5,9 @@ use lynx_entry::{Delivered, Message};
 use lynx_keep::FaultKeeper;
 use lynx_names::limits::MAX_HELD;
 use lynx_names::{Memory, TableId};
-use lynx_samples::made::{boxed, message, numbers};
-use lynx_samples::payments::SENT;
-use lynx_samples::texts::PAYMENT;
+use lynx_fixtures::made::{boxed, message, numbers};
+use lynx_fixtures::payments::SENT;
+use lynx_fixtures::texts::PAYMENT;
 use lynx_server::Server;
 use std::alloc::Global;
 

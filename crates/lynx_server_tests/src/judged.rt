@@ -1,9 +1,9 @@
 //! Histories, and the first entry of each that no server has there.
 use lynx_names::Memory;
-use lynx_samples::made::{entries, server};
-use lynx_samples::parts::{BegunParts, EntryParts, RequestParts};
-use lynx_samples::payments::{AT_FIRST, PAID, PAY, SEEDED};
-use lynx_samples::texts::{PAYMENT, set_of};
+use lynx_fixtures::made::{entries, server};
+use lynx_fixtures::parts::{BegunParts, EntryParts, RequestParts};
+use lynx_fixtures::payments::{AT_FIRST, PAID, PAY, SEEDED};
+use lynx_fixtures::texts::{PAYMENT, set_of};
 use lynx_server::first_unlawful;
 use std::alloc::Global;
 

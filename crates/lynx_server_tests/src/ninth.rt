@@ -1,10 +1,10 @@
 //! A message for a hop past the last of eight, by its form.
 use crate::rebuilt::rebuilt;
 use lynx_entry::Delivered;
-use lynx_forms::{DecodeFault, Feed, Item, encode};
+use lynx_codec::{DecodeFault, Feed, Item, encode};
 use lynx_keep::MemoryKeeper;
-use lynx_samples::made::entries;
-use lynx_samples::parts::{BegunParts, EntryParts, RequestParts};
+use lynx_fixtures::made::entries;
+use lynx_fixtures::parts::{BegunParts, EntryParts, RequestParts};
 use lynx_server::{OpenFault, Server};
 use std::alloc::Global;
 

@@ -2,12 +2,12 @@
 use crate::cases::{Case, NEVER, Row, lives};
 use crate::steps::Step;
 use lynx_names::limits::STAMP_LIMIT;
-use lynx_samples::parts::{AnswerParts, DeliveredParts, MessageParts, RequestParts};
-use lynx_samples::payments::{
+use lynx_fixtures::parts::{AnswerParts, DeliveredParts, MessageParts, RequestParts};
+use lynx_fixtures::payments::{
     DONE_AT_FOUR, DONE_AT_THREE, PAY, PAY_BEGUN, PAY_BEGUN_AGAIN, REPEATED_AT_THREE, SEED,
     SEED_BEGUN, SENT,
 };
-use lynx_samples::texts::{PAYMENT, PAYMENT_AND_PUT, TRIP};
+use lynx_fixtures::texts::{PAYMENT, PAYMENT_AND_PUT, TRIP};
 
 /// Another seed under the number of the first one.
 const OTHER_SEED: RequestParts = RequestParts {

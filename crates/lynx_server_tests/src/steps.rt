@@ -2,8 +2,8 @@
 use lynx_entry::Message;
 use lynx_keep::FaultKeeper;
 use lynx_names::{Memory, TableId};
-use lynx_samples::made::{answer, boxed, chain, delivered, message, request, stamp};
-use lynx_samples::parts::{AnswerParts, DeliveredParts, MessageParts, RequestParts};
+use lynx_fixtures::made::{answer, boxed, chain, delivered, message, request, stamp};
+use lynx_fixtures::parts::{AnswerParts, DeliveredParts, MessageParts, RequestParts};
 use lynx_server::{Server, Woken};
 use std::alloc::Global;
 

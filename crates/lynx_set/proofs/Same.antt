@@ -19,8 +19,8 @@ use Rattle.std.proofs.lemmas.List.Folds.{list_any_none}
 use Rattle.lynx_set.specs.Names.{place_of}
 use Rattle.indexmap.specs.IndexMap.{insert_entry}
 use Rattle.indexmap.specs.IndexSet.{insert_key}
-use Rattle.lynx_words.specs.contracts.name.NamePartialEq.TheImpl.{eq-value}
-use Rattle.lynx_words.proofs.WordLaws.{and_true, cond_none}
+use Rattle.lynx_lex.specs.contracts.name.NamePartialEq.TheImpl.{eq-value}
+use Rattle.lynx_lex.proofs.WordLaws.{and_true, cond_none}
 
 abbrev pub same_name : List ℕ → List ℕ → Bool
 same_name a b = eq-value.it a b

@@ -1,7 +1,7 @@
 -- Names and their places.
 use Rattle.std.specs.Prelude.{ℕ, List, Option, Some, None, position, nat_lt, if◌then◌else◌}
 use Rattle.std.specs.Str.{bytes_eq}
-use Rattle.lynx_words.specs.Lines.{◌>>=◌}
+use Rattle.lynx_lex.specs.Lines.{◌>>=◌}
 
 -- the place of a name
 abbrev pub place_of : List (List ℕ) → List ℕ → Option ℕ

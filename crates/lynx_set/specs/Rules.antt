@@ -20,7 +20,7 @@ use Rattle.lynx_set.specs.Names.{place_of}
 use Rattle.lynx_set.specs.Scopes.{PlainScope, is_home}
 use Rattle.lynx_set.specs.Set.{Set as ChainSet}
 use Rattle.lynx_set.specs.Text.{text_of}
-use Rattle.lynx_words.specs.Word.{is_name}
+use Rattle.lynx_lex.specs.Word.{is_name}
 
 -- a new name, where these are known
 pub record IsNew (known : List (List ℕ)) (name : List ℕ) : Type 0 where

@@ -20,7 +20,7 @@ use Rattle.lynx_set.specs.declared.program.Program.{Program}
 use Rattle.lynx_set.specs.declared.version.Version.{Version}
 use Rattle.lynx_set.specs.declared.version.Version.TheVariants.{One, Two}
 use Rattle.lynx_set.specs.Set.{Set as ChainSet}
-use Rattle.lynx_words.specs.Lines.{line}
+use Rattle.lynx_lex.specs.Lines.{line}
 
 -- lines, one after another
 abbrev pub text : List (List (List ℕ)) → List ℕ

@@ -6,7 +6,7 @@ use crate::set::ChainSet;
 use crate::version::Version;
 use indexmap::{IndexMap, IndexSet};
 use lynx_shards::ShardMap;
-use lynx_words::Name;
+use lynx_lex::Name;
 
 fn same_versions(left: Version, right: Version) -> bool
     ensures { IsTrue result ↔ (left ≡ right) }

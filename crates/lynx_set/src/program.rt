@@ -5,7 +5,7 @@ ghost use Rattle.lynx_set.specs.Intervals.{are_in_range, range_of};
 use crate::action::Action;
 use crate::interval::Interval;
 use lynx_names::{Items, Memory, ServerId, TryCopy};
-use lynx_words::Name;
+use lynx_lex::Name;
 use std::alloc::Global;
 
 /// A hop of a program: its server, and its actions in order.

@@ -11,7 +11,7 @@ use indexmap::{IndexMap, IndexSet};
 use lynx_names::limits::{MAX_PROGRAMS, MAX_TABLES};
 use lynx_names::{Memory, ProgramId, TableId, TryCopy};
 use lynx_shards::{ShardMap, TableShards};
-use lynx_words::Name;
+use lynx_lex::Name;
 use std::alloc::Global;
 use std::marker::Model;
 

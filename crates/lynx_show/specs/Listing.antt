@@ -13,7 +13,7 @@ use Rattle.lynx_set.specs.Lookups.{table_name}
 use Rattle.lynx_set.specs.Set.{Set}
 use Rattle.lynx_io.specs.Written.{AppendsPart}
 use Rattle.lynx_print.specs.Printed.{entry_text}
-use Rattle.lynx_words.specs.Lines.{with_feed}
+use Rattle.lynx_lex.specs.Lines.{with_feed}
 use Rattle.lynx_store.specs.Stored.{IsKept, owner_for}
 
 -- the server's line, and that of how many entries it has

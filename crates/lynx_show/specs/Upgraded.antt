@@ -4,7 +4,7 @@ use Rattle.std.specs.Fmt.{decimal}
 use Rattle.std.specs.Io.KnownBytes.{Appends}
 use Rattle.sqlite.specs.State.{State}
 use Rattle.lynx_io.specs.Written.{AppendsPart}
-use Rattle.lynx_words.specs.Lines.{with_feed}
+use Rattle.lynx_lex.specs.Lines.{with_feed}
 use Rattle.lynx_store.specs.declared.fault.StoreFault.{StoreFault}
 use Rattle.lynx_store.specs.declared.fault.StoreFault.TheVariants as store
 use Rattle.lynx_store.specs.Upgrades.{IsSecond, Upgrades}

@@ -12,7 +12,7 @@ use crate::fault::ShowFault;
 use crate::listing::{are_in_tables, listing};
 use lynx_io::write_bytes;
 use lynx_store::{Inspected, inspect};
-use lynx_tables::Rising;
+use lynx_sql::Rising;
 use sqlite::Connection;
 use std::alloc::Global;
 use std::io::Write;

@@ -8,14 +8,14 @@ ghost use Rattle.lynx_keep.specs.Kept.{KeptState};
 ghost use Rattle.lynx_store.specs.Premise.{IsUndisturbed};
 ghost use Rattle.lynx_store.specs.Stored.{IsKept, Owner};
 ghost use Rattle.lynx_store.specs.Upgrades.{LeavesUpgraded};
-ghost use Rattle.lynx_tables.specs.declared.version.StoreVersion.{StoreVersion};
+ghost use Rattle.lynx_sql.specs.declared.version.StoreVersion.{StoreVersion};
 ghost use Rattle.lynx_show.specs.Upgraded.{BeginsTelling, TellsUpgrade, upgraded_line};
 
 use crate::fault::ShowFault;
 use itoa::Buffer;
 use lynx_io::{WriteFailed, write_bytes};
 use lynx_store::upgrade_store;
-use lynx_tables::Rising;
+use lynx_sql::Rising;
 use sqlite::Connection;
 use std::alloc::Global;
 use std::io::Write;

@@ -2,7 +2,7 @@
 use crate::luck::Luck;
 use lynx_entry::{Answer, Request};
 use lynx_names::{ChainId, ClientId, Memory, ServerId, Stamp};
-use lynx_samples::made::{program, values};
+use lynx_fixtures::made::{program, values};
 use lynx_weave::ToldItem;
 use std::alloc::Global;
 

@@ -8,7 +8,7 @@ use crate::torn::Tearing;
 use lynx_gather::gather;
 use lynx_names::{Memory, TableId};
 use lynx_order::{Explained, explain};
-use lynx_samples::texts::set_of;
+use lynx_fixtures::texts::set_of;
 use lynx_server::Server;
 use lynx_set::ChainSet;
 use lynx_store::SqlKeeper;

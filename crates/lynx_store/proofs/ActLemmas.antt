@@ -7,10 +7,10 @@ use Rattle.lynx_entry.specs.declared.entry.Entry.{Entry}
 use Rattle.lynx_entry.specs.declared.entry.Entry.TheVariants.{Begun, Refused, Hop}
 use Rattle.lynx_entry.specs.Entry.{History}
 use Rattle.lynx_keep.specs.Stored.{HasForm}
-use Rattle.lynx_tables.specs.declared.acts.Acted.{Acted}
-use Rattle.lynx_tables.specs.declared.version.StoreVersion.{StoreVersion}
-use Rattle.lynx_tables.specs.declared.version.StoreVersion.TheVariants.{One, Two}
-use Rattle.lynx_tables.specs.Acts.{ArePlaced, ShowActed, acts_in, with_acted, shown_act}
+use Rattle.lynx_sql.specs.declared.acts.Acted.{Acted}
+use Rattle.lynx_sql.specs.declared.version.StoreVersion.{StoreVersion}
+use Rattle.lynx_sql.specs.declared.version.StoreVersion.TheVariants.{One, Two}
+use Rattle.lynx_sql.specs.Acts.{ArePlaced, ShowActed, acts_in, with_acted, shown_act}
 use Rattle.std.specs.declared.alloc.Global.{Global}
 use Rattle.sqlite.specs.Order.{Row}
 use Rattle.std.proofs.lemmas.List.{length-take-le, take_more}

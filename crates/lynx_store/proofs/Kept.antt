@@ -11,12 +11,12 @@ use Rattle.lynx_entry.specs.declared.entry.Entry.{Entry}
 use Rattle.lynx_entry.specs.Entry.{History}
 use Rattle.lynx_keep.specs.Kept.{KeptState, nothing_kept, with_entry}
 use Rattle.lynx_keep.specs.Stored.{form_of, HasForm}
-use Rattle.lynx_tables.specs.declared.acts.Acted.{Acted}
-use Rattle.lynx_tables.specs.declared.version.StoreVersion.{StoreVersion}
-use Rattle.lynx_tables.specs.declared.version.StoreVersion.TheVariants.{One, Two}
-use Rattle.lynx_tables.specs.Acts.{ArePlaced, acts_in, with_acted}
-use Rattle.lynx_tables.specs.Contents.{Contents, title_of, titled, with_body}
-use Rattle.lynx_tables.specs.Steps.{Holds, Keeps}
+use Rattle.lynx_sql.specs.declared.acts.Acted.{Acted}
+use Rattle.lynx_sql.specs.declared.version.StoreVersion.{StoreVersion}
+use Rattle.lynx_sql.specs.declared.version.StoreVersion.TheVariants.{One, Two}
+use Rattle.lynx_sql.specs.Acts.{ArePlaced, acts_in, with_acted}
+use Rattle.lynx_sql.specs.Contents.{Contents, title_of, titled, with_body}
+use Rattle.lynx_sql.specs.Steps.{Holds, Keeps}
 use Rattle.lynx_store.specs.Acts.{act_at, acted_of}
 use Rattle.lynx_store.specs.Stored.{bodies_of, contents_of, version_text, title_for, Owner, IsKept}
 use Rattle.lynx_store.proofs.ActLemmas.{acted-append, acts_placed}

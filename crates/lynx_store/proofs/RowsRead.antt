@@ -8,17 +8,17 @@ use Rattle.sqlite_value.specs.declared.value.Value.TheVariants.{Int, Blob}
 use Rattle.sqlite.specs.Order.{Row}
 use Rattle.lynx_entry.specs.declared.entry.Entry.{Entry}
 use Rattle.lynx_entry.specs.Entry.{History}
-use Rattle.lynx_forms.specs.declared.item.Item.TheVariants as items
-use Rattle.lynx_forms.proofs.Feeds.{no_form_begins_another}
+use Rattle.lynx_codec.specs.declared.item.Item.TheVariants as items
+use Rattle.lynx_codec.proofs.Feeds.{no_form_begins_another}
 use Rattle.lynx_keep.specs.Kept.{KeptState}
 use Rattle.lynx_keep.specs.Stored.{form_of, HasForm}
 use Rattle.lynx_keep.proofs.Keeping.{same_kept}
-use Rattle.lynx_tables.specs.declared.reading.StoredRows.{StoredRows}
-use Rattle.lynx_tables.specs.Rows.{shown_entries, shown_meta}
-use Rattle.lynx_tables.specs.declared.version.StoreVersion.{StoreVersion}
-use Rattle.lynx_tables.specs.declared.version.StoreVersion.TheVariants.{One, Two}
-use Rattle.lynx_tables.specs.Reading.{ShowRows}
-use Rattle.lynx_tables.specs.Shown.{AreCells, FitsRow, row_of, entry_in}
+use Rattle.lynx_sql.specs.declared.reading.StoredRows.{StoredRows}
+use Rattle.lynx_sql.specs.Rows.{shown_entries, shown_meta}
+use Rattle.lynx_sql.specs.declared.version.StoreVersion.{StoreVersion}
+use Rattle.lynx_sql.specs.declared.version.StoreVersion.TheVariants.{One, Two}
+use Rattle.lynx_sql.specs.Reading.{ShowRows}
+use Rattle.lynx_sql.specs.Shown.{AreCells, FitsRow, row_of, entry_in}
 use Rattle.lynx_store.specs.Stored.{bodies_of, contents_of, title_for, version_text, Owner, Tells}
 use Rattle.lynx_store.proofs.Kept.{bodies-append, length-bodies}
 

@@ -7,15 +7,15 @@ use Rattle.sqlite.specs.State.{State}
 use Rattle.lynx_keep.specs.Kept.{KeptState}
 use Rattle.lynx_set.specs.Set.{Set}
 use Rattle.lynx_set.specs.Text.{text, text_of, version_words, tables_lines, programs_lines}
-use Rattle.lynx_words.specs.Lines.{line}
+use Rattle.lynx_lex.specs.Lines.{line}
 use Rattle.lynx_set.specs.declared.version.Version.{Version}
 use Rattle.lynx_set.specs.declared.version.Version.TheVariants as sets
-use Rattle.lynx_tables.specs.declared.acts.Acted.{Acted}
-use Rattle.lynx_tables.specs.declared.version.StoreVersion.{StoreVersion}
-use Rattle.lynx_tables.specs.declared.version.StoreVersion.TheVariants.{One, Two}
-use Rattle.lynx_tables.specs.Acts.{ArePlaced}
-use Rattle.lynx_tables.specs.Contents.{Contents, title_of, upgraded}
-use Rattle.lynx_tables.specs.Steps.{Holds, Keeps}
+use Rattle.lynx_sql.specs.declared.acts.Acted.{Acted}
+use Rattle.lynx_sql.specs.declared.version.StoreVersion.{StoreVersion}
+use Rattle.lynx_sql.specs.declared.version.StoreVersion.TheVariants.{One, Two}
+use Rattle.lynx_sql.specs.Acts.{ArePlaced}
+use Rattle.lynx_sql.specs.Contents.{Contents, title_of, upgraded}
+use Rattle.lynx_sql.specs.Steps.{Holds, Keeps}
 use Rattle.lynx_store.specs.Acts.{acted_of, acts_from}
 use Rattle.lynx_store.specs.Stored.{IsKept, Owner, bodies_of, contents_of, owner_for, version_for, version_text}
 use Rattle.lynx_store.specs.Upgrades.{IsSecond, LeavesUpgraded, Upgrades, second_of}

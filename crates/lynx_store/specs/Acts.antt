@@ -4,10 +4,10 @@ use Rattle.sqlite.specs.Order.{Row}
 use Rattle.lynx_entry.specs.declared.entry.Entry.{Entry}
 use Rattle.lynx_entry.specs.declared.entry.Entry.TheVariants.{Begun, Refused, Hop}
 use Rattle.lynx_entry.specs.Entry.{History}
-use Rattle.lynx_tables.specs.declared.acts.Acted.{Acted}
-use Rattle.lynx_tables.specs.Acts.{shown_act}
-use Rattle.lynx_tables.specs.declared.version.StoreVersion.{StoreVersion}
-use Rattle.lynx_tables.specs.declared.version.StoreVersion.TheVariants.{One, Two}
+use Rattle.lynx_sql.specs.declared.acts.Acted.{Acted}
+use Rattle.lynx_sql.specs.Acts.{shown_act}
+use Rattle.lynx_sql.specs.declared.version.StoreVersion.{StoreVersion}
+use Rattle.lynx_sql.specs.declared.version.StoreVersion.TheVariants.{One, Two}
 
 -- the hop of the entry at a place: hop 0 of a chain that began, a later one, none of a request that was refused
 abbrev pub act_at : ℕ → Entry → Option Acted

@@ -3,7 +3,7 @@ use Rattle.std.specs.Prelude.{◌≡◌}
 use Rattle.std.proofs.Common.{inl, inr, sym, subst}
 use Rattle.sqlite.specs.Tree.{Trees}
 use Rattle.lynx_keep.specs.Kept.{KeptState}
-use Rattle.lynx_tables.specs.Steps.{Holds}
+use Rattle.lynx_sql.specs.Steps.{Holds}
 use Rattle.lynx_store.specs.Stored.{LeavesOneOf, Owner, contents_of}
 
 -- where a stop leaves what was committed, it leaves what is kept

@@ -14,14 +14,14 @@ use Rattle.lynx_set.specs.Text.{text_of}
 use Rattle.lynx_set.specs.declared.version.Version.{Version}
 use Rattle.lynx_set.specs.declared.version.Version.TheVariants as sets
 use Rattle.lynx_store.specs.Acts.{acted_of}
-use Rattle.lynx_tables.specs.Contents.{Title, Contents, title_of}
-use Rattle.lynx_tables.specs.declared.version.StoreVersion.{StoreVersion}
-use Rattle.lynx_tables.specs.declared.version.StoreVersion.TheVariants.{One, Two}
-use Rattle.lynx_tables.specs.declared.reading.StoredRows.{StoredRows}
-use Rattle.lynx_tables.specs.Shown.{AreCells}
-use Rattle.lynx_tables.specs.Tables.{no_schema}
-use Rattle.lynx_tables.specs.Reading.{ShowRows}
-use Rattle.lynx_tables.specs.Steps.{Holds, Keeps}
+use Rattle.lynx_sql.specs.Contents.{Title, Contents, title_of}
+use Rattle.lynx_sql.specs.declared.version.StoreVersion.{StoreVersion}
+use Rattle.lynx_sql.specs.declared.version.StoreVersion.TheVariants.{One, Two}
+use Rattle.lynx_sql.specs.declared.reading.StoredRows.{StoredRows}
+use Rattle.lynx_sql.specs.Shown.{AreCells}
+use Rattle.lynx_sql.specs.Tables.{no_schema}
+use Rattle.lynx_sql.specs.Reading.{ShowRows}
+use Rattle.lynx_sql.specs.Steps.{Holds, Keeps}
 
 -- the version of the tables, as the first row of `meta` has it
 abbrev pub version_text : StoreVersion → List ℕ

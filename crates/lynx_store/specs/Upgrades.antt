@@ -5,7 +5,7 @@ use Rattle.sqlite.specs.State.{State}
 use Rattle.lynx_keep.specs.Kept.{KeptState}
 use Rattle.lynx_set.specs.Set.{Set}
 use Rattle.lynx_set.specs.declared.version.Version.TheVariants.{One, Two}
-use Rattle.lynx_tables.specs.Steps.{Holds}
+use Rattle.lynx_sql.specs.Steps.{Holds}
 use Rattle.lynx_store.specs.Stored.{IsKept, contents_of, owner_for}
 
 -- the same set at version 2

@@ -1,12 +1,12 @@
 //! The hops that entries are of.
 ghost use Rattle.std.specs.Prelude.{◌≡◌, IfOk, IfSome, IsTrue, OnOk, map};
 ghost use Rattle.lynx_store.specs.Acts.{act_at, acted_of, acts_from, added, ShowsAt};
-ghost use Rattle.lynx_tables.specs.Acts.{ShowActed, shown_act};
+ghost use Rattle.lynx_sql.specs.Acts.{ShowActed, shown_act};
 
 use crate::columns::{is_number, number_in};
 use lynx_entry::Entry;
 use lynx_names::Memory;
-use lynx_tables::{Acted, StoreVersion};
+use lynx_sql::{Acted, StoreVersion};
 use sqlite::Row;
 use std::alloc::Global;
 

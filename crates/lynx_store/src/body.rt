@@ -1,11 +1,11 @@
 //! The bodies of entries.
 ghost use Rattle.std.specs.Prelude.{◌≡◌, IfOk, IfSome, OnOk};
-ghost use Rattle.lynx_forms.specs.Entries.{IsEntryInRange};
+ghost use Rattle.lynx_codec.specs.Entries.{IsEntryInRange};
 ghost use Rattle.lynx_keep.specs.Stored.{form_of, HasForm};
 
 use lynx_entry::Entry;
-use lynx_forms::limits::MAX_FORM_BYTES;
-use lynx_forms::{DecodeFault, Feed, Item, append_entry};
+use lynx_codec::limits::MAX_FORM_BYTES;
+use lynx_codec::{DecodeFault, Feed, Item, append_entry};
 use lynx_names::Memory;
 use std::alloc::Global;
 

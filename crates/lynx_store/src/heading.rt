@@ -2,14 +2,14 @@ ghost use Rattle.std.specs.Prelude.{◌≡◌, ◌↔◌, ◌∷◌, [], pos, If
 ghost use Rattle.std.specs.Fmt.{decimal};
 ghost use Rattle.sqlite_value.specs.declared.value.Value.TheVariants.{Int, Text};
 ghost use Rattle.lynx_set.specs.Text.{text_of};
-ghost use Rattle.lynx_tables.specs.Rows.{shown_meta};
+ghost use Rattle.lynx_sql.specs.Rows.{shown_meta};
 ghost use Rattle.lynx_store.specs.Heading.{owner_in};
 ghost use Rattle.lynx_store.specs.Stored.{title_for, version_for, version_text};
 
 use crate::columns::{is_number, is_text};
 use lynx_names::{Memory, ServerId};
 use lynx_set::{ChainSet, Version};
-use lynx_tables::StoreVersion;
+use lynx_sql::StoreVersion;
 use lynx_text::print;
 use lynx_text::printing::put_number;
 use sqlite::Row;

@@ -8,7 +8,7 @@ ghost use Rattle.sqlite.specs.Held.{state};
 ghost use Rattle.lynx_keep.specs.Kept.{KeptState, kept_in};
 ghost use Rattle.lynx_set.specs.Text.{text_of};
 ghost use Rattle.lynx_store.specs.Heading.{owner_in};
-ghost use Rattle.lynx_tables.specs.Rows.{shown_meta};
+ghost use Rattle.lynx_sql.specs.Rows.{shown_meta};
 ghost use Rattle.lynx_store.specs.Premise.{IsUndisturbed};
 ghost use Rattle.lynx_store.specs.Stored.{IsKept, Owner, Tells, owner_for, title_for, version_text};
 
@@ -19,10 +19,10 @@ use crate::keeper::loaded_of;
 use lynx_keep::{KeepFault, Loaded};
 use lynx_names::ServerId;
 use lynx_set::ChainSet;
-use lynx_tables::schema::is_store;
-use lynx_tables::{Rising, StoreVersion, StoredRows, read_rows};
+use lynx_sql::schema::is_store;
+use lynx_sql::{Rising, StoreVersion, StoredRows, read_rows};
 use lynx_text::{FaultKind, parse};
-use lynx_words::number::number;
+use lynx_lex::number::number;
 use sqlite::{Connection, Row};
 use std::alloc::Global;
 

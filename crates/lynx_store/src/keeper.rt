@@ -14,8 +14,8 @@ use crate::loading::{cells_of, entries_of};
 use lynx_cells::Changes;
 use lynx_entry::Entry;
 use lynx_keep::{KeepFault, Keeper, Loaded};
-use lynx_tables::commit::write_entry;
-use lynx_tables::{Rising, StoredRows, read_rows};
+use lynx_sql::commit::write_entry;
+use lynx_sql::{Rising, StoredRows, read_rows};
 use sqlite::Connection;
 use std::alloc::Global;
 

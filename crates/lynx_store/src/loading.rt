@@ -3,8 +3,8 @@ ghost use Rattle.std.specs.Prelude.{◌≡◌, ◌∷◌, [], pos, IfOk, IfSome}
 ghost use Rattle.std.specs.List.{AllByRecursion};
 ghost use Rattle.sqlite_value.specs.declared.value.Value.TheVariants.{Int, Blob};
 ghost use Rattle.lynx_keep.specs.Stored.{form_of, HasForm};
-ghost use Rattle.lynx_tables.specs.Rows.{shown_entries};
-ghost use Rattle.lynx_tables.specs.Shown.{AreCells, FitsRow, cells_in, row_of, with_rows};
+ghost use Rattle.lynx_sql.specs.Rows.{shown_entries};
+ghost use Rattle.lynx_sql.specs.Shown.{AreCells, FitsRow, cells_in, row_of, with_rows};
 ghost use Rattle.std.specs.FinMap as finite;
 ghost use Rattle.lynx_store.specs.Stored.{bodies_of};
 

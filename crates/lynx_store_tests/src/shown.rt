@@ -1,10 +1,10 @@
 //! Listings of stores.
 use crate::made::{Fault, after, begins, blank, closed, paid, served};
-use lynx_samples::full::Full;
-use lynx_samples::made::message;
-use lynx_samples::parts::RequestParts;
-use lynx_samples::payments::{PAY, SEED, SENT};
-use lynx_samples::texts::PAYMENT;
+use lynx_fixtures::full::Full;
+use lynx_fixtures::made::message;
+use lynx_fixtures::parts::RequestParts;
+use lynx_fixtures::payments::{PAY, SEED, SENT};
+use lynx_fixtures::texts::PAYMENT;
 use lynx_show::{ShowFault, show_store};
 use sqlite::{Connection, MemStore};
 use std::alloc::Global;

@@ -2,9 +2,9 @@
 use lynx_entry::Answer;
 use lynx_keep::Keeper;
 use lynx_names::{Memory, ServerId, Stamp};
-use lynx_samples::made::request;
-use lynx_samples::payments::{PAY, SEED};
-use lynx_samples::texts::{PAYMENT, set_of};
+use lynx_fixtures::made::request;
+use lynx_fixtures::payments::{PAY, SEED};
+use lynx_fixtures::texts::{PAYMENT, set_of};
 use lynx_server::Server;
 use lynx_set::ChainSet;
 use lynx_store::SqlKeeper;

@@ -2,11 +2,11 @@
 use crate::made::{Fault, after, keeper, paid};
 use lynx_keep::Keeper;
 use lynx_names::TableId;
-use lynx_samples::cells::are_cells;
-use lynx_samples::made::entries;
-use lynx_samples::parts::RequestParts;
-use lynx_samples::payments::{AT_FIRST, PAY, SEED};
-use lynx_samples::texts::PAYMENT;
+use lynx_fixtures::cells::are_cells;
+use lynx_fixtures::made::entries;
+use lynx_fixtures::parts::RequestParts;
+use lynx_fixtures::payments::{AT_FIRST, PAY, SEED};
+use lynx_fixtures::texts::PAYMENT;
 use std::alloc::Global;
 
 /// Whether the entries that are loaded are those of the worked payment, and the cells.

@@ -2,8 +2,8 @@
 use crate::made::{Fault, paid};
 use crate::stops::{Disks, connect, crashed, run};
 use lynx_names::Memory;
-use lynx_samples::cells::{Cell, are_cells};
-use lynx_samples::texts::{PAYMENT, set_of};
+use lynx_fixtures::cells::{Cell, are_cells};
+use lynx_fixtures::texts::{PAYMENT, set_of};
 use lynx_set::Version;
 use lynx_show::{ShowFault, upgrade_and_tell};
 use lynx_store::{Inspected, inspect, upgrade_store};

@@ -2,12 +2,12 @@
 use crate::made::{Fault, blank, closed, served};
 use lynx_keep::Keeper;
 use lynx_names::{Memory, Stamp};
-use lynx_samples::made::{answer, delivered, message, request};
-use lynx_samples::parts::{AnswerParts, DeliveredParts, RequestParts};
-use lynx_samples::payments::{
+use lynx_fixtures::made::{answer, delivered, message, request};
+use lynx_fixtures::parts::{AnswerParts, DeliveredParts, RequestParts};
+use lynx_fixtures::payments::{
     DONE_AT_THREE, PAY, PAY_BEGUN, PAY_BEGUN_AGAIN, REPEATED_AT_THREE, SEED, SEED_BEGUN, SENT,
 };
-use lynx_samples::texts::PAYMENT;
+use lynx_fixtures::texts::PAYMENT;
 use lynx_server::Server;
 use std::alloc::Global;
 

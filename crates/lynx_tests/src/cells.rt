@@ -1,7 +1,7 @@
 //! Changes of cells, as they are gathered and applied.
 use lynx_cells::{Cells, Changes};
 use lynx_names::{Memory, TableId};
-use lynx_samples::cells::{Cell, are_cells};
+use lynx_fixtures::cells::{Cell, are_cells};
 use std::alloc::Global;
 
 fn changes_of(alloc: Global, writes: &[Cell]) -> Result<Changes, Memory> {

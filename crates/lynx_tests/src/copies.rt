@@ -2,9 +2,9 @@
 use lynx_entry::{Answer, AnswerRoom};
 use lynx_names::limits::MAX_ACTIONS;
 use lynx_names::{Memory, TryCopy};
-use lynx_samples::made::{answer, boxed, entry, lists};
-use lynx_samples::parts::{AnswerParts, EntryParts, RefusedParts};
-use lynx_samples::payments::{ARRIVED, PAID, PAY};
+use lynx_fixtures::made::{answer, boxed, entry, lists};
+use lynx_fixtures::parts::{AnswerParts, EntryParts, RefusedParts};
+use lynx_fixtures::payments::{ARRIVED, PAID, PAY};
 use std::alloc::Global;
 
 /// Whether what was made has a copy that is equal to it.

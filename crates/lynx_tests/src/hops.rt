@@ -2,8 +2,8 @@
 use lynx_cells::{Cells, Changes};
 use lynx_hops::{HopFault, run_hop};
 use lynx_names::{Memory, TableId};
-use lynx_samples::made::{lists, program};
-use lynx_samples::texts::set_of;
+use lynx_fixtures::made::{lists, program};
+use lynx_fixtures::texts::set_of;
 use std::alloc::Global;
 
 /// A pay over one server, whose second hop reads what the first one gave.

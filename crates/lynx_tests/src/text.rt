@@ -2,8 +2,8 @@
 //! shown by the cases under tests/cases.
 use lynx_names::limits::MAX_TEXT_BYTES;
 use lynx_names::{Memory, TryCopy};
-use lynx_samples::made::boxed;
-use lynx_samples::texts::{
+use lynx_fixtures::made::boxed;
+use lynx_fixtures::texts::{
     CALC, CROSSING, EMPTY_SET, LATE_AND_MARK, ONE_ORIGIN_JOINS, ONE_ORIGIN_ONLY, ONE_ORIGIN_SETS,
     PAY_AND_NOTE, PAYMENT, PUT, TRIP, set_of,
 };

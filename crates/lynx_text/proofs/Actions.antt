@@ -16,15 +16,15 @@ use Rattle.lynx_set.specs.declared.action.Operator.TheVariants.{Plus, Minus}
 use Rattle.lynx_set.specs.declared.action.Relation.{Relation}
 use Rattle.lynx_set.specs.declared.action.Relation.TheVariants.{Below, AtMost, Same, Differs, AtLeast, Above}
 use Rattle.lynx_text.specs.declared.action_line.ActionLine.{ActionLine}
-use Rattle.lynx_words.specs.Lines.{◌>>=◌, only_if}
-use Rattle.lynx_words.specs.Word.{is_name}
+use Rattle.lynx_lex.specs.Lines.{◌>>=◌, only_if}
+use Rattle.lynx_lex.specs.Word.{is_name}
 use Rattle.lynx_set.specs.Rules.{IsNew, FitsKey, FitsOperand, FitsAction, HasUpdate, BindsNew, bound}
 use Rattle.lynx_set.specs.Names.{place_of}
 use Rattle.lynx_set.specs.Scopes.{PlainScope, is_home}
 use Rattle.lynx_text.specs.Reading.{name_of, new_name, table_of, read_key, operand_of, room, home, binding, plain, changing, operator_of, relation_of, get_of, change_of, let_of, need_of, max_in, update_named, update_of, action_of}
 use Rattle.lynx_set.specs.Text.{name_at, key_word, operand_word, operator_word, relation_word, update_word, action_words}
 use Rattle.lynx_text.proofs.Lookups.{bind_some, only_if_some, choose, name_at-next, table_take, key_take, operand_take}
-use Rattle.lynx_words.proofs.Equal.{some_is, none_some}
+use Rattle.lynx_lex.proofs.Equal.{some_is, none_some}
 
 -- a line that can stand there, and its words, whatever names come after
 pub record IsLine (scope : PlainScope) (line : ActionLine) (words : List (List ℕ)) : Type 0 where

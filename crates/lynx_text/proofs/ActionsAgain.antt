@@ -16,12 +16,12 @@ use Rattle.lynx_set.specs.declared.action.Operator.TheVariants.{Plus, Minus}
 use Rattle.lynx_set.specs.declared.action.Relation.{Relation}
 use Rattle.lynx_set.specs.declared.action.Relation.TheVariants.{Below, AtMost, Same, Differs, AtLeast, Above}
 use Rattle.lynx_text.specs.declared.action_line.ActionLine.{ActionLine}
-use Rattle.lynx_words.specs.Lines.{◌>>=◌, is_word, AreWords, only_if}
+use Rattle.lynx_lex.specs.Lines.{◌>>=◌, is_word, AreWords, only_if}
 use Rattle.lynx_set.specs.Scopes.{PlainScope, is_home}
 use Rattle.lynx_text.specs.Reading.{new_name, table_of, read_key, operand_of, room, home, binding, plain, changing, operator_of, relation_of, get_of, change_of, let_of, need_of, max_in, update_named, update_of, action_of}
 use Rattle.lynx_set.specs.Rules.{IsNew, FitsOperand, FitsCell, FitsAction, HasUpdate, BindsNew, bound}
 use Rattle.lynx_set.specs.Text.{name_at, key_word, operand_word, operator_word, relation_word, update_word, action_words}
-use Rattle.lynx_words.proofs.WordLaws.{both_true, name-word}
+use Rattle.lynx_lex.proofs.WordLaws.{both_true, name-word}
 use Rattle.lynx_text.proofs.Lookups.{name_at-next}
 use Rattle.lynx_text.proofs.Known.{bind_is, only_if_yes, Known, new_again, table_again, key_again, operand_again}
 

@@ -10,9 +10,9 @@ use Rattle.std.proofs.lemmas.Fmt.{digits_decimal}
 use Rattle.std.proofs.lemmas.List.{append-nil, at_drop_more, take_more}
 use Rattle.lynx_set.specs.declared.interval.Interval.{Interval}
 use Rattle.lynx_set.specs.Text.{interval_word}
-use Rattle.lynx_words.specs.Lines.{◌>>=◌, only_if}
-use Rattle.lynx_words.proofs.Equal.{some_is}
-use Rattle.lynx_words.proofs.WordLaws.{and_true, own}
+use Rattle.lynx_lex.specs.Lines.{◌>>=◌, only_if}
+use Rattle.lynx_lex.proofs.Equal.{some_is}
+use Rattle.lynx_lex.proofs.WordLaws.{and_true, own}
 use Rattle.lynx_text.specs.Ranges.{begins_with_dots, behind_first, with_first, cut_at_dots, ends_of}
 use Rattle.lynx_text.proofs.Lookups.{bind_some, only_if_some, map_some, both}
 use Rattle.lynx_text.proofs.Known.{bind_is, only_if_yes}

@@ -11,17 +11,17 @@ use Rattle.lynx_set.specs.declared.version.Version.{Version}
 use Rattle.lynx_set.specs.declared.version.Version.TheVariants.{One, Two}
 use Rattle.lynx_set.specs.declared.program.Hop.{Hop}
 use Rattle.lynx_set.specs.declared.program.Program.{Program}
-use Rattle.lynx_words.specs.Digits.{read_number}
-use Rattle.lynx_words.specs.Lines.{◌>>=◌, is_feed, only_if, joined, line}
+use Rattle.lynx_lex.specs.Digits.{read_number}
+use Rattle.lynx_lex.specs.Lines.{◌>>=◌, is_feed, only_if, joined, line}
 use Rattle.lynx_text.specs.Pieces.{next_words, one_after, ends, after_version, version_of}
 use Rattle.lynx_text.specs.Parts.{servers_of, parts, goes_table, next_table, goes_program, next_program, set_at, lines_at, read_text}
 use Rattle.lynx_set.specs.Plain.{PlainSet, plain_hop, plain_named, plain_set}
 use Rattle.lynx_set.specs.Rules.{no_tables, IsPlainSet, IsSet}
 use Rattle.lynx_set.specs.Set.{Set}
 use Rattle.lynx_set.specs.Text.{text, head_lines, version_words, tables_lines, programs_lines, hop_lines, hops_lines, bound_in, set_lines, text_of}
-use Rattle.lynx_words.proofs.WordLaws.{and_true}
-use Rattle.lynx_words.proofs.NumberLaws.{number_takes}
-use Rattle.lynx_words.proofs.Equal.{some_is, none_some}
+use Rattle.lynx_lex.proofs.WordLaws.{and_true}
+use Rattle.lynx_lex.proofs.NumberLaws.{number_takes}
+use Rattle.lynx_lex.proofs.Equal.{some_is, none_some}
 use Rattle.lynx_text.proofs.Lookups.{bind_some, choose, only_if_some}
 use Rattle.lynx_text.proofs.Hops.{raw, IsNext, next_words_take, one_take, lines_of_hops}
 use Rattle.lynx_text.proofs.Ranges.{lines_of_ranges}

@@ -8,8 +8,8 @@ use Rattle.std.proofs.lemmas.Slice.Eq.{bytes_eq-Decides}
 use Rattle.lynx_set.specs.declared.action.Action.{Action}
 use Rattle.lynx_set.specs.declared.action.Action.TheVariants.{Get, Update, Let, Need}
 use Rattle.lynx_text.specs.declared.action_line.ActionLine.{ActionLine}
-use Rattle.lynx_words.specs.Digits.{read_number}
-use Rattle.lynx_words.specs.Lines.{◌>>=◌, words_in, AreWords, only_if, joined}
+use Rattle.lynx_lex.specs.Digits.{read_number}
+use Rattle.lynx_lex.specs.Lines.{◌>>=◌, words_in, AreWords, only_if, joined}
 use Rattle.lynx_text.specs.Pieces.{next_piece, next_words, one_after}
 use Rattle.lynx_set.specs.Scopes.{scope_in}
 use Rattle.lynx_text.specs.Parts.{parts, with_name, next_action, goes_action, hop_line, next_hop, goes_hop}
@@ -18,11 +18,11 @@ use Rattle.lynx_set.specs.Scopes.{PlainScope}
 use Rattle.lynx_text.specs.Reading.{action_of}
 use Rattle.lynx_set.specs.Rules.{bound, BindsNew, next_scope, FitActions, FitHops, with_hop}
 use Rattle.lynx_set.specs.Text.{bound_names, bound_in, action_words, action_lines}
-use Rattle.lynx_words.proofs.NumberLaws.{number_takes}
-use Rattle.lynx_words.proofs.LineLaws.{words_take}
+use Rattle.lynx_lex.proofs.NumberLaws.{number_takes}
+use Rattle.lynx_lex.proofs.LineLaws.{words_take}
 use Rattle.lynx_text.proofs.Lookups.{bind_some, only_if_some, choose, both, both_is}
 use Rattle.lynx_text.proofs.Actions.{IsLine, action_take}
-use Rattle.lynx_words.proofs.Equal.{none_some}
+use Rattle.lynx_lex.proofs.Equal.{none_some}
 
 -- lines as they stand in the text, without their line feeds
 abbrev pub raw : List (List (List ℕ)) → List (List ℕ)

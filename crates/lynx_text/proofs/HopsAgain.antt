@@ -8,7 +8,7 @@ use Rattle.lynx_set.specs.declared.action.Action.TheVariants.{Get, Update, Let, 
 use Rattle.lynx_set.specs.declared.action.Update.{Update as TheUpdate}
 use Rattle.lynx_set.specs.declared.action.Update.TheVariants.{Set as SetTo, Add, Sub, Max}
 use Rattle.lynx_text.specs.declared.action_line.ActionLine.{ActionLine}
-use Rattle.lynx_words.specs.Lines.{◌>>=◌, words_in, AreWords, joined}
+use Rattle.lynx_lex.specs.Lines.{◌>>=◌, words_in, AreWords, joined}
 use Rattle.lynx_text.specs.Pieces.{until, next_piece, next_words, begins}
 use Rattle.lynx_set.specs.Scopes.{scope_in}
 use Rattle.lynx_text.specs.Parts.{parts, with_name, next_action, goes_action}
@@ -18,7 +18,7 @@ use Rattle.lynx_text.specs.Reading.{action_of}
 use Rattle.lynx_set.specs.Rules.{bound, BindsNew, FitsAction, next_scope, FitActions}
 use Rattle.lynx_set.specs.Text.{name_at, key_word, operand_word, operator_word, relation_word, bound_names, action_words, action_lines}
 use Rattle.lynx_text.proofs.PieceLaws.{first_piece}
-use Rattle.lynx_words.proofs.LineLaws.{split-joined, words_again}
+use Rattle.lynx_lex.proofs.LineLaws.{split-joined, words_again}
 use Rattle.lynx_text.proofs.Known.{bind_is, Known, one_known}
 use Rattle.lynx_text.proofs.ActionsAgain.{IsOpen, action_again}
 use Rattle.lynx_text.proofs.Hops.{raw, scope_next, binds-count, names_over}

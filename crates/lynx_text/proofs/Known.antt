@@ -10,15 +10,15 @@ use Rattle.lynx_set.specs.declared.action.Key.{Key}
 use Rattle.lynx_set.specs.declared.action.Key.TheVariants.{Literal, Param}
 use Rattle.lynx_set.specs.declared.action.Operand.{Operand}
 use Rattle.lynx_set.specs.declared.action.Operand.TheVariants.{Number, Name}
-use Rattle.lynx_words.specs.Digits.{read_number}
-use Rattle.lynx_words.specs.Lines.{◌>>=◌, is_word, only_if}
+use Rattle.lynx_lex.specs.Digits.{read_number}
+use Rattle.lynx_lex.specs.Lines.{◌>>=◌, is_word, only_if}
 use Rattle.lynx_set.specs.Rules.{FitsKey, FitsOperand, IsNew}
-use Rattle.lynx_words.specs.Word.{is_name}
+use Rattle.lynx_lex.specs.Word.{is_name}
 use Rattle.lynx_set.specs.Names.{place_of, place_below}
 use Rattle.lynx_text.specs.Reading.{name_of, new_name, known_name, table_of, read_key, operand_of}
 use Rattle.lynx_set.specs.Text.{name_at, key_word, operand_word}
-use Rattle.lynx_words.proofs.WordLaws.{cond_none, cond_some, name-no_digit, name-word, number-word}
-use Rattle.lynx_words.proofs.NumberLaws.{number_again}
+use Rattle.lynx_lex.proofs.WordLaws.{cond_none, cond_some, name-no_digit, name-word, number-word}
+use Rattle.lynx_lex.proofs.NumberLaws.{number_again}
 use Rattle.lynx_text.proofs.Lookups.{name_at-append, name_at-next}
 
 -- a step that is known

@@ -9,16 +9,16 @@ use Rattle.lynx_set.specs.declared.action.Key.{Key}
 use Rattle.lynx_set.specs.declared.action.Key.TheVariants.{Literal, Param}
 use Rattle.lynx_set.specs.declared.action.Operand.{Operand}
 use Rattle.lynx_set.specs.declared.action.Operand.TheVariants.{Number, Name}
-use Rattle.lynx_words.specs.Digits.{read_number, begins_with_digit}
-use Rattle.lynx_words.specs.Lines.{◌>>=◌, only_if}
+use Rattle.lynx_lex.specs.Digits.{read_number, begins_with_digit}
+use Rattle.lynx_lex.specs.Lines.{◌>>=◌, only_if}
 use Rattle.lynx_set.specs.Rules.{FitsKey, FitsOperand}
-use Rattle.lynx_words.specs.Word.{is_name}
+use Rattle.lynx_lex.specs.Word.{is_name}
 use Rattle.lynx_set.specs.Names.{place_of, place_below}
 use Rattle.lynx_text.specs.Reading.{name_of, known_name, table_of, read_key, operand_of}
 use Rattle.lynx_set.specs.Text.{name_at, key_word, operand_word}
-use Rattle.lynx_words.proofs.WordLaws.{cond_some}
-use Rattle.lynx_words.proofs.NumberLaws.{number_takes}
-use Rattle.lynx_words.proofs.Equal.{some_is}
+use Rattle.lynx_lex.proofs.WordLaws.{cond_some}
+use Rattle.lynx_lex.proofs.NumberLaws.{number_takes}
+use Rattle.lynx_lex.proofs.Equal.{some_is}
 
 -- a step that gave a value
 pub bind_some : {A B : Type 0} (o : Option A) (f : A → Option B) (y : B) → (o >>= f) ≡ Some y → (x : A) × (o ≡ Some x) × (f x ≡ Some y)

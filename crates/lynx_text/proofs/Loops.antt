@@ -1,10 +1,10 @@
 -- Reading parts one after another, as a loop does.
 use Rattle.std.proofs.Common.{◌≡◌, ℕ, zero, suc, ◌+◌, ◌-◌, ◌≤◌, Bool, true, false, cond, List, Option, Some, None, sym, ap, ◌∙◌, arith}
-use Rattle.lynx_words.specs.Lines.{◌>>=◌}
+use Rattle.lynx_lex.specs.Lines.{◌>>=◌}
 use Rattle.lynx_text.specs.Parts.{parts}
-use Rattle.lynx_words.specs.Gives.{Fails}
-use Rattle.lynx_words.specs.declared.fault.FaultKind.{FaultKind}
-use Rattle.lynx_words.specs.declared.fault.FaultKind.TheVariants.{TooLong, BadVersion, BadLine, BadName, BadNumber, Repeated, Unknown, NeedNotFirst, LimitPassed, LiteralElsewhere, Shard, Memory}
+use Rattle.lynx_lex.specs.Gives.{Fails}
+use Rattle.lynx_lex.specs.declared.fault.FaultKind.{FaultKind}
+use Rattle.lynx_lex.specs.declared.fault.FaultKind.TheVariants.{TooLong, BadVersion, BadLine, BadName, BadNumber, Repeated, Unknown, NeedNotFirst, LimitPassed, LiteralElsewhere, Shard, Memory}
 
 -- after one more part, what is left decides
 pub parts_more : {S : Type 0} (goes : List (List ℕ) → Bool) (part : S → List (List ℕ) → Option (S × List (List ℕ))) (limit n m : ℕ) (s next : S) (lines rest : List (List ℕ)) (total : Option (S × List (List ℕ)))

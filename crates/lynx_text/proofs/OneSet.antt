@@ -13,7 +13,7 @@ use Rattle.lynx_set.specs.Set.{Set}
 use Rattle.lynx_set.specs.declared.version.Version.{Version}
 use Rattle.lynx_set.specs.Text.{text_of}
 use Rattle.lynx_text.proofs.SetAgain.{again}
-use Rattle.lynx_words.proofs.Equal.{first_is, rest_is, some_is}
+use Rattle.lynx_lex.proofs.Equal.{first_is, rest_is, some_is}
 
 abbrev hop_of : (server : ℕ) (actions : List Action) → length actions ≤ 16 → Hop
 hop_of server actions few = record { server = server; actions = actions; few_actions = few }

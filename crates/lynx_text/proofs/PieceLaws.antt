@@ -6,9 +6,9 @@ use Rattle.std.specs.List.{slice_split, onto_first}
 use Rattle.std.proofs.lemmas.Slice.Eq.{bytes_eq-Decides}
 use Rattle.std.proofs.lemmas.Bool.{false≢true}
 use Rattle.std.proofs.lemmas.Bool.Decides.{nat_tests}
-use Rattle.lynx_words.specs.Lines.{is_feed}
-use Rattle.lynx_words.proofs.PieceLaws.{has_piece}
-use Rattle.lynx_words.proofs.WordLaws.{split_found, split_none}
+use Rattle.lynx_lex.specs.Lines.{is_feed}
+use Rattle.lynx_lex.proofs.PieceLaws.{has_piece}
+use Rattle.lynx_lex.proofs.WordLaws.{split_found, split_none}
 use Rattle.lynx_text.specs.Pieces.{until, front_to, ends, next_piece, version_of, version_told}
 
 -- the first piece is the text up to the first such byte

@@ -5,7 +5,7 @@ use Rattle.std.specs.Str.{bytes_eq}
 use Rattle.std.proofs.lemmas.Bool.{ltb-true, leb-true}
 use Rattle.std.proofs.lemmas.List.{append-nil, map-append, take_at}
 use Rattle.std.proofs.lemmas.Slice.Eq.{bytes_eq-Decides}
-use Rattle.lynx_words.specs.Lines.{◌>>=◌, only_if, joined}
+use Rattle.lynx_lex.specs.Lines.{◌>>=◌, only_if, joined}
 use Rattle.lynx_text.specs.Pieces.{next_words}
 use Rattle.lynx_text.specs.Parts.{parts, goes_hop, next_hop, end_line, parameters_of, program_line, program_head, next_program, goes_program}
 use Rattle.lynx_set.specs.declared.program.ParameterRange.{ParameterRange}
@@ -14,13 +14,13 @@ use Rattle.lynx_set.specs.Names.{place_of}
 use Rattle.lynx_text.specs.Ranges.{next_range, goes_range}
 use Rattle.lynx_text.specs.Reading.{name_of, new_name}
 use Rattle.lynx_set.specs.Rules.{IsNew, AreNew, FitRanges, HasRanges, FitsProgram, FitPrograms, with_program}
-use Rattle.lynx_words.specs.Word.{is_name}
-use Rattle.lynx_words.proofs.WordLaws.{and_true}
+use Rattle.lynx_lex.specs.Word.{is_name}
+use Rattle.lynx_lex.proofs.WordLaws.{and_true}
 use Rattle.lynx_text.proofs.Lookups.{bind_some, only_if_some, choose, both, both_is}
 use Rattle.lynx_text.proofs.Actions.{new_take}
 use Rattle.lynx_text.proofs.Hops.{raw, IsNext, next_words_take, HopRead, lines_of_hops, HopsLeft, next_hop_take, more_hops, hops_take}
 use Rattle.lynx_text.proofs.Ranges.{lines_of_ranges, RangesLeft, ranges_take}
-use Rattle.lynx_words.proofs.Equal.{some_is, none_some}
+use Rattle.lynx_lex.proofs.Equal.{some_is, none_some}
 
 -- parameters that are read are those that are spelled
 pub parameters_take : (known words names : List (List ℕ)) → parameters_of known words ≡ Some names → AreNew known words × (names ≡ known ++ words)

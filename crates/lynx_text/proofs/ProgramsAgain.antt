@@ -7,8 +7,8 @@ use Rattle.std.proofs.lemmas.Bool.{lt-ltb, le-leb}
 use Rattle.std.proofs.lemmas.List.{append-nil, length-append, length_push, map-append, take_at}
 use Rattle.std.proofs.lemmas.Slice.Eq.{bytes_eq-Decides}
 use Rattle.lynx_set.specs.declared.action.Action.{Action}
-use Rattle.lynx_words.specs.Digits.{read_number}
-use Rattle.lynx_words.specs.Lines.{◌>>=◌, is_word, AreWords, only_if, joined}
+use Rattle.lynx_lex.specs.Digits.{read_number}
+use Rattle.lynx_lex.specs.Lines.{◌>>=◌, is_word, AreWords, only_if, joined}
 use Rattle.lynx_text.specs.Pieces.{next_words, begins, one_after}
 use Rattle.lynx_set.specs.Scopes.{scope_in}
 use Rattle.lynx_text.specs.Parts.{parts, with_name, next_action, goes_action, hop_line, next_hop, goes_hop, parameters_of, program_line, program_head, end_line, next_program, goes_program}
@@ -22,9 +22,9 @@ use Rattle.lynx_text.specs.Ranges.{next_range, goes_range}
 use Rattle.lynx_text.specs.Reading.{name_of, new_name}
 use Rattle.lynx_set.specs.Rules.{IsNew, AreNew, bound, next_scope, FitActions, FitHops, with_hop, FitRanges, HasRanges, FitsProgram, FitPrograms, with_program}
 use Rattle.lynx_set.specs.Text.{bound_names, bound_in, action_words, action_lines}
-use Rattle.lynx_words.specs.Word.{is_name}
-use Rattle.lynx_words.proofs.WordLaws.{both_true, name-word, number-word}
-use Rattle.lynx_words.proofs.NumberLaws.{number_again}
+use Rattle.lynx_lex.specs.Word.{is_name}
+use Rattle.lynx_lex.proofs.WordLaws.{both_true, name-word, number-word}
+use Rattle.lynx_lex.proofs.NumberLaws.{number_again}
 use Rattle.lynx_text.proofs.Lookups.{both}
 use Rattle.lynx_text.proofs.Known.{bind_is, only_if_yes, Known, none_known, one_known, new_again}
 use Rattle.lynx_text.proofs.ActionsAgain.{IsOpen}

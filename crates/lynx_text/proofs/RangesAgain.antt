@@ -14,10 +14,10 @@ use Rattle.lynx_set.specs.declared.version.Version.TheVariants.{One, Two}
 use Rattle.lynx_set.specs.Plain.{PlainProgram}
 use Rattle.lynx_set.specs.Rules.{FitRanges, HasRanges}
 use Rattle.lynx_set.specs.Text.{name_at, interval_word, range_words}
-use Rattle.lynx_words.specs.Digits.{read_number}
-use Rattle.lynx_words.specs.Lines.{◌>>=◌, is_filled, is_graphic, is_word, AreWords, only_if, joined}
-use Rattle.lynx_words.proofs.WordLaws.{and_true, both_true, name-word, number-word}
-use Rattle.lynx_words.proofs.NumberLaws.{number_again}
+use Rattle.lynx_lex.specs.Digits.{read_number}
+use Rattle.lynx_lex.specs.Lines.{◌>>=◌, is_filled, is_graphic, is_word, AreWords, only_if, joined}
+use Rattle.lynx_lex.proofs.WordLaws.{and_true, both_true, name-word, number-word}
+use Rattle.lynx_lex.proofs.NumberLaws.{number_again}
 use Rattle.lynx_text.specs.Pieces.{next_words}
 use Rattle.lynx_text.specs.Reading.{known_name}
 use Rattle.lynx_text.specs.Parts.{parts}

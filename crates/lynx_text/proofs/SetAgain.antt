@@ -11,8 +11,8 @@ use Rattle.lynx_shards.specs.declared.shard.Shard.{Shard}
 use Rattle.lynx_set.specs.declared.action.Action.{Action}
 use Rattle.lynx_set.specs.declared.version.Version.{Version}
 use Rattle.lynx_set.specs.declared.version.Version.TheVariants.{One, Two}
-use Rattle.lynx_words.specs.Digits.{read_number}
-use Rattle.lynx_words.specs.Lines.{◌>>=◌, is_feed, is_printable, AreWords, only_if, joined}
+use Rattle.lynx_lex.specs.Digits.{read_number}
+use Rattle.lynx_lex.specs.Lines.{◌>>=◌, is_feed, is_printable, AreWords, only_if, joined}
 use Rattle.lynx_text.specs.Pieces.{next_words, begins, one_after, ends, after_version}
 use Rattle.lynx_set.specs.Scopes.{scope_in}
 use Rattle.lynx_text.specs.Parts.{servers_of, parts, goes_table, next_table, goes_program, next_program, set_at, lines_at, read_text}
@@ -22,8 +22,8 @@ use Rattle.lynx_set.specs.Scopes.{PlainScope}
 use Rattle.lynx_set.specs.Rules.{IsNew, bound, next_scope, FitActions, FitHops, with_hop, FitRanges, FitsProgram, FitPrograms, with_program, FitShards, FitTables, with_table, no_tables, no_programs, IsPlainSet}
 use Rattle.lynx_set.specs.Set.{Set}
 use Rattle.lynx_set.specs.Text.{text, bound_names, bound_in, action_words, action_lines, shard_words, tables_lines, version_words, text_of}
-use Rattle.lynx_words.proofs.WordLaws.{and_true, both_true, number-word, printable-joined}
-use Rattle.lynx_words.proofs.NumberLaws.{number_again}
+use Rattle.lynx_lex.proofs.WordLaws.{and_true, both_true, number-word, printable-joined}
+use Rattle.lynx_lex.proofs.NumberLaws.{number_again}
 use Rattle.lynx_text.proofs.Known.{bind_is, only_if_yes, Known, none_known}
 use Rattle.lynx_text.proofs.ActionsAgain.{IsOpen, action_again}
 use Rattle.lynx_text.proofs.Hops.{raw, binds-count, count_actions, lines_of_hops}

@@ -1,7 +1,7 @@
 -- Lines with a wrong count of words aren't read.
 use Rattle.std.proofs.Common.{◌≡◌, ◌≢◌, ℕ, List, [], ◌∷◌, None, length, refl, arith}
 use Rattle.std.specs.Borrow.{Bor}
-use Rattle.lynx_words.specs.Lines.{texts, only_if}
+use Rattle.lynx_lex.specs.Lines.{texts, only_if}
 use Rattle.lynx_text.specs.Pieces.{one_after}
 use Rattle.std.proofs.Common.{◌<◌, get_or}
 use Rattle.std.specs.Prelude.{codes}

@@ -9,8 +9,8 @@ use Rattle.std.proofs.lemmas.Slice.Eq.{bytes_eq-Decides}
 use Rattle.lynx_shards.specs.declared.range.Range.{Range}
 use Rattle.lynx_shards.specs.declared.shard.Shard.{Shard}
 use Rattle.lynx_shards.specs.Ranges.{range_fault, last_key, next_key, shard_of}
-use Rattle.lynx_words.specs.Digits.{read_number}
-use Rattle.lynx_words.specs.Lines.{◌>>=◌, only_if, joined}
+use Rattle.lynx_lex.specs.Digits.{read_number}
+use Rattle.lynx_lex.specs.Lines.{◌>>=◌, only_if, joined}
 use Rattle.lynx_text.specs.Pieces.{next_words, one_after}
 use Rattle.lynx_text.specs.Parts.{parts, shard_line, next_shard, goes_shard, table_line, next_table, goes_table}
 use Rattle.lynx_set.specs.Plain.{PlainSet}
@@ -18,11 +18,11 @@ use Rattle.lynx_set.specs.Names.{place_of}
 use Rattle.lynx_text.specs.Reading.{name_of}
 use Rattle.lynx_set.specs.Rules.{IsNew, FitShards, FitTables, with_table}
 use Rattle.lynx_set.specs.Text.{shard_words, table_lines, tables_lines}
-use Rattle.lynx_words.specs.Word.{is_name}
-use Rattle.lynx_words.proofs.NumberLaws.{number_takes}
+use Rattle.lynx_lex.specs.Word.{is_name}
+use Rattle.lynx_lex.proofs.NumberLaws.{number_takes}
 use Rattle.lynx_text.proofs.Lookups.{bind_some, only_if_some, choose, both, both_is}
 use Rattle.lynx_text.proofs.Hops.{raw, next_words_take, one_take}
-use Rattle.lynx_words.proofs.Equal.{some_is, none_some}
+use Rattle.lynx_lex.proofs.Equal.{some_is, none_some}
 
 -- the words of a shard's line
 pub record RangeRead (count : ℕ) (range : Range) (words : List (List ℕ)) : Type 0 where

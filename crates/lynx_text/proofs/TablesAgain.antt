@@ -9,8 +9,8 @@ use Rattle.std.proofs.lemmas.List.{append-nil, length_push, map-append}
 use Rattle.lynx_shards.specs.declared.range.Range.{Range}
 use Rattle.lynx_shards.specs.declared.shard.Shard.{Shard}
 use Rattle.lynx_shards.specs.Ranges.{range_fault, last_key, next_key, shard_of}
-use Rattle.lynx_words.specs.Digits.{read_number}
-use Rattle.lynx_words.specs.Lines.{◌>>=◌, is_word, AreWords, only_if, joined}
+use Rattle.lynx_lex.specs.Digits.{read_number}
+use Rattle.lynx_lex.specs.Lines.{◌>>=◌, is_word, AreWords, only_if, joined}
 use Rattle.lynx_text.specs.Pieces.{next_words, one_after}
 use Rattle.lynx_text.specs.Parts.{parts, shard_line, next_shard, goes_shard, table_line, next_table, goes_table}
 use Rattle.lynx_set.specs.Plain.{PlainSet}
@@ -18,9 +18,9 @@ use Rattle.lynx_set.specs.Names.{place_of}
 use Rattle.lynx_text.specs.Reading.{name_of}
 use Rattle.lynx_set.specs.Rules.{IsNew, FitShards, FitTables, with_table}
 use Rattle.lynx_set.specs.Text.{shard_words, table_lines, tables_lines}
-use Rattle.lynx_words.specs.Word.{is_name}
-use Rattle.lynx_words.proofs.WordLaws.{both_true, name-word, number-word}
-use Rattle.lynx_words.proofs.NumberLaws.{number_again}
+use Rattle.lynx_lex.specs.Word.{is_name}
+use Rattle.lynx_lex.proofs.WordLaws.{both_true, name-word, number-word}
+use Rattle.lynx_lex.proofs.NumberLaws.{number_again}
 use Rattle.lynx_text.proofs.Lookups.{both}
 use Rattle.lynx_text.proofs.Known.{bind_is, only_if_yes, Known, one_known}
 use Rattle.lynx_text.proofs.Hops.{raw}

@@ -8,7 +8,7 @@ use Rattle.lynx_set.specs.declared.action.Action.{Action}
 use Rattle.lynx_set.specs.declared.version.Version.{Version}
 use Rattle.lynx_set.specs.declared.version.Version.TheVariants.{One, Two}
 use Rattle.lynx_set.specs.declared.action.Action.TheVariants.{Get, Update, Let, Need}
-use Rattle.lynx_words.specs.Lines.{line}
+use Rattle.lynx_lex.specs.Lines.{line}
 use Rattle.lynx_set.specs.Text.{text, table_lines, tables_lines, version_word, version_words, head_lines, bound_names, bound_in}
 
 -- the text of two lists of lines

@@ -5,8 +5,8 @@ use Rattle.lynx_shards.specs.declared.range.Range.{Range}
 use Rattle.lynx_shards.specs.declared.shard.Shard.{Shard}
 use Rattle.lynx_shards.specs.Ranges.{range_fault, last_key, next_key, shard_of}
 use Rattle.lynx_set.specs.declared.action.Action.{Action}
-use Rattle.lynx_words.specs.Digits.{read_number}
-use Rattle.lynx_words.specs.Lines.{◌>>=◌, is_feed, only_if}
+use Rattle.lynx_lex.specs.Digits.{read_number}
+use Rattle.lynx_lex.specs.Lines.{◌>>=◌, is_feed, only_if}
 use Rattle.lynx_text.specs.Pieces.{one_after, after_version, ends, next_words, begins}
 use Rattle.std.specs.List.{slice_split}
 use Rattle.lynx_names.specs.declared.limits.TheConstants.{MAX_ACTIONS, MAX_HOPS, MAX_PARAMETERS, MAX_PROGRAMS, MAX_SERVERS, MAX_SHARDS, MAX_TABLES, MAX_TEXT_BYTES}

@@ -3,7 +3,7 @@ use Rattle.std.specs.Prelude.{ℕ, Bool, true, false, if◌then◌else◌, List,
 use Rattle.std.specs.Str.{bytes_eq}
 use Rattle.lynx_set.specs.declared.version.Version.{Version}
 use Rattle.lynx_set.specs.declared.version.Version.TheVariants.{One, Two}
-use Rattle.lynx_words.specs.Lines.{◌>>=◌, only_if, words_in}
+use Rattle.lynx_lex.specs.Lines.{◌>>=◌, only_if, words_in}
 
 -- the bytes before that place, or all of them
 abbrev pub front_to : Option ℕ → List ℕ → List ℕ

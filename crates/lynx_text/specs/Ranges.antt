@@ -5,8 +5,8 @@ use Rattle.lynx_set.specs.declared.program.ParameterRange.{ParameterRange}
 use Rattle.lynx_set.specs.declared.version.Version.{Version}
 use Rattle.lynx_set.specs.declared.version.Version.TheVariants.{One, Two}
 use Rattle.lynx_set.specs.Plain.{PlainProgram}
-use Rattle.lynx_words.specs.Digits.{read_number}
-use Rattle.lynx_words.specs.Lines.{◌>>=◌, only_if}
+use Rattle.lynx_lex.specs.Digits.{read_number}
+use Rattle.lynx_lex.specs.Lines.{◌>>=◌, only_if}
 use Rattle.lynx_text.specs.Pieces.{begins, next_words}
 use Rattle.lynx_text.specs.Reading.{known_name}
 

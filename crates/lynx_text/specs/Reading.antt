@@ -19,9 +19,9 @@ use Rattle.lynx_set.specs.declared.action.Relation.TheVariants.{Below, AtMost, S
 use Rattle.lynx_set.specs.Names.{place_of, place_below}
 use Rattle.lynx_set.specs.Scopes.{PlainScope, is_home}
 use Rattle.lynx_text.specs.declared.action_line.ActionLine.{ActionLine}
-use Rattle.lynx_words.specs.Digits.{read_number, begins_with_digit}
-use Rattle.lynx_words.specs.Lines.{◌>>=◌, only_if}
-use Rattle.lynx_words.specs.Word.{is_name}
+use Rattle.lynx_lex.specs.Digits.{read_number, begins_with_digit}
+use Rattle.lynx_lex.specs.Lines.{◌>>=◌, only_if}
+use Rattle.lynx_lex.specs.Word.{is_name}
 
 -- a word that is a name
 abbrev pub name_of : List ℕ → Option (List ℕ)

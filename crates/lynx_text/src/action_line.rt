@@ -2,8 +2,8 @@
 
 ghost use Rattle.std.specs.Prelude.{◌<◌, ◌≡◌, OnOk};
 ghost use Rattle.lynx_names.specs.declared.limits.TheConstants.{MAX_ACTIONS};
-ghost use Rattle.lynx_words.specs.Gives.{Gives};
-ghost use Rattle.lynx_words.specs.Lines.{texts};
+ghost use Rattle.lynx_lex.specs.Gives.{Gives};
+ghost use Rattle.lynx_lex.specs.Lines.{texts};
 ghost use Rattle.lynx_text.specs.inner.Scopes.{plain_scope};
 ghost use Rattle.lynx_text.specs.Reading.{operator_of, relation_of, binding, plain, changing, get_of, change_of, let_of, need_of, update_named, update_of, action_of};
 
@@ -11,7 +11,7 @@ use crate::lines::{four_words, three_words};
 use crate::scope::Scope;
 use lynx_names::TableId;
 use lynx_set::{Action, Key, Operand, Operator, Relation, Update, Version};
-use lynx_words::{FaultKind, Name};
+use lynx_lex::{FaultKind, Name};
 
 /// An action, and the name that its line binds.
 #[derive(Clone, Copy, Debug)]

@@ -1,13 +1,13 @@
 //! The lines of a set's text, read one after another, and the words of lines of a known length.
 ghost use Rattle.std.specs.Prelude.{◌≡◌, ◌≢◌, ◌<◌, ◌==◌, ◌↔◌, ◌⊎◌, false, None, Some, IfOk, IfErr, IsErrOf, length, position, option_map, OnOk, OnErr, OnSome, IfSome, [], ◌∷◌};
 ghost use Rattle.std.specs.List.{slice_split};
-ghost use Rattle.lynx_words.specs.Gives.{Gives};
-ghost use Rattle.lynx_words.specs.Lines.{is_feed, only_if, texts};
+ghost use Rattle.lynx_lex.specs.Gives.{Gives};
+ghost use Rattle.lynx_lex.specs.Lines.{is_feed, only_if, texts};
 ghost use Rattle.lynx_text.specs.Pieces.{after_version, begins, ends, next_piece, one_after, until, next_words, version_of, version_told};
 
 use lynx_set::Version;
-use lynx_words::FaultKind;
-use lynx_words::lines::{next_line, place_of_byte, words_of};
+use lynx_lex::FaultKind;
+use lynx_lex::lines::{next_line, place_of_byte, words_of};
 use std::alloc::Global;
 use std::marker::Model;
 
@@ -99,7 +99,7 @@ pub struct Lines<'a> {
 impl<'a> Model for Lines<'a> {
     ghost use Rattle.std.specs.Prelude.{List, ℕ};
     ghost use Rattle.std.specs.List.{slice_split};
-    ghost use Rattle.lynx_words.specs.Lines.{is_feed};
+    ghost use Rattle.lynx_lex.specs.Lines.{is_feed};
 
     ghost Value = { List (List ℕ) };
 

@@ -2,7 +2,7 @@
 
 ghost use Rattle.std.specs.Prelude.{◌≡◌, ◌<◌, ◌^◌, ◌+◌, ◌++◌, ◌∷◌, [], List, OnOk, IfOk, decimal, sum_by, map, flat_map, unwrap_or, slice_get};
 ghost use Rattle.lynx_names.specs.declared.limits.TheConstants.{MAX_ACTIONS};
-ghost use Rattle.lynx_words.specs.Lines.{spaced, joined, line};
+ghost use Rattle.lynx_lex.specs.Lines.{spaced, joined, line};
 ghost use Rattle.lynx_set.specs.Text.{name_at, key_word, operand_word, operator_word, relation_word, update_word, action_words, bound_names, bound_in, action_lines, hop_lines, hops_lines, program_words, interval_word, range_words, program_lines, programs_lines, shard_words, table_lines, tables_lines, version_word, head_lines, text, text_of};
 
 use indexmap::IndexMap;
@@ -12,7 +12,7 @@ use lynx_set::{
     Update, Version,
 };
 use lynx_shards::Shard;
-use lynx_words::Name;
+use lynx_lex::Name;
 use std::alloc::Global;
 
 /// The one text of the set.

@@ -1,14 +1,14 @@
 //! The lines of a program's ranges.
 
 ghost use Rattle.std.specs.Prelude.{◌≡◌, ◌≤◌, length, option_map, IsTrue};
-ghost use Rattle.lynx_words.specs.Gives.{Gives};
-ghost use Rattle.lynx_words.specs.Lines.{texts};
+ghost use Rattle.lynx_lex.specs.Gives.{Gives};
+ghost use Rattle.lynx_lex.specs.Lines.{texts};
 ghost use Rattle.lynx_text.specs.Ranges.{begins_with_dots, cut_at_dots, ends_of, next_parameter, range_line};
 
 use crate::lines::three_words;
 use crate::scope::{known_name, number_of};
 use lynx_set::{Interval, ParameterRange};
-use lynx_words::{FaultKind, Name};
+use lynx_lex::{FaultKind, Name};
 
 /// `range PARAMETER LOW..HIGH`, where the program has these parameters, and these ranges of them before.
 #[tactic(auto, using(crate::proofs::Shapes::range_line_other), unfolding(crate::specs::Ranges::range_line))]

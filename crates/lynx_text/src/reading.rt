@@ -1,8 +1,8 @@
 //! Reading the text of a set.
 
 ghost use Rattle.std.specs.Prelude.{◌≡◌, ◌≢◌, ◌↔◌, ◌⊎◌, false, codes, IfErr, IsErrAnd, IsErrOf, ◌<◌, ◌≤◌, ◌+◌, ◌-◌, [], None, Some, length, map, OnOk, IfOk};
-ghost use Rattle.lynx_words.specs.Gives.{Gives, IsOfLine};
-ghost use Rattle.lynx_words.specs.Lines.{texts};
+ghost use Rattle.lynx_lex.specs.Gives.{Gives, IsOfLine};
+ghost use Rattle.lynx_lex.specs.Lines.{texts};
 ghost use Rattle.lynx_text.specs.Pieces.{until, version_of, version_told};
 ghost use Rattle.lynx_set.specs.Plain.{plain_set, plain_program};
 ghost use Rattle.lynx_set.specs.Home.{AreLiteralsHome};
@@ -24,7 +24,7 @@ use lynx_names::limits::{
 use lynx_names::{Items, ServerId};
 use lynx_set::{Action, ChainSet, Hop, Program, Version};
 use lynx_shards::{Range, ShardFault, TableShards};
-use lynx_words::{FaultKind, Name, TextFault};
+use lynx_lex::{FaultKind, Name, TextFault};
 use std::alloc::Global;
 
 /// The set that the text spells. An error tells the fault on the earliest line, or want of memory.

@@ -2,18 +2,18 @@
 
 ghost use Rattle.std.specs.Prelude.{◌<◌, ◌≡◌, true, false, nat_lt, IfOk, OnOk};
 ghost use Rattle.lynx_names.specs.declared.limits.TheConstants.{MAX_ACTIONS};
-ghost use Rattle.lynx_words.specs.Digits.{read_number, begins_with_digit};
-ghost use Rattle.lynx_words.specs.Gives.{Gives};
+ghost use Rattle.lynx_lex.specs.Digits.{read_number, begins_with_digit};
+ghost use Rattle.lynx_lex.specs.Gives.{Gives};
 ghost use Rattle.lynx_set.specs.Names.{place_of, place_below};
 ghost use Rattle.lynx_set.specs.Scopes.{is_home};
 ghost use Rattle.lynx_text.specs.Reading.{name_of, new_name, known_name, table_of, read_key, operand_of};
-ghost use Rattle.lynx_words.specs.Lines.{only_if};
+ghost use Rattle.lynx_lex.specs.Lines.{only_if};
 
 use lynx_names::limits::MAX_ACTIONS;
 use lynx_names::{ServerId, TableId};
 use lynx_set::{ChainSet, Key, Operand};
-use lynx_words::number::number;
-use lynx_words::{FaultKind, Name};
+use lynx_lex::number::number;
+use lynx_lex::{FaultKind, Name};
 
 /// What an action may name, and where it stands.
 #[derive(Clone, Copy)]

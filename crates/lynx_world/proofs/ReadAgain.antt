@@ -1,9 +1,9 @@
 -- What is read of a message's form is that message, unless memory is wanted.
 use Rattle.std.proofs.Common.{◌≡◌, ◌⊎◌, inl, inr, Option, Some, None, Result, Ok, Err}
-use Rattle.lynx_forms.specs.declared.fault.DecodeFault.{DecodeFault}
-use Rattle.lynx_forms.specs.declared.fault.DecodeFault.TheVariants as faults
-use Rattle.lynx_forms.specs.declared.item.Item.{Item}
-use Rattle.lynx_forms.specs.declared.item.Item.TheVariants as items
+use Rattle.lynx_codec.specs.declared.fault.DecodeFault.{DecodeFault}
+use Rattle.lynx_codec.specs.declared.fault.DecodeFault.TheVariants as faults
+use Rattle.lynx_codec.specs.declared.item.Item.{Item}
+use Rattle.lynx_codec.specs.declared.item.Item.TheVariants as items
 use Rattle.lynx_entry.specs.declared.message.Message.{Message}
 
 -- what a read of an item's form comes to

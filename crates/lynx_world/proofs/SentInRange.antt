@@ -3,7 +3,7 @@ use Rattle.std.proofs.Common.{◌≤◌, List, [], ◌∷◌, ◌++◌, inl, inr
 use Rattle.lynx_names.specs.declared.limits.TheConstants.{MAX_SERVERS}
 use Rattle.lynx_set.specs.Set.{Set}
 use Rattle.lynx_entry.specs.declared.message.Message.{Message}
-use Rattle.lynx_forms.specs.Ranges.{IsMessageInRange}
+use Rattle.lynx_codec.specs.Ranges.{IsMessageInRange}
 use Rattle.lynx_server.proofs.InRange.{next-in_range}
 use Rattle.lynx_world.specs.Legal.{IsLegal, IsLegalAfter, IsSent}
 use Rattle.lynx_world.specs.Placed.{Placed}

@@ -1,13 +1,13 @@
 //! A message on its way: it is written as its byte form, and read from it.
 ghost use Rattle.std.specs.Prelude.{◌≡◌, ◌⊎◌, Ok, Err, Some, IfOk};
 ghost use Rattle.lynx_entry.specs.declared.message.Message.{Message};
-ghost use Rattle.lynx_forms.specs.declared.fault.DecodeFault.TheVariants.{Memory as WantOfMemory};
-ghost use Rattle.lynx_forms.specs.declared.item.Item.{Item};
-ghost use Rattle.lynx_forms.specs.Form.{form};
-ghost use Rattle.lynx_forms.specs.Ranges.{IsItem, IsMessageInRange};
+ghost use Rattle.lynx_codec.specs.declared.fault.DecodeFault.TheVariants.{Memory as WantOfMemory};
+ghost use Rattle.lynx_codec.specs.declared.item.Item.{Item};
+ghost use Rattle.lynx_codec.specs.Form.{form};
+ghost use Rattle.lynx_codec.specs.Ranges.{IsItem, IsMessageInRange};
 
 use lynx_entry::Message;
-use lynx_forms::{DecodeFault, Feed, Item, encode};
+use lynx_codec::{DecodeFault, Feed, Item, encode};
 use lynx_names::Memory;
 use std::alloc::Global;
 

@@ -1,8 +1,8 @@
 //! Histories that weave, and histories that don't, with nothing told.
 use crate::weaving::{Case, Woven, comes_out};
-use lynx_samples::parts::{BegunParts, EntryParts, HopParts, MessageParts, RequestParts};
-use lynx_samples::payments::{ARRIVED, AT_FIRST, AT_SECOND, PAID, PAY, SEED, SEEDED, SENT};
-use lynx_samples::texts::{CROSSING, PAYMENT};
+use lynx_fixtures::parts::{BegunParts, EntryParts, HopParts, MessageParts, RequestParts};
+use lynx_fixtures::payments::{ARRIVED, AT_FIRST, AT_SECOND, PAID, PAY, SEED, SEEDED, SENT};
+use lynx_fixtures::texts::{CROSSING, PAYMENT};
 
 /// Payments of 5 in both directions, each behind a seed of 100 at its server.
 const PAID_OVER: BegunParts = BegunParts {

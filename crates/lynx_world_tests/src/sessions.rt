@@ -1,11 +1,11 @@
 //! What sessions were told, judged by the histories of a payment and of a refusal.
 use crate::told::ToldParts;
 use crate::weaving::{Case, Woven, comes_out};
-use lynx_samples::parts::{AnswerParts, EntryParts, RefusedParts, RequestParts};
-use lynx_samples::payments::{
+use lynx_fixtures::parts::{AnswerParts, EntryParts, RefusedParts, RequestParts};
+use lynx_fixtures::payments::{
     AT_FIRST, AT_SECOND, PAY, PAY_BEGUN, PAY_BEGUN_AGAIN, SEED, SEED_BEGUN, SEEDED,
 };
-use lynx_samples::texts::PAYMENT;
+use lynx_fixtures::texts::PAYMENT;
 
 pub const TOLD_SEED: ToldParts = ToldParts::Answered(SEED, SEED_BEGUN);
 

@@ -3,9 +3,9 @@ use crate::sessions::{TOLD_PAID, TOLD_SEED};
 use crate::told::{ToldParts, sessions};
 use lynx_entry::Entry;
 use lynx_names::Memory;
-use lynx_samples::made::entries;
-use lynx_samples::payments::{AT_FIRST, AT_SECOND};
-use lynx_samples::texts::{PAYMENT, set_of};
+use lynx_fixtures::made::entries;
+use lynx_fixtures::payments::{AT_FIRST, AT_SECOND};
+use lynx_fixtures::texts::{PAYMENT, set_of};
 use lynx_weave::{ServerCounts, WeaveFault, weave_since};
 use std::alloc::Global;
 

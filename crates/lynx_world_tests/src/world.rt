@@ -1,13 +1,13 @@
 //! A worked run of payments, with ample memory: a body that always answers want of memory meets any contract.
 use crate::order::is_order;
 use lynx_names::Memory;
-use lynx_samples::cells::are_cells;
-use lynx_samples::made::{answer, boxed, chain, delivered, request, server, stamp};
-use lynx_samples::parts::{AnswerParts, DeliveredParts, RequestParts};
-use lynx_samples::payments::{
+use lynx_fixtures::cells::are_cells;
+use lynx_fixtures::made::{answer, boxed, chain, delivered, request, server, stamp};
+use lynx_fixtures::parts::{AnswerParts, DeliveredParts, RequestParts};
+use lynx_fixtures::payments::{
     DONE_AT_FOUR, DONE_AT_THREE, PAY, PAY_BEGUN, REPEATED_AT_THREE, SEED, SEED_BEGUN,
 };
-use lynx_samples::texts::{PAYMENT, read};
+use lynx_fixtures::texts::{PAYMENT, read};
 use lynx_world::{Event, Outcome, World, empty_keepers};
 use std::alloc::Global;
 

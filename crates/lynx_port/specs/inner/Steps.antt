@@ -1,9 +1,9 @@
 -- One step of a talk: a form that is written, a frame that is read, a frame that is answered.
 use Rattle.std.specs.Prelude.{◌≡◌, ◌≢◌, ℕ, ◌++◌, List, [], Option, None, ◌⊎◌}
 use Rattle.std.specs.Io.KnownBytes.{Appends, Consumes}
-use Rattle.lynx_forms.specs.declared.item.Item.{Item}
-use Rattle.lynx_forms.specs.Form.{form}
-use Rattle.lynx_forms.specs.Ranges.{IsItem}
+use Rattle.lynx_codec.specs.declared.item.Item.{Item}
+use Rattle.lynx_codec.specs.Form.{form}
+use Rattle.lynx_codec.specs.Ranges.{IsItem}
 use Rattle.lynx_port.specs.declared.fault.PortFault.{PortFault}
 use Rattle.lynx_port.specs.declared.fault.PortFault.TheVariants as faults
 use Rattle.lynx_port.specs.Desks.{Looks, Answering}

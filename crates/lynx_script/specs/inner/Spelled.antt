@@ -1,7 +1,7 @@
 -- What a reader answers of what is written: a value that is spelled so, or why none is.
 use Rattle.std.specs.Prelude.{◌≡◌, ◌≢◌, Result, Ok, Err}
-use Rattle.lynx_words.specs.declared.fault.FaultKind.{FaultKind}
-use Rattle.lynx_words.specs.declared.fault.FaultKind.TheVariants.{Memory, TooLong, BadVersion}
+use Rattle.lynx_lex.specs.declared.fault.FaultKind.{FaultKind}
+use Rattle.lynx_lex.specs.declared.fault.FaultKind.TheVariants.{Memory, TooLong, BadVersion}
 
 -- a fault of a line is answered only so, want of memory at any time, and no other fault
 abbrev pub MeansUnread : FaultKind → Type 0 → Type 0

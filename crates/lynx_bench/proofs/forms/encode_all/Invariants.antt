@@ -1,4 +1,4 @@
-use Rattle.lynx_forms.specs.Ranges.{IsInRange}
+use Rattle.lynx_codec.specs.Ranges.{IsInRange}
 use Rattle.lynx_bench.proofs.forms.encode_all.Given as goal
 
 -- the item stays in range

@@ -1,7 +1,7 @@
 use Rattle.std.proofs.Common.{◌≡◌, ◌-◌, [], length, drop, ap, sym, ◌∙◌, arith}
 use Rattle.std.proofs.lemmas.List.{drop-drop, get_or_past, length-drop}
 use Rattle.std.specs.List.{slice_split}
-use Rattle.lynx_words.specs.Lines.{is_feed}
+use Rattle.lynx_lex.specs.Lines.{is_feed}
 use Rattle.lynx_hints.proofs.line.line_at.Goals as goal
 
 pub returns-in-None : goal.returns-in-None

@@ -1,5 +1,5 @@
 use Rattle.std.proofs.Common.{IfNone, IfSome, subst}
-use Rattle.lynx_forms.specs.Feeding.{Gives, Waits}
+use Rattle.lynx_codec.specs.Feeding.{Gives, Waits}
 use Rattle.lynx_keep.proofs.Stored.{entry_first, given_first, only_memory, others_left, stored-none}
 use Rattle.lynx_keep.proofs.reading.next_entry.Goals as goal
 

@@ -1,6 +1,6 @@
 use Rattle.std.proofs.Common.{arith, length, length-append, ap, refl, inl}
 use Rattle.std.proofs.lemmas.Result.{err_from_is_err_and}
-use Rattle.lynx_forms.specs.Front.{front}
+use Rattle.lynx_codec.specs.Front.{front}
 use Rattle.lynx_port.specs.Desks.{Replies}
 use Rattle.lynx_port.proofs.GoingLemmas.{going_none, going_more, going_read, going_on, fails_here, fails_there, served_to_the_end}
 use Rattle.lynx_port.proofs.serving.serve.Goals as goal

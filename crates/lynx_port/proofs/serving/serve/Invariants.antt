@@ -1,5 +1,5 @@
 use Rattle.std.proofs.Common.{◌≡◌, ◌+◌, ◌*◌, ◌≤◌, length, None, Ok}
-use Rattle.lynx_forms.specs.Front.{front}
+use Rattle.lynx_codec.specs.Front.{front}
 use Rattle.lynx_port.specs.Desks.{Replies}
 use Rattle.lynx_port.specs.inner.Steps.{Going}
 use Rattle.lynx_port.proofs.serving.serve.Given as goal

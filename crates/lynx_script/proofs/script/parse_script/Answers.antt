@@ -3,7 +3,7 @@ use Rattle.std.specs.List.{AllByRecursion}
 use Rattle.lynx_entry.specs.declared.event.Event.{Event}
 use Rattle.lynx_script.specs.Scripts.{FitsEvent, script_of}
 use Rattle.lynx_script.proofs.EventLemmas.{event_line, memory_or, script-push, script_left, all-push}
-use Rattle.lynx_words.proofs.NextLine.{same_line}
+use Rattle.lynx_lex.proofs.NextLine.{same_line}
 use Rattle.lynx_script.proofs.script.parse_script.Goals as goal
 
 pub returns-in-Err-clause-only : goal.returns-in-Err-clause-only

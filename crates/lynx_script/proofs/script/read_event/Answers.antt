@@ -1,6 +1,6 @@
 use Rattle.std.proofs.Common.{rules}
 use Rattle.std.proofs.lemmas.Result.{err_from_is_err_and}
-use Rattle.lynx_words.specs.Lines.{texts}
+use Rattle.lynx_lex.specs.Lines.{texts}
 use Rattle.lynx_script.proofs.EventLemmas.{no_begin, no_deliver, no_lose, no_wake, no_restart}
 use Rattle.lynx_script.proofs.SpelledLemmas.{fails_so}
 use Rattle.lynx_script.proofs.script.read_event.Goals as goal

@@ -1,12 +1,12 @@
 use Rattle.std.proofs.Common.{◌++◌, ◌∷◌, [], List, ℕ, sym, ap, ◌∙◌, append_assoc}
 use Rattle.std.proofs.lemmas.Result.{err_from_is_err_and}
-use Rattle.lynx_words.specs.Lines.{texts, joined}
+use Rattle.lynx_lex.specs.Lines.{texts, joined}
 use Rattle.lynx_script.specs.Scripts.{event_words}
 use Rattle.lynx_script.proofs.EventLemmas.{event_line, event_are_words, no_words}
-use Rattle.lynx_words.proofs.NextLine.{same_line, line_taken}
+use Rattle.lynx_lex.proofs.NextLine.{same_line, line_taken}
 use Rattle.lynx_script.proofs.SpelledLemmas.{fails_so}
 use Rattle.lynx_script.proofs.script.read_line.Goals as goal
-use Rattle.lynx_words.proofs.Equal.{some_is, some_none}
+use Rattle.lynx_lex.proofs.Equal.{some_is, some_none}
 use Rattle.lynx_set.specs.Lookups.{program_names}
 
 pub returns-in_default-clause-only : goal.returns-in_default-clause-only

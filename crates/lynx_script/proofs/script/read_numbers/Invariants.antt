@@ -1,7 +1,7 @@
 use Rattle.std.proofs.Common.{◌≡◌, ◌<◌, ◌^◌, map, take}
 use Rattle.std.specs.Prelude.{decimal}
 use Rattle.std.specs.List.{AllByRecursion}
-use Rattle.lynx_words.specs.Lines.{texts}
+use Rattle.lynx_lex.specs.Lines.{texts}
 use Rattle.lynx_script.proofs.script.read_numbers.Given as goal
 
 -- the numbers so far are those of the words so far

@@ -2,7 +2,7 @@ use Rattle.std.proofs.Common.{sym, ap, ◌∙◌, refl, arith}
 use Rattle.std.proofs.lemmas.List.{length-map}
 use Rattle.lynx_script.proofs.SpelledLemmas.{name_found, name_not_found}
 use Rattle.lynx_set.specs.Names.{place_below}
-use Rattle.lynx_words.specs.Word.{is_name}
+use Rattle.lynx_lex.specs.Word.{is_name}
 use Rattle.lynx_script.proofs.script.read_program.Goals as goal
 use Rattle.lynx_set.specs.Lookups.{program_names}
 

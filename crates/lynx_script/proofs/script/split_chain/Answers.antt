@@ -2,7 +2,7 @@ use Rattle.std.proofs.Common.{◌≡◌, ◌+◌, List, ℕ, [], ◌∷◌, take
 use Rattle.std.proofs.lemmas.List.{take_rest}
 use Rattle.std.specs.Prelude.{position}
 use Rattle.std.specs.List.{slice_split}
-use Rattle.lynx_words.proofs.WordLaws.{split_found, split_none}
+use Rattle.lynx_lex.proofs.WordLaws.{split_found, split_none}
 use Rattle.lynx_script.specs.Scripts.{is_colon}
 use Rattle.lynx_script.proofs.script.split_chain.Goals as goal
 

@@ -1,7 +1,7 @@
 use Rattle.std.proofs.Common.{All, ◌<◌, ◌∙◌, [], ℕ, sym, subst}
 use Rattle.lynx_names.specs.declared.limits.TheConstants.{MAX_SERVERS}
 use Rattle.lynx_entry.specs.Entry.{History}
-use Rattle.lynx_forms.specs.Entries.{IsEntryInRange}
+use Rattle.lynx_codec.specs.Entries.{IsEntryInRange}
 use Rattle.lynx_server.specs.inner.Repeating.{IsReplay, IsReplayed}
 use Rattle.lynx_server.specs.declared.replay.Replayed.{Replayed}
 use Rattle.lynx_server.proofs.InRange.{all-in_range}

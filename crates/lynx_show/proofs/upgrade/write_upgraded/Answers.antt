@@ -4,7 +4,7 @@ use Rattle.std.specs.Fmt.{decimal}
 use Rattle.std.specs.Io.KnownBytes.{Appends}
 use Rattle.lynx_io.specs.Written.{AppendsPart}
 use Rattle.lynx_io.proofs.Parts.{on_err, part_of_more, part_on}
-use Rattle.lynx_words.specs.Lines.{with_feed}
+use Rattle.lynx_lex.specs.Lines.{with_feed}
 use Rattle.lynx_show.proofs.upgrade.write_upgraded.Goals as goal
 
 pub returns-in_err-write_bytes-clause-part : goal.returns-in_err-write_bytes-clause-part

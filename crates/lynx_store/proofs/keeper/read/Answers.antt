@@ -1,6 +1,6 @@
 use Rattle.std.proofs.Common.{refl}
 use Rattle.lynx_keep.specs.Kept.{kept_in}
-use Rattle.lynx_tables.proofs.ReadLemmas.{if_ok}
+use Rattle.lynx_sql.proofs.ReadLemmas.{if_ok}
 use Rattle.lynx_store.specs.Heading.{owner_in}
 use Rattle.lynx_store.specs.Stored.{contents_of}
 use Rattle.lynx_store.proofs.Kept.{placed}

@@ -1,7 +1,7 @@
 use Rattle.std.proofs.Common.{ℕ, ap, subst, sym, ◌∙◌, arith}
 use Rattle.std.specs.FinMap as finite
-use Rattle.lynx_tables.specs.Shown.{AreCells, with_rows}
-use Rattle.lynx_tables.proofs.FoundCells.{with_rows_next}
+use Rattle.lynx_sql.specs.Shown.{AreCells, with_rows}
+use Rattle.lynx_sql.proofs.FoundCells.{with_rows_next}
 use Rattle.lynx_store.proofs.RowsRead.{take_next, take_whole, cells_more, told_by}
 use Rattle.lynx_store.proofs.loading.changes_of.Goals as goal
 

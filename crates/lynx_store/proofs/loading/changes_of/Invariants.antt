@@ -1,6 +1,6 @@
 use Rattle.std.proofs.Common.{◌≡◌, take}
 use Rattle.std.specs.FinMap as finite
-use Rattle.lynx_tables.specs.Shown.{AreCells, with_rows}
+use Rattle.lynx_sql.specs.Shown.{AreCells, with_rows}
 use Rattle.lynx_store.proofs.loading.changes_of.Given as goal
 
 -- the cells of the rows so far

@@ -1,7 +1,7 @@
 use Rattle.std.proofs.Common.{◌≡◌, ◌∷◌, [], ◌++◌, length, ap, subst, sym, ◌∙◌, arith, length-append}
 use Rattle.std.specs.List.{AllByRecursion}
 use Rattle.lynx_keep.specs.Stored.{HasForm}
-use Rattle.lynx_tables.specs.Rows.{shown_entries}
+use Rattle.lynx_sql.specs.Rows.{shown_entries}
 use Rattle.lynx_store.specs.Stored.{bodies_of}
 use Rattle.lynx_store.proofs.Kept.{formed-append}
 use Rattle.lynx_store.proofs.RowsRead.{take_next, take_whole, shown_more}

@@ -1,7 +1,7 @@
 use Rattle.std.proofs.Common.{◌≡◌, take, length}
 use Rattle.std.specs.List.{AllByRecursion}
 use Rattle.lynx_keep.specs.Stored.{HasForm}
-use Rattle.lynx_tables.specs.Rows.{shown_entries}
+use Rattle.lynx_sql.specs.Rows.{shown_entries}
 use Rattle.lynx_store.specs.Stored.{bodies_of}
 use Rattle.lynx_store.proofs.loading.entries_of.Given as goal
 

@@ -1,7 +1,7 @@
 use Rattle.std.proofs.Common.{[], ◌∷◌, ◌++◌, ap, map, sym, ◌∙◌}
 use Rattle.std.specs.Prelude.{codes}
 use Rattle.std.proofs.lemmas.List.{append-nil}
-use Rattle.lynx_words.specs.Lines.{line}
+use Rattle.lynx_lex.specs.Lines.{line}
 use Rattle.lynx_set.specs.Text.{text, program_words, range_words, hops_lines}
 use Rattle.lynx_text.proofs.Texts.{four_written}
 use Rattle.lynx_text.proofs.printing.put_program.Goals as goal

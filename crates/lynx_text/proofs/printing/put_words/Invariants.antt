@@ -1,5 +1,5 @@
 use Rattle.std.proofs.Common.{◌≡◌, ◌++◌, drop}
-use Rattle.lynx_words.specs.Lines.{spaced}
+use Rattle.lynx_lex.specs.Lines.{spaced}
 use Rattle.lynx_text.proofs.printing.put_words.Given as goal
 
 -- what is written and what is left are the whole

@@ -1,5 +1,5 @@
 use Rattle.std.proofs.Common.{◌≡◌, ◌+◌, ◌<◌, ◌≤◌, length, ap, sym, ◌∙◌, arith}
-use Rattle.lynx_words.specs.Lines.{texts}
+use Rattle.lynx_lex.specs.Lines.{texts}
 use Rattle.lynx_text.specs.Ranges.{next_parameter, range_line}
 use Rattle.lynx_text.proofs.Ranges.{IsRange, next_parameter-push, range_take}
 use Rattle.lynx_text.proofs.reading.add_range.Goals as goal

@@ -1,7 +1,7 @@
 use Rattle.std.proofs.Common.{◌≡◌, ◌≢◌, ◌⊎◌, inl, inr, List, ℕ, Some, None, Result, Ok, Err, sym, ap, ◌∙◌}
 use Rattle.std.specs.Prelude.{IfOk, IfErr}
-use Rattle.lynx_words.specs.declared.fault.FaultKind.TheVariants.{Memory}
-use Rattle.lynx_words.specs.declared.fault.TextFault.{TextFault}
+use Rattle.lynx_lex.specs.declared.fault.FaultKind.TheVariants.{Memory}
+use Rattle.lynx_lex.specs.declared.fault.TextFault.{TextFault}
 use Rattle.lynx_text.specs.Parts.{read_text}
 use Rattle.lynx_set.specs.Home.{AreLiteralsHome}
 use Rattle.lynx_set.proofs.Literals.{literals_home}
@@ -12,7 +12,7 @@ use Rattle.lynx_set.specs.Text.{text_of}
 use Rattle.lynx_text.proofs.Found.{found}
 use Rattle.lynx_text.proofs.SetAgain.{again}
 use Rattle.lynx_text.proofs.reading.parse.Goals as goal
-use Rattle.lynx_words.proofs.Equal.{none_some}
+use Rattle.lynx_lex.proofs.Equal.{none_some}
 
 found_in : (bytes : List ℕ) (r : Result Set TextFault) → IfOk r (λ set. read_text bytes ≡ Some (plain_set set)) → IfOk r (λ set. IsSet set × (bytes ≡ text_of set))
 found_in bytes (Ok set) read = found bytes set read

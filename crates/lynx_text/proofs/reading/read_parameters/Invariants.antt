@@ -1,5 +1,5 @@
 use Rattle.std.proofs.Common.{◌≡◌, [], length, drop}
-use Rattle.lynx_words.specs.Lines.{texts}
+use Rattle.lynx_lex.specs.Lines.{texts}
 use Rattle.lynx_text.specs.Parts.{parameters_of}
 use Rattle.lynx_text.proofs.reading.read_parameters.Given as goal
 

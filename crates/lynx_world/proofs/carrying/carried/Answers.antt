@@ -1,5 +1,5 @@
 use Rattle.std.proofs.Common.{◌∙◌}
-use Rattle.lynx_forms.specs.declared.item.Item.TheVariants as items
+use Rattle.lynx_codec.specs.declared.item.Item.TheVariants as items
 use Rattle.lynx_world.proofs.ReadAgain.{given_item, never_none, only_memory, same_message}
 use Rattle.lynx_world.proofs.carrying.carried.Goals as goal
 

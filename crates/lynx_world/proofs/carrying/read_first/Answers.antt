@@ -1,7 +1,7 @@
 use Rattle.std.proofs.Common.{◌∙◌, ◌++◌, [], ap, sym}
 use Rattle.std.proofs.lemmas.List.{append-nil}
-use Rattle.lynx_forms.specs.Form.{form}
-use Rattle.lynx_forms.specs.Feeding.{Stream}
+use Rattle.lynx_codec.specs.Form.{form}
+use Rattle.lynx_codec.specs.Feeding.{Stream}
 use Rattle.lynx_world.proofs.carrying.read_first.Goals as goal
 
 pub returns : goal.returns

@@ -1,6 +1,6 @@
 use Rattle.std.proofs.Common.{◌≡◌, sym, ◌∙◌}
 use Rattle.lynx_keep.specs.Kept.{nothing_kept}
-use Rattle.lynx_tables.specs.Tables.{no_schema}
+use Rattle.lynx_sql.specs.Tables.{no_schema}
 use Rattle.sqlite.specs.Held.{state}
 use Rattle.lynx_store.proofs.Kept.{new_kept, reowned, same_owner}
 use Rattle.lynx_store.proofs.keeper.SqlKeeper.open.Goals as goal

@@ -1,5 +1,5 @@
 use Rattle.std.proofs.Common.{◌∙◌, sym, ap}
-use Rattle.lynx_words.specs.Lines.{only_if}
+use Rattle.lynx_lex.specs.Lines.{only_if}
 use Rattle.lynx_text.specs.Pieces.{ends}
 use Rattle.lynx_text.proofs.PieceLaws.{ends_is}
 use Rattle.lynx_text.proofs.lines.Lines.end.Goals as goal

@@ -1,0 +1,163 @@
+//! Each job from sources in memory, with ample memory.
+use lynx_command::{Job, RunFlags, SampleFlags, command, job_of};
+use lynx_jobs::{check_source, draw_source, run_input, run_sources};
+use lynx_report::{CheckOptions, DrawOptions};
+use lynx_fixtures::rows::PAYMENT;
+use lynx_fixtures::texts::{CROSSING, PAY_AND_NOTE};
+use std::alloc::Global;
+use std::test::Fail;
+
+/// The status of a check of the text, with reasons or without.
+fn status_of_check(alloc: Global, text: &str, why: bool) -> Option<u8> {
+    let mut printed = Vec::new(alloc);
+    let options = CheckOptions { why };
+    check_source(alloc, "set", &mut text.as_bytes(), options, &mut printed).ok()
+}
+
+#[test]
+fn a_check_has_the_status_of_its_verdict(rt: HostRuntime) {
+    for why in [false, true] {
+        assert_eq!(rt; status_of_check(rt.alloc(), PAYMENT.set, why), Some(0));
+        assert_eq!(rt; status_of_check(rt.alloc(), PAY_AND_NOTE, why), Some(0));
+        assert_eq!(rt; status_of_check(rt.alloc(), CROSSING, why), Some(1));
+    }
+}
+
+/// The status of a picture of the text.
+fn status_of_picture(alloc: Global, text: &str) -> Option<u8> {
+    let mut picture = Vec::new(alloc);
+    let options = DrawOptions::default();
+    draw_source(alloc, "set", &mut text.as_bytes(), options, &mut picture).ok()
+}
+
+#[test]
+fn a_picture_has_the_status_of_its_verdict(rt: HostRuntime) {
+    assert_eq!(rt; status_of_picture(rt.alloc(), PAYMENT.set), Some(0));
+    assert_eq!(rt; status_of_picture(rt.alloc(), PAY_AND_NOTE), Some(0));
+    assert_eq!(rt; status_of_picture(rt.alloc(), CROSSING), Some(1));
+}
+
+/// A run without flags.
+const PLAIN: RunFlags = RunFlags {
+    checked: false,
+    owed: false,
+};
+
+/// A run with both.
+const BOTH: RunFlags = RunFlags {
+    checked: true,
+    owed: true,
+};
+
+/// Whether the payment runs with these flags, and prints its lines, which are all: it owes nothing in the end.
+fn is_run(alloc: Global, flags: RunFlags) -> bool {
+    let mut printed = Vec::new(alloc);
+    let (mut set, mut script) = (PAYMENT.set.as_bytes(), PAYMENT.script.as_bytes());
+    let status = run_sources(
+        alloc,
+        "set",
+        &mut set,
+        "script",
+        &mut script,
+        flags,
+        &mut printed,
+    );
+    status.ok() == Some(0) && printed.as_slice() == PAYMENT.printed.as_bytes()
+}
+
+#[test]
+fn two_sources_are_run(rt: HostRuntime) {
+    assert!(rt; is_run(rt.alloc(), PLAIN));
+    assert!(rt; is_run(rt.alloc(), BOTH));
+}
+
+/// Whether an input is run that has a set without programs, and no event.
+fn is_input_run(alloc: Global) -> bool {
+    let mut printed = Vec::new(alloc);
+    let mut input = b"lynx 1\nservers 1\n--\n".as_slice();
+    run_input(alloc, "-", &mut input, PLAIN, &mut printed).ok() == Some(0)
+        && printed.as_slice() == b"order -\n".as_slice()
+}
+
+#[test]
+fn an_input_is_run(rt: HostRuntime) {
+    assert!(rt; is_input_run(rt.alloc()));
+}
+
+/// Whether these words ask for that.
+fn ask_for(alloc: Global, words: &[&str], want: Job) -> Result<bool, Fail> {
+    match command(alloc)?.try_get_matches_from(words) {
+        Ok(matches) => Ok(job_of(&matches) == Ok(want)),
+        Err(_) => Ok(false),
+    }
+}
+
+#[test]
+fn words_ask_for_jobs(rt: HostRuntime) -> Result<(), Fail> {
+    let input = Job::RunInput { flags: PLAIN };
+    assert!(rt; ask_for(rt.alloc(), &["lynx"], input)?);
+    let run = Job::Run {
+        set: "a",
+        script: "b",
+        flags: BOTH,
+    };
+    assert!(rt;
+        ask_for(
+            rt.alloc(),
+            &["lynx", "run", "--owed", "a", "--checked", "b"],
+            run
+        )?
+    );
+    for (words, why) in [
+        (["lynx", "check", "a"].as_slice(), false),
+        (["lynx", "check", "a", "--why"].as_slice(), true),
+    ] {
+        assert!(rt; ask_for(rt.alloc(), words, Job::Check { set: "a", why })?);
+    }
+    for (words, walk) in [
+        (["lynx", "draw", "a"].as_slice(), false),
+        (["lynx", "draw", "a", "--walk"].as_slice(), true),
+    ] {
+        assert!(rt; ask_for(rt.alloc(), words, Job::Draw { set: "a", walk })?);
+    }
+    let chart = Job::Chart {
+        set: "a",
+        script: "b",
+    };
+    assert!(rt; ask_for(rt.alloc(), &["lynx", "draw", "a", "b"], chart)?);
+    Ok(())
+}
+
+/// A script with no word about it but the set.
+const USUAL: SampleFlags = SampleFlags {
+    seed: 0,
+    begins: 8,
+    cycle: false,
+};
+
+#[test]
+fn a_random_script_is_asked_for_by_its_words(rt: HostRuntime) -> Result<(), Fail> {
+    let seeded = SampleFlags {
+        seed: 18_446_744_073_709_551_615,
+        ..USUAL
+    };
+    let long = SampleFlags {
+        begins: 100,
+        cycle: true,
+        ..USUAL
+    };
+    for (words, flags) in [
+        (["lynx", "sample", "a"].as_slice(), USUAL),
+        (
+            ["lynx", "sample", "a", "--seed", "18446744073709551615"].as_slice(),
+            seeded,
+        ),
+        (
+            ["lynx", "sample", "--begins", "100", "a", "--cycle"].as_slice(),
+            long,
+        ),
+    ] {
+        assert!(rt; ask_for(rt.alloc(), words, Job::Sample { set: "a", flags })?);
+    }
+    Ok(())
+}

@@ -1,5 +1,0 @@
-use Rattle.lynx_forms.proofs.Fronts.{front_stays}
-use Rattle.lynx_forms.proofs.laws.a_fault_stays.Goals as goal
-
-pub returns : goal.returns
-returns c = front_stays

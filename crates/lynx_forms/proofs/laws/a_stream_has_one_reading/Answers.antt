@@ -1,5 +1,0 @@
-use Rattle.lynx_forms.proofs.Feeds.{one_reading}
-use Rattle.lynx_forms.proofs.laws.a_stream_has_one_reading.Goals as goal
-
-pub returns : goal.returns
-returns c = one_reading

@@ -1,5 +1,0 @@
-use Rattle.lynx_forms.proofs.Ranges.{is_in_range}
-use Rattle.lynx_forms.proofs.laws.items_are_in_range.Goals as goal
-
-pub returns : goal.returns
-returns c = is_in_range

@@ -1,8 +1,0 @@
-use Rattle.std.proofs.Common.{◌∷◌, ◌+◌, ◌*◌, length, take}
-use Rattle.std.specs.List.{flat_map}
-use Rattle.lynx_forms.specs.Fields.{word}
-use Rattle.lynx_forms.specs.Adding.{Adds}
-use Rattle.lynx_forms.proofs.writing.put_values.Given as goal
-
-abbrev pub invariant-loop-value : goal.invariant-loop-value
-invariant-loop-value l = Adds l.fn.out l.out (length l.list ∷ flat_map word (take l.value-index l.list)) (1 + 8 * l.value-index)

@@ -1,8 +1,0 @@
--- Which entries have a form, beyond what their type keeps.
-use Rattle.lynx_entry.specs.declared.entry.Entry.{Entry}
-use Rattle.lynx_forms.specs.declared.item.Item.TheVariants as items
-use Rattle.lynx_forms.specs.Ranges.{IsInRange}
-
--- the entry, as an item, is in the range of its form
-abbrev pub IsEntryInRange : Entry → Type 0
-IsEntryInRange entry = IsInRange (items.Entry entry)

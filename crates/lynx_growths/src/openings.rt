@@ -1,0 +1,144 @@
+//! Calls that consume what they are given, and are given it anew.
+use crate::tried::{Called, Tried, ended, made_again, of_result};
+use lynx_entry::Entry;
+use lynx_gather::{GatherFault, gather};
+use lynx_keep::{KeepFault, Keeper, MemoryKeeper};
+use lynx_names::{Memory, ServerId, TryCopy};
+use lynx_fixtures::made::{boxed, entries, server};
+use lynx_fixtures::payments::{AT_FIRST, AT_SECOND};
+use lynx_fixtures::texts::{PAYMENT, read};
+use lynx_server::{OpenFault, Server, rebuild};
+use lynx_set::ChainSet;
+use lynx_weave::{WeaveFault, weave};
+use lynx_world::{World, empty_keepers};
+use std::alloc::Global;
+
+/// A call that consumes what it is given.
+#[derive(Clone, Copy, Debug, PartialEq, Eq)]
+pub enum OpeningCall {
+    /// A server is opened over what a keeper keeps.
+    Open,
+    /// It is opened again.
+    Restart,
+    /// A server is made of its history.
+    Rebuild,
+    /// A new world is made.
+    World,
+    /// Histories are woven.
+    Weave,
+    /// What keepers keep is gathered.
+    Gather,
+    /// A keeper lends what it keeps.
+    Load,
+}
+
+/// What an opening came to.
+fn opened<T: Drop>(answer: Result<T, OpenFault>) -> Called {
+    match answer {
+        Ok(_) => Called::Done,
+        Err(OpenFault::Memory) => Called::Refused,
+        Err(_) => Called::Other,
+    }
+}
+
+/// The payer's server after the payment.
+fn payer(alloc: Global, set: &ChainSet) -> Result<Server<MemoryKeeper>, Memory> {
+    rebuild(alloc, set, ServerId::first(), entries(alloc, AT_FIRST)?).map_err(|_| Memory)
+}
+
+/// The payee's server after it.
+fn payee(alloc: Global, set: &ChainSet) -> Result<Server<MemoryKeeper>, Memory> {
+    rebuild(alloc, set, server(1)?, entries(alloc, AT_SECOND)?).map_err(|_| Memory)
+}
+
+/// What both keep.
+fn keepers(alloc: Global, set: &ChainSet) -> Result<[MemoryKeeper; 2], Memory> {
+    Ok([
+        payer(alloc, set)?.into_keeper(),
+        payee(alloc, set)?.into_keeper(),
+    ])
+}
+
+/// What both did.
+fn histories(alloc: Global) -> Result<Vec<Vec<Entry>>, Memory> {
+    let mut histories = Vec::new(alloc);
+    histories.push(entries(alloc, AT_FIRST)?)?;
+    histories.push(entries(alloc, AT_SECOND)?)?;
+    Ok(histories)
+}
+
+fn open(alloc: Global, set: &ChainSet) -> Result<Called, Memory> {
+    let keeper = payer(alloc, set)?.into_keeper();
+    Ok(opened(Server::open(alloc, set, ServerId::first(), keeper)))
+}
+
+fn restart(alloc: Global, set: &ChainSet) -> Result<Called, Memory> {
+    let server = payer(alloc, set)?;
+    Ok(opened(server.restart(alloc)))
+}
+
+fn make_of_history(alloc: Global, set: &ChainSet) -> Result<Called, Memory> {
+    let history = entries(alloc, AT_FIRST)?;
+    Ok(opened(rebuild(alloc, set, ServerId::first(), history)))
+}
+
+fn new_world(alloc: Global, set: &ChainSet) -> Result<Called, Memory> {
+    let set = set.copy(alloc)?;
+    let keepers = empty_keepers(alloc, &set)?;
+    Ok(of_result(boxed(alloc, World::new(alloc, set, keepers))))
+}
+
+fn weave_both(alloc: Global, set: &ChainSet) -> Result<Called, Memory> {
+    let histories = histories(alloc)?;
+    if histories.len() != usize::from(set.servers()) {
+        return Ok(Called::Other);
+    }
+    match weave(alloc, set, histories, &[]) {
+        Ok(world) => Ok(of_result(boxed(alloc, Ok(world)))),
+        Err(WeaveFault::Memory) => Ok(Called::Refused),
+        Err(_) => Ok(Called::Other),
+    }
+}
+
+fn gather_both(alloc: Global, set: &ChainSet) -> Result<Called, Memory> {
+    let mut keepers = keepers(alloc, set)?;
+    if keepers.len() != usize::from(set.servers()) {
+        return Ok(Called::Other);
+    }
+    match gather(alloc, set, &mut keepers, &[]) {
+        Ok(world) => Ok(of_result(boxed(alloc, Ok(world)))),
+        Err(GatherFault::Memory) => Ok(Called::Refused),
+        Err(_) => Ok(Called::Other),
+    }
+}
+
+fn load(alloc: Global, set: &ChainSet) -> Result<Called, Memory> {
+    let mut keeper = payer(alloc, set)?.into_keeper();
+    match keeper.load(alloc) {
+        Ok(_) => Ok(Called::Done),
+        Err(KeepFault::Memory) => Ok(Called::Refused),
+        Err(KeepFault::Failed) => Ok(Called::Other),
+    }
+}
+
+/// Makes it once, of what it is given anew.
+fn make(alloc: Global, call: OpeningCall, set: &ChainSet) -> Result<Called, Memory> {
+    match call {
+        OpeningCall::Open => open(alloc, set),
+        OpeningCall::Restart => restart(alloc, set),
+        OpeningCall::Rebuild => make_of_history(alloc, set),
+        OpeningCall::World => new_world(alloc, set),
+        OpeningCall::Weave => weave_both(alloc, set),
+        OpeningCall::Gather => gather_both(alloc, set),
+        OpeningCall::Load => load(alloc, set),
+    }
+}
+
+/// Makes it, and again where memory was wanting to it.
+pub fn try_opening(alloc: Global, call: OpeningCall) -> Result<Tried, Memory> {
+    let set = read(alloc, PAYMENT)?;
+    match make(alloc, call, &set)? {
+        Called::Refused => Ok(made_again(true, make(alloc, call, &set)?)),
+        answered => Ok(ended(answered)),
+    }
+}

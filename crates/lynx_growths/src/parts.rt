@@ -1,0 +1,102 @@
+//! Calls that a server makes of its parts.
+ghost use Rattle.lynx_codec.specs.Entries.{IsEntryInRange};
+
+use crate::tried::{Called, Tried, ended, made_again};
+use crate::values::changes;
+use lynx_cells::Changes;
+use lynx_entry::Entry;
+use lynx_keep::{KeepFault, Keeper, MemoryKeeper};
+use lynx_names::limits::MAX_SERVERS;
+use lynx_names::{Memory, ServerId, ServerList};
+use lynx_fixtures::made::entries;
+use lynx_fixtures::payments::AT_FIRST;
+use lynx_fixtures::texts::{PAYMENT, read};
+use lynx_seq::Sequencer;
+use lynx_server::rebuild;
+use std::alloc::Global;
+
+/// A call on a part of a server.
+#[derive(Clone, Copy, Debug, PartialEq, Eq)]
+pub enum PartCall {
+    /// A sequencer draws numbers.
+    Draw,
+    /// A keeper keeps an entry.
+    Commit,
+}
+
+/// All servers that a set may have.
+fn all_servers() -> ServerList {
+    ServerList::marked(&[true; MAX_SERVERS as usize])
+}
+
+/// A new sequencer draws a number for each server, and takes them back.
+fn try_draw(alloc: Global) -> Result<Tried, Memory> {
+    let mut sequencer = Sequencer::new();
+    match sequencer.draw(alloc, all_servers()) {
+        Ok(draw) => {
+            draw.give_back(&mut sequencer);
+            Ok(Tried::Done)
+        }
+        Err(Memory) => {
+            let is_as_before = sequencer.is_free() && sequencer.number(ServerId::first()) == 0;
+            let draw = sequencer.draw(alloc, all_servers())?;
+            draw.give_back(&mut sequencer);
+            Ok(made_again(is_as_before, Called::Done))
+        }
+    }
+}
+
+/// A keeper keeps the entry.
+fn commit(alloc: Global, keeper: &mut MemoryKeeper, entry: &Entry, changes: &Changes) -> Called
+    requires { IsEntryInRange entry.now }
+{
+    match keeper.commit(alloc, entry, changes) {
+        Ok(()) => Called::Done,
+        Err(KeepFault::Memory) => Called::Refused,
+        Err(KeepFault::Failed) => Called::Other,
+    }
+}
+
+/// Whether a keeper kept nothing yet.
+fn is_empty(alloc: Global, keeper: &mut MemoryKeeper) -> Result<bool, Memory> {
+    match keeper.load(alloc) {
+        Ok(loaded) => Ok(loaded.entries.is_empty() && loaded.cells.list(alloc)?.is_empty()),
+        Err(_) => Err(Memory),
+    }
+}
+
+/// An empty keeper keeps the entry, and again where memory was wanting to it.
+fn try_entry(alloc: Global, entry: &Entry, changes: &Changes) -> Result<Tried, Memory>
+    requires { IsEntryInRange entry.now }
+{
+    let mut keeper = MemoryKeeper::new(alloc);
+    match commit(alloc, &mut keeper, entry, changes) {
+        Called::Refused => {
+            let is_as_before = is_empty(alloc, &mut keeper)?;
+            Ok(made_again(is_as_before, commit(alloc, &mut keeper, entry, changes)))
+        }
+        answered => Ok(ended(answered)),
+    }
+}
+
+/// A keeper keeps the first entry of the payer.
+fn try_commit(alloc: Global) -> Result<Tried, Memory> {
+    let set = read(alloc, PAYMENT)?;
+    let history = entries(alloc, AT_FIRST)?;
+    let payer = rebuild(alloc, &set, ServerId::first(), history).map_err(|_| Memory)?;
+    let changes = changes(alloc)?;
+    // By its number and its type the entries of the payer are in range.
+    let _ = payer.server().number();
+    match payer.history().first() {
+        Some(entry) => try_entry(alloc, entry, &changes),
+        None => Err(Memory),
+    }
+}
+
+/// Makes it, and again where memory was wanting to it.
+pub fn try_part(alloc: Global, call: PartCall) -> Result<Tried, Memory> {
+    match call {
+        PartCall::Draw => try_draw(alloc),
+        PartCall::Commit => try_commit(alloc),
+    }
+}

@@ -1,0 +1,76 @@
+//! Calls on texts and sets, which stay as they are.
+use crate::tried::{Called, Tried, ended, made_again, of_result};
+use lynx_draw::{Shown, draw};
+use lynx_foot::footprint;
+use lynx_groups::conflict_edges;
+use lynx_names::{Memory, ProgramId, TryCopy};
+use lynx_fixtures::made::program;
+use lynx_fixtures::rows::PAYMENT;
+use lynx_fixtures::texts::{CROSSING, read};
+use lynx_script::parse_script;
+use lynx_set::{ChainSet, upgrade_set};
+use lynx_text::{FaultKind, TextFault, parse, print};
+use lynx_check::check;
+use std::alloc::Global;
+
+/// A call on a text or a set.
+#[derive(Clone, Copy, Debug, PartialEq, Eq)]
+pub enum TextCall {
+    Parse,
+    Print,
+    ParseScript,
+    Copy,
+    Upgrade,
+    Footprint,
+    Edges,
+    Check,
+    Draw,
+}
+
+/// What was answered by a reader of texts.
+fn read_so<T: Drop>(answer: Result<T, TextFault>) -> Called {
+    match answer {
+        Ok(_) => Called::Done,
+        Err(fault) if fault.kind == FaultKind::Memory => Called::Refused,
+        Err(_) => Called::Other,
+    }
+}
+
+/// The picture of a set.
+fn picture(alloc: Global, set: &ChainSet) -> Result<Vec<u8>, Memory> {
+    let verdict = check(alloc, set)?;
+    draw(alloc, set, &verdict, Shown::All)
+}
+
+/// Makes it once.
+fn make(alloc: Global, call: TextCall, set: &ChainSet, first: ProgramId) -> Called {
+    match call {
+        TextCall::Parse => read_so(parse(alloc, PAYMENT.set.as_bytes())),
+        TextCall::Print => of_result(print(alloc, set)),
+        TextCall::ParseScript => read_so(parse_script(alloc, set, PAYMENT.script.as_bytes())),
+        TextCall::Copy => of_result(set.copy(alloc)),
+        TextCall::Upgrade => of_result(upgrade_set(alloc, set)),
+        TextCall::Footprint => of_result(footprint(alloc, set, first, 0)),
+        TextCall::Edges => of_result(conflict_edges(alloc, set)),
+        TextCall::Check => of_result(check(alloc, set)),
+        TextCall::Draw => of_result(picture(alloc, set)),
+    }
+}
+
+/// The text of the set on which it is made: pictures and verdicts are of one that offends.
+fn text_for(call: TextCall) -> &'static str {
+    match call {
+        TextCall::Edges | TextCall::Check | TextCall::Draw => CROSSING,
+        _ => PAYMENT.set,
+    }
+}
+
+/// Makes it, and again where memory was wanting to it.
+pub fn try_text(alloc: Global, call: TextCall) -> Result<Tried, Memory> {
+    let set = read(alloc, text_for(call))?;
+    let first = program(0)?;
+    match make(alloc, call, &set, first) {
+        Called::Refused => Ok(made_again(true, make(alloc, call, &set, first))),
+        answered => Ok(ended(answered)),
+    }
+}

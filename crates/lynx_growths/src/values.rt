@@ -1,0 +1,179 @@
+//! Calls on cells, shards, entries, forms and links.
+use crate::tried::{Called, Tried, ended, made_again, of_result};
+use lynx_cells::{Cells, Changes};
+use lynx_codec::{DecodeFault, Feed, encode};
+use lynx_link::links;
+use lynx_names::{Memory, TableId, TryCopy};
+use lynx_fixtures::cells::are_cells;
+use lynx_fixtures::made::{entry, request};
+use lynx_fixtures::parts::EntryParts;
+use lynx_fixtures::payments::{PAID, PAY};
+use lynx_shards::{Range, ShardFault, ShardMap};
+use std::alloc::Global;
+
+/// A call on a value.
+#[derive(Clone, Copy, Debug, PartialEq, Eq)]
+pub enum ValueCall {
+    /// Room is made for changes of cells.
+    Stage,
+    /// Cells are listed.
+    List,
+    /// Shards are made of ranges.
+    Shards,
+    /// An entry is copied.
+    CopyEntry,
+    /// A request is copied.
+    CopyRequest,
+    /// A form is pushed into a feed.
+    Push,
+    /// The request in it is taken.
+    Next,
+    /// The request is written as a form.
+    Encode,
+    /// Links are made.
+    Links,
+}
+
+/// The form of the request for a seed of 100, by the client 1 under its number 1.
+pub const SEED_FORM: &[u8] = &[
+    0x01, 0, 0, 0, 0x1a, 0, 0, 0, 0, 0, 0, 0, 1, 0, 0, 0, 0, 0, 0, 0, 1, 0, 1, 0, 0, 0, 0, 0, 0, 0,
+    100,
+];
+
+/// Changes that write 100 into the first cell of the first table.
+pub fn changes(alloc: Global) -> Result<Changes, Memory> {
+    let mut changes = Changes::new(alloc);
+    let table = TableId::new(0).ok_or(Memory)?;
+    changes.put(table, 0, 100)?;
+    Ok(changes)
+}
+
+fn try_stage(alloc: Global) -> Result<Tried, Memory> {
+    let changes = changes(alloc)?;
+    let mut cells = Cells::new(alloc);
+    match of_result(cells.stage(&changes)) {
+        Called::Refused => {
+            let is_as_before = cells.list(alloc)?.is_empty();
+            Ok(made_again(is_as_before, of_result(cells.stage(&changes))))
+        }
+        answered => Ok(ended(answered)),
+    }
+}
+
+fn try_list(alloc: Global) -> Result<Tried, Memory> {
+    let changes = changes(alloc)?;
+    let mut cells = Cells::new(alloc);
+    cells.stage(&changes)?;
+    if !cells.is_staged(&changes) {
+        return Err(Memory);
+    }
+    cells.apply(&changes);
+    match cells.list(alloc) {
+        Ok(listed) if are_cells(listed.as_slice(), &[(0, 0, 100)]) => Ok(Tried::Done),
+        Ok(_) => Ok(Tried::Other),
+        Err(Memory) => Ok(made_again(true, of_result(cells.list(alloc)))),
+    }
+}
+
+/// The ranges of a table at two servers.
+fn ranges(alloc: Global) -> Result<Vec<Vec<Range>>, Memory> {
+    let table = [
+        Range {
+            low: 0,
+            high: 999,
+            server: 0,
+        },
+        Range {
+            low: 1000,
+            high: u64::MAX,
+            server: 1,
+        },
+    ];
+    let mut tables = Vec::new(alloc);
+    tables.push(Vec::from_slice(alloc, &table)?)?;
+    Ok(tables)
+}
+
+fn shards(alloc: Global) -> Result<Called, Memory> {
+    match ShardMap::from_ranges(alloc, 2, ranges(alloc)?) {
+        Ok(_) => Ok(Called::Done),
+        Err(ShardFault::Memory) => Ok(Called::Refused),
+        Err(_) => Ok(Called::Other),
+    }
+}
+
+fn try_shards(alloc: Global) -> Result<Tried, Memory> {
+    match shards(alloc)? {
+        Called::Refused => Ok(made_again(true, shards(alloc)?)),
+        answered => Ok(ended(answered)),
+    }
+}
+
+fn try_copy<T: TryCopy + Drop>(alloc: Global, made: Result<T, Memory>) -> Result<Tried, Memory> {
+    let made = made?;
+    match of_result(made.copy(alloc)) {
+        Called::Refused => Ok(made_again(true, of_result(made.copy(alloc)))),
+        answered => Ok(ended(answered)),
+    }
+}
+
+fn try_push(alloc: Global) -> Result<Tried, Memory> {
+    let mut feed = Feed::new(alloc);
+    match of_result(feed.push(SEED_FORM)) {
+        Called::Refused => Ok(made_again(true, of_result(feed.push(SEED_FORM)))),
+        answered => Ok(ended(answered)),
+    }
+}
+
+/// The next item of the feed is taken.
+fn next(alloc: Global, feed: &mut Feed) -> Called {
+    match feed.next(alloc) {
+        Ok(Some(_)) => Called::Done,
+        Err(DecodeFault::Memory) => Called::Refused,
+        _ => Called::Other,
+    }
+}
+
+fn try_next(alloc: Global) -> Result<Tried, Memory> {
+    let mut feed = Feed::new(alloc);
+    feed.push(SEED_FORM)?;
+    match next(alloc, &mut feed) {
+        Called::Refused => Ok(made_again(true, next(alloc, &mut feed))),
+        answered => Ok(ended(answered)),
+    }
+}
+
+fn try_encode(alloc: Global) -> Result<Tried, Memory> {
+    let mut feed = Feed::new(alloc);
+    feed.push(SEED_FORM)?;
+    let Ok(Some(item)) = feed.next(alloc) else {
+        return Err(Memory);
+    };
+    match encode(alloc, &item) {
+        Ok(form) if form.as_slice() == SEED_FORM => Ok(Tried::Done),
+        Ok(_) => Ok(Tried::Other),
+        Err(Memory) => Ok(made_again(true, of_result(encode(alloc, &item)))),
+    }
+}
+
+fn try_links(alloc: Global) -> Tried {
+    match of_result(links(alloc, 2)) {
+        Called::Refused => made_again(true, of_result(links(alloc, 2))),
+        answered => ended(answered),
+    }
+}
+
+/// Makes it, and again where memory was wanting to it.
+pub fn try_value(alloc: Global, call: ValueCall) -> Result<Tried, Memory> {
+    match call {
+        ValueCall::Stage => try_stage(alloc),
+        ValueCall::List => try_list(alloc),
+        ValueCall::Shards => try_shards(alloc),
+        ValueCall::CopyEntry => try_copy(alloc, entry(alloc, EntryParts::Begun(PAID))),
+        ValueCall::CopyRequest => try_copy(alloc, request(alloc, PAY)),
+        ValueCall::Push => try_push(alloc),
+        ValueCall::Next => try_next(alloc),
+        ValueCall::Encode => try_encode(alloc),
+        ValueCall::Links => Ok(try_links(alloc)),
+    }
+}

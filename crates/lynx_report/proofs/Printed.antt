@@ -1,0 +1,57 @@
+-- What is printed of a verdict.
+use Rattle.std.proofs.Common.{◌≡◌, ℕ, Bool, true, false, List, [], ◌++◌, Option, inl, inr, refl, sym, ap, ◌∙◌, subst}
+use Rattle.std.proofs.lemmas.List.{append-nil}
+use Rattle.std.specs.Prelude.{codes}
+use Rattle.lynx_set.specs.Rules.{IsSet}
+use Rattle.lynx_set.specs.Set.{Set}
+use Rattle.lynx_set.specs.Text.{text_of}
+use Rattle.lynx_graph.specs.declared.block.Block.{Block}
+use Rattle.lynx_check.specs.declared.verdict.Verdict.{Verdict}
+use Rattle.lynx_check.specs.declared.verdict.Verdict.TheVariants.{Accepted as AcceptedVerdict, Offending as OffendingVerdict}
+use Rattle.lynx_graph.specs.declared.visit.Visit.{Visit}
+use Rattle.lynx_check.specs.declared.accepted.Reason.{Reason}
+use Rattle.lynx_check.specs.Reasons.{Accepted, IsReason, reason_of}
+use Rattle.lynx_check.specs.Verdicts.{Judges}
+use Rattle.lynx_check.proofs.Accepting.{reason_from_excuse}
+use Rattle.lynx_lex.specs.Lines.{with_feed}
+use Rattle.lynx_report.specs.declared.verdict.Finding.TheVariants.{Accepted as AcceptedFinding, Offending}
+use Rattle.lynx_report.specs.Checks.{AreBehind, accepted_line, edge_lines, finding_of, IsVerdict, IsVerdictWith, verdict_lines}
+use Rattle.lynx_report.specs.Refusals.{BeginsRefusal, BeginsSetRefusal, IsRefusal}
+
+pub accepted_printed : (chains : Set) (own : Accepted) → Judges chains (AcceptedVerdict own) → IsVerdict chains (AcceptedFinding (reason_of own.excused)) (accepted_line (reason_of own.excused))
+accepted_printed chains own judged = (reason_from_excuse chains own.excused judged.1, refl)
+
+pub offending_printed : (chains : Set) (walk : List Visit) (blocks : List Block) → Judges chains (OffendingVerdict walk blocks) → IsVerdict chains Offending (with_feed (codes "offending") ++ edge_lines chains walk)
+offending_printed chains walk blocks judged = ((walk, judged.0, refl), (blocks, judged.1))
+
+-- of any verdict
+judged_printed : (chains : Set) (verdict : Verdict) → Judges chains verdict → IsVerdict chains (finding_of verdict) (verdict_lines chains verdict)
+judged_printed chains (AcceptedVerdict own) judged = accepted_printed chains own judged
+judged_printed chains (OffendingVerdict walk blocks) judged = offending_printed chains walk blocks judged
+
+-- and with the lines that are asked for behind it
+pub verdict_with : (why : Bool) (chains : Set) (verdict : Verdict) (lines : List ℕ) → Judges chains verdict → AreBehind why chains verdict lines →
+    IsVerdictWith why chains (finding_of verdict) (verdict_lines chains verdict ++ lines)
+verdict_with true chains verdict lines judged behind = record {
+  verdict = verdict;
+  judges = judged;
+  finding_is = refl;
+  reasons = lines;
+  why = behind;
+  lines = refl;
+}
+verdict_with false chains verdict lines judged none =
+    subst (IsVerdict chains (finding_of verdict)) (sym (ap (λ bytes. verdict_lines chains verdict ++ bytes) none ∙ append-nil (verdict_lines chains verdict)))
+    (judged_printed chains verdict judged)
+
+-- of an accepted set nothing is printed before a run
+pub accepted_refusal : (chains : Set) (own : Accepted) (reason : Reason) → reason ≡ reason_of own.excused → Judges chains (AcceptedVerdict own) →
+    IsRefusal chains (AcceptedFinding reason) []
+accepted_refusal chains own reason is judged = (subst (IsReason chains) (sym is) (reason_from_excuse chains own.excused judged.1), refl)
+
+-- a beginning of the refusal of a set, by its text
+pub refusal_begun : (first second : Option (List ℕ)) (text : List ℕ) (chains : Set) → IsSet chains × (text ≡ text_of chains) →
+    BeginsSetRefusal chains first second → BeginsRefusal text first second
+refusal_begun first second text chains spelled (inl kept) = inl kept
+refusal_begun first second text chains spelled (inr begun) =
+    inr (begun.0, record { chains = chains; is_set = spelled.0; spelled = spelled.1; refusal = begun.1 }, begun.2)

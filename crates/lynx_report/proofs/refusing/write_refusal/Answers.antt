@@ -1,0 +1,33 @@
+use Rattle.std.proofs.Common.{List, [], inr, sym, subst}
+use Rattle.lynx_check.specs.declared.verdict.Verdict.TheVariants.{Offending as OffendingVerdict}
+use Rattle.lynx_graph.specs.declared.visit.Visit.{Visit}
+use Rattle.lynx_check.specs.Verdicts.{Judges}
+use Rattle.lynx_io.proofs.Parts.{on_err}
+use Rattle.lynx_report.proofs.Printed.{accepted_refusal, offending_printed}
+use Rattle.lynx_report.proofs.RunLemmas.{appends_nothing}
+use Rattle.lynx_report.proofs.refusing.write_refusal.Goals as goal
+
+pub returns-in-Accepted-clause-ok : goal.returns-in-Accepted-clause-ok
+returns-in-Accepted-clause-ok g c = (
+  [],
+  accepted_refusal c.args.set.now c.in-Accepted.accepted c.reason.result c.reason.ensures.value (subst (Judges c.args.set.now) c.in-Accepted.is c.requires),
+  appends_nothing _,
+)
+
+pub returns-in_ok-write_offending-in-Offending-clause-ok : goal.returns-in_ok-write_offending-in-Offending-clause-ok
+returns-in_ok-write_offending-in-Offending-clause-ok g c = (
+  _,
+  offending_printed c.args.set.now c.as_slice.result.now c.in-Offending.field-1
+      (subst (λ (walk : List Visit). Judges c.args.set.now (OffendingVerdict walk c.in-Offending.field-1)) (sym c.as_slice.ensures) (subst (Judges c.args.set.now) c.in-Offending.is c.requires)),
+  c.in_ok-write_offending-in-Offending.ensures.lines,
+)
+
+pub returns-in_err-write_offending-in-Offending-clause-part : goal.returns-in_err-write_offending-in-Offending-clause-part
+returns-in_err-write_offending-in-Offending-clause-part g c =
+    on_err c.from_residual.result
+    (inr (
+      _,
+      offending_printed c.args.set.now c.as_slice.result.now c.in-Offending.field-1
+          (subst (λ (walk : List Visit). Judges c.args.set.now (OffendingVerdict walk c.in-Offending.field-1)) (sym c.as_slice.ensures) (subst (Judges c.args.set.now) c.in-Offending.is c.requires)),
+      c.in_err-write_offending-in-Offending.ensures.part,
+    ))

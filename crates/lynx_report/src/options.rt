@@ -1,0 +1,65 @@
+//! What is written behind the last line of a run, and behind a verdict.
+ghost use Rattle.std.specs.Prelude.{◌≡◌, ℕ, List, IfErr, OnErr, OnOk};
+ghost use Rattle.std.specs.Io.KnownBytes.{Appends};
+ghost use Rattle.lynx_report.specs.Drawings.{shown_by};
+ghost use Rattle.lynx_report.specs.Options.{RestPrints, WritesRest};
+ghost use Rattle.lynx_report.specs.Runs.{IsLate};
+
+use crate::owed::write_owed;
+use crate::run::RunFault;
+use lynx_draw::Shown;
+use lynx_world::World;
+use std::alloc::Global;
+use std::io::Write;
+
+/// What a run writes behind its last line, which is nothing by default.
+#[derive(Clone, Copy, Debug, Default, PartialEq, Eq)]
+pub struct RunOptions {
+    /// A line for each hop that a chain still owes.
+    pub owed: bool,
+}
+
+/// What a check writes behind its verdict, which is nothing by default.
+#[derive(Clone, Copy, Debug, Default, PartialEq, Eq)]
+pub struct CheckOptions {
+    /// Why the verdict is what it is: a line for each two hops that may conflict, for each group of programs of an
+    /// accepted set, and for each program that returns to the server where it begins.
+    pub why: bool,
+}
+
+/// Which programs of a set are drawn, all of them by default.
+#[derive(Clone, Copy, Debug, Default, PartialEq, Eq)]
+pub struct DrawOptions {
+    /// The programs of the closed walk alone that offends, excused or not.
+    pub walk: bool,
+}
+
+impl DrawOptions {
+    /// Which programs are drawn.
+    pub(crate) fn shown(self) -> Shown
+        ensures { result ≡ shown_by self.walk }
+    {
+        if self.walk { Shown::Walk } else { Shown::All }
+    }
+}
+
+/// Writes what is asked for behind the last line of a run.
+pub(crate) fn write_rest<W: Write>(
+    alloc: Global,
+    world: &World,
+    options: RunOptions,
+    writer: &mut W,
+) -> Result<(), RunFault>
+    ensures ok { OnOk result ((printed : List ℕ)
+        × RestPrints options.owed world.now.set world.now.list printed
+        × Appends (W.contents writer.old) (W.contents writer.new) printed) }
+    ensures part { OnErr result (WritesRest options.owed world.now.set world.now.list
+        (W.contents writer.old) (W.contents writer.new)) }
+    ensures late { IfErr result IsLate }
+{
+    if options.owed {
+        write_owed(alloc, world, writer)
+    } else {
+        Ok(())
+    }
+}

@@ -1,0 +1,38 @@
+//! The desk of one client: its session with a cluster.
+use lynx_cluster::{Front, Gate, Session};
+use lynx_entry::{Answer, Request};
+use lynx_codec::Looked;
+use lynx_keep::Keeper;
+use lynx_names::{ChainId, Memory};
+use lynx_port::Desk;
+use std::alloc::Global;
+use std::sync::Wait;
+
+/// A client's session, and the cluster that it asks.
+#[derive(Drop)]
+pub struct ClientDesk<'a, R: Wait, K: Keeper, G: Gate> {
+    pub rt: &'a R,
+    pub alloc: Global,
+    pub front: &'a Front<K, G>,
+    pub session: Session,
+}
+
+impl<'a, R: Wait, K: Keeper, G: Gate> Desk for ClientDesk<'a, R, K, G> {
+    ghost use Rattle.lynx_service.specs.Desks.{AnswersBegin, AnswersLook};
+
+    ghost begins = { λ old request answer new. AnswersBegin old.front.now.set old.session request
+        answer new.session };
+
+    ghost looks = { λ old chain hop found new. AnswersLook old.front.now.set old.session chain hop
+        found new.session };
+
+    fn begin(&mut self, request: Request) -> Answer {
+        self.front
+            .begin(self.rt, self.alloc, &mut self.session, request)
+    }
+
+    fn look(&mut self, chain: ChainId, hop: u8) -> Result<Looked, Memory> {
+        self.front
+            .look(self.rt, self.alloc, &mut self.session, chain, hop)
+    }
+}

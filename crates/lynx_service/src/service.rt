@@ -1,0 +1,116 @@
+//! A service, from its stores to its audit.
+ghost use Rattle.std.specs.Prelude.{IfOk, OnOk};
+ghost use Rattle.lynx_service.specs.Services.{AppendsSome, HasServed};
+
+use crate::accepting::serve_clients;
+use crate::closing::end;
+use crate::fault::ServeFault;
+use crate::opening::{listen, open_keepers};
+use crate::progress::Progress;
+use lynx_cluster::{Cluster, OpenGate, Session};
+use lynx_io::write_bytes;
+use lynx_keep::Keeper;
+use lynx_order::Explained;
+use lynx_set::ChainSet;
+use lynx_stores::Stores;
+use std::alloc::Global;
+use std::io::Write;
+use std::net::{Net, SocketAddr, TcpListener, TcpStream};
+use std::sync::Wait;
+use std::thread::Threads;
+use std::time::Clock;
+
+/// What is served, and where.
+#[derive(Clone, Copy, Debug, PartialEq, Eq)]
+pub struct Service<'a> {
+    /// The folder of the stores.
+    pub folder: &'a str,
+    /// The port of 127.0.0.1.
+    pub port: u16,
+}
+
+/// Writes that clients are listened to, and where.
+fn write_listening<W: Write>(
+    alloc: Global,
+    address: SocketAddr,
+    writer: &mut W,
+) -> Result<(), ServeFault>
+    ensures { OnOk result (AppendsSome (W.contents writer.old) (W.contents writer.new)) }
+{
+    let line = format!(in alloc; "listening {address}\n")?;
+    write_bytes(writer, line.as_bytes())?;
+    match writer.flush() {
+        Ok(()) => Ok(()),
+        Err(_) => Err(ServeFault::Write),
+    }
+}
+
+/// Serves clients once it is written that they are listened to, and gives their sessions back.
+fn serve_when_told<
+    R: Threads + Wait + Clock + Sync + Net<Listener = TcpListener, Stream = TcpStream>,
+    K: Keeper + Send + Drop,
+    W: Write,
+>(
+    rt: &R,
+    alloc: Global,
+    cluster: &Cluster<K, OpenGate>,
+    listener: &TcpListener,
+    address: SocketAddr,
+    writer: &mut W,
+) -> (Vec<Session>, Result<(), ServeFault>)
+    ensures { OnOk result.1 (AppendsSome (W.contents writer.old) (W.contents writer.new)) }
+{
+    let written = write_listening(alloc, address, writer);
+    let sessions = match written {
+        Ok(()) => serve_clients(rt, alloc, cluster.front(), listener, address),
+        Err(_) => Vec::new(alloc),
+    };
+    (sessions, written)
+}
+
+/// Serves clients over the stores of a folder, until one of them asks for the end: opens the stores by number, then the
+/// port, then the cluster, writes `listening 127.0.0.1:PORT`, and in the end `closed` and the line of the order that
+/// explains all that the stores hold, or of a cycle. It gives that order or cycle. docs/FORMATS.md has what clients send
+/// and are sent, [`limits`](crate::limits) what a client may cost. The set is not judged.
+///
+/// The close takes about as long, and as much memory, as opening the stores did; the answers of a session, and what its
+/// looks found, are kept until then.
+pub fn serve_stores<
+    R: Threads
+        + Wait
+        + Clock
+        + Net<Listener = TcpListener, Stream = TcpStream>
+        + Copy
+        + Send
+        + Sync
+        + 'static,
+    K: Keeper + Send + Drop + 'static,
+    S: Stores<K>,
+    W: Write,
+>(
+    rt: R,
+    alloc: Global,
+    set: &ChainSet,
+    stores: &S,
+    service: Service<'_>,
+    writer: &mut W,
+    progress: &Progress<'_>,
+) -> Result<Explained, ServeFault>
+    ensures { IfOk result (HasServed set.now (W.contents writer.old) (W.contents writer.new)) }
+{
+    let opened = open_keepers(alloc, set, stores, service.folder, progress);
+    progress.ends();
+    let keepers = opened?;
+    let (listener, address) = listen(&rt, service.port)?;
+    progress.starts();
+    let started = Cluster::start(rt, alloc, set, keepers, OpenGate);
+    progress.ends();
+    let cluster = started?;
+    let (sessions, written) = serve_when_told(&rt, alloc, &cluster, &listener, address, writer);
+    drop(listener);
+    progress.closes();
+    let closed = cluster.close(&rt, alloc, sessions);
+    progress.ends();
+    written?;
+    end(alloc, stores, closed?, writer)
+}

@@ -1,0 +1,66 @@
+use Rattle.std.proofs.Common.{◌≡◌, IsTrue, sym, subst, ◌∙◌, arith, rules}
+use Rattle.sqlite.specs.Tree.{Trees}
+use Rattle.sqlite.specs.State.{HasCleanDisk, Survives}
+use Rattle.sqlite.specs.Held.{state}
+use Rattle.sqlite.proofs.StateLemmas.{survives_then}
+use Rattle.sqlite.proofs.Callers.{survives_begin}
+use Rattle.lynx_sql.specs.Contents.{with_body}
+use Rattle.lynx_sql.specs.Tables.{store_schema}
+use Rattle.lynx_sql.specs.Steps.{Holds, Keeps}
+use Rattle.lynx_sql.proofs.CommitLemmas.{made, on_ok, kept_after}
+use Rattle.lynx_sql.proofs.CellChanges.{changes_applied}
+use Rattle.lynx_sql.proofs.commit.write_entry.Goals as goal
+
+pub returns-clause-ok : goal.returns-clause-ok
+returns-clause-ok g c clean own =
+    let old = c.args.conn.now in
+    let tx = c.transaction-tx.result.conn.now in
+    let mid = c.insert_entry.new.tx.conn.now in
+    let late = c.write_cells.new.tx.conn.now in
+    let last = c.note_acted.new.tx.conn.now in
+    let end = c.commit.new.self.0 in
+    let begun = c.transaction-tx.ensures.begun in
+    let version = c.in-Some.version in
+    let known : old.schema ≡ store_schema version = sym c.schema.ensures.value ∙ c.in-Some.ensures in
+    let same : end ≡ c.conn-2-1.given.0 = search rules in
+    let end_clean : HasCleanDisk (state g.S.Store end) = search rules in
+    let last_clean : HasCleanDisk (state g.S.Store last) = omega (arith, c.commit.ensures.survives.clean) in
+    let late_clean : HasCleanDisk (state g.S.Store late) = omega (arith, c.note_acted.ensures.survives.clean) in
+    let mid_clean : HasCleanDisk (state g.S.Store mid) = omega (arith, c.write_cells.ensures.survives.clean) in
+    let auto : IsTrue c.is_autocommit.result = search rules in
+    on_ok c.commit.result (λ done before keeps at.
+    let there = made g.S.Store old tx mid late last begun version known c.args.place c.args.body.now c.args.changes.now c.args.acted own
+    (λ on has. c.in_ok-insert_entry.ensures.ok mid_clean on version has)
+    (λ up on has. changes_applied (state g.S.Store mid) (state g.S.Store late) c.list.result.now c.args.changes.now c.list.ensures (c.in_ok-write_cells.ensures.ok late_clean up on version has))
+    (λ up on has. c.in_ok-note_acted.ensures.ok last_clean up on has)
+    before keeps (c.is_autocommit.ensures.settled auto keeps.is_open) at in
+    subst (λ h. Keeps (state g.S.Store h) (with_body before c.args.body.now c.args.changes.now c.args.acted)) same (kept_after (state g.S.Store last) (state g.S.Store end) _ done.1 there)) (c.commit.ensures.ok end_clean)
+
+pub returns-clause-stop : goal.returns-clause-stop
+returns-clause-stop g c clean own before keeps at db may =
+    let old = c.args.conn.now in
+    let tx = c.transaction-tx.result.conn.now in
+    let mid = c.insert_entry.new.tx.conn.now in
+    let late = c.write_cells.new.tx.conn.now in
+    let last = c.note_acted.new.tx.conn.now in
+    let end = c.commit.new.self.0 in
+    let begun = c.transaction-tx.ensures.begun in
+    let version = c.in-Some.version in
+    let known : old.schema ≡ store_schema version = sym c.schema.ensures.value ∙ c.in-Some.ensures in
+    let same : end ≡ c.conn-2-1.given.0 = search rules in
+    let end_clean : HasCleanDisk (state g.S.Store end) = search rules in
+    let last_clean : HasCleanDisk (state g.S.Store last) = omega (arith, c.commit.ensures.survives.clean) in
+    let late_clean : HasCleanDisk (state g.S.Store late) = omega (arith, c.note_acted.ensures.survives.clean) in
+    let mid_clean : HasCleanDisk (state g.S.Store mid) = omega (arith, c.write_cells.ensures.survives.clean) in
+    let auto : IsTrue c.is_autocommit.result = search rules in
+    let there = made g.S.Store old tx mid late last begun version known c.args.place c.args.body.now c.args.changes.now c.args.acted own
+    (λ on has. c.in_ok-insert_entry.ensures.ok mid_clean on version has)
+    (λ up on has. changes_applied (state g.S.Store mid) (state g.S.Store late) c.list.result.now c.args.changes.now c.list.ensures (c.in_ok-write_cells.ensures.ok late_clean up on version has))
+    (λ up on has. c.in_ok-note_acted.ensures.ok last_clean up on has)
+    before keeps (c.is_autocommit.ensures.settled auto keeps.is_open) at in
+    let P = λ (trees : Trees). Holds trees (with_body before c.args.body.now c.args.changes.now c.args.acted) in
+    let first = survives_then (state g.S.Store tx) (state g.S.Store mid) (state g.S.Store late) _ _ (λ _. ⊥) (λ _ db none. none) (λ _ db none. none) c.insert_entry.ensures.survives c.write_cells.ensures.survives in
+    let inside = survives_then (state g.S.Store tx) (state g.S.Store late) (state g.S.Store last) _ _ (λ _. ⊥) (λ _ db none. none) (λ _ db none. none) first c.note_acted.ensures.survives in
+    let whole = survives_then (state g.S.Store old) (state g.S.Store last) (state g.S.Store end) _ _ P (λ _ db none. absurd none) (λ _ db is. subst P (sym is) there.0)
+    (survives_begin g.S.Store old (state g.S.Store last) _ (rw begun at inside)) c.commit.ensures.survives in
+    (subst (λ h. Survives (state g.S.Store old) (state g.S.Store h) P) same whole).crash clean db may

@@ -1,7 +1,0 @@
-use Rattle.sqlite.specs.Held.{state}
-use Rattle.lynx_tables.proofs.CreateLemmas.{makes_entry}
-use Rattle.lynx_tables.proofs.making.make_entry.Goals as goal
-
-pub returns-clause-ok : goal.returns-clause-ok
-returns-clause-ok g c clean inside has =
-    makes_entry (state g.S.Store c.args.tx.now.conn.now) (state g.S.Store c.execute.new.self.conn.now) c.execute.result has (c.execute.ensures.runs clean inside)

@@ -1,5 +1,0 @@
-use Rattle.lynx_verdict.proofs.Bests.{IsBest}
-use Rattle.lynx_verdict.proofs.shortest.shortest.Given as goal
-
-abbrev pub invariant-loop-start : goal.invariant-loop-start
-invariant-loop-start l = IsBest l.nodes l.start-index l.best

@@ -1,7 +1,0 @@
-use Rattle.std.proofs.Common.{◌≡◌, drop}
-use Rattle.lynx_verdict.specs.inner.Tracing.{first_step}
-use Rattle.lynx_verdict.proofs.tracing.first_step.Given as goal
-
--- none of the exits so far has a marked arrival after it
-abbrev pub invariant-loop-exit : goal.invariant-loop-exit
-invariant-loop-exit l = first_step l.nodes l.start l.table l.here l.arrival (drop l.exit-index l.exits) ≡ first_step l.nodes l.start l.table l.here l.arrival l.exits

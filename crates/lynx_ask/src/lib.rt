@@ -1,4 +1,5 @@
-//! Asking a service by lines: each line is read to what a client sends, it is sent, and the answer is printed.
+//! Asking a service by lines: each line is read to what a client sends, it is sent, and the answer
+//! is printed.
 #![tactic(auto)]
 
 pub use asking::ask;

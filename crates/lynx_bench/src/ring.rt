@@ -11,7 +11,8 @@ use lynx_weave::weave;
 use lynx_world::World;
 use std::alloc::Global;
 
-/// A chain that is to begin: at which server, by which program, and the argument that it is given, if it wants one.
+/// A chain that is to begin: at which server, by which program, and the argument that it is given,
+/// if it wants one.
 #[derive(Clone, Copy, Debug)]
 pub struct Start {
     pub server: usize,

@@ -13,8 +13,8 @@ use std::marker::Model;
 
 /// The cells of one server. A cell that was never written holds 0.
 ///
-/// A set of changes is applied in two steps: `stage` makes room for the changed cells, which may fail, and
-/// `apply` writes them, which takes no memory.
+/// A set of changes is applied in two steps: `stage` makes room for the changed cells, which may
+/// fail, and `apply` writes them, which takes no memory.
 #[derive(Debug, Drop)]
 pub struct Cells {
     slots: BTreeMap<(TableId, u64), u64>,
@@ -52,7 +52,8 @@ impl Cells {
         }
     }
 
-    /// What a cell would hold once the changes are applied: what a hop reads, its own earlier writes first.
+    /// What a cell would hold once the changes are applied: what a hop reads, its own earlier
+    /// writes first.
     pub fn get_through(&self, changes: &Changes, table: TableId, key: u64) -> u64
         ensures { result ≡ value_at (applied changes.now self.now.database) table key }
     {
@@ -62,8 +63,8 @@ impl Cells {
         }
     }
 
-    /// Makes room for the changes, and changes no cell. After an error the cells are as they were, though
-    /// some of the room may have been made, and the call may be made again.
+    /// Makes room for the changes, and changes no cell. After an error the cells are as they were,
+    /// though some of the room may have been made, and the call may be made again.
     pub fn stage(&mut self, changes: &Changes) -> Result<(), Memory>
         ensures staged { OnOk result (IsStaged self.new changes.now) }
         ensures room { OnOk result (self.new.staged ≡ set.union self.old.staged

@@ -39,8 +39,8 @@ impl Changes {
         }
     }
 
-    /// Adds a change, or puts its value in the place of an earlier one of the same cell. A new change moves
-    /// those after it, so a set is meant to have tens of changes, not thousands.
+    /// Adds a change, or puts its value in the place of an earlier one of the same cell. A new
+    /// change moves those after it, so a set is meant to have tens of changes, not thousands.
     pub fn put(&mut self, table: TableId, key: u64, value: u64) -> Result<(), Memory>
         ensures ok { OnOk result (self.new ≡ map.insert self.old (table, key) value) }
         ensures err { OnErr result (self.new ≡ self.old) }

@@ -1,5 +1,5 @@
-//! The laws of writing a cell, each the contract of a function that does nothing. A cell is a pair of a
-//! table and a key. `proofs/Writes.antt` has the lemmas.
+//! The laws of writing a cell, each the contract of a function that does nothing. A cell is a pair
+//! of a table and a key. `proofs/Writes.antt` has the lemmas.
 ghost use Rattle.std.specs.Prelude.{◌≡◌, ◌≢◌, ℕ};
 ghost use Rattle.lynx_cells.specs.Database.{Database, IsZeroFree, value_at, with_value};
 

@@ -1,4 +1,5 @@
-//! Databases of numbered cells: the cells of one server, sets of changes to them, and the laws of writing.
+//! Databases of numbered cells: the cells of one server, sets of changes to them, and the laws of
+//! writing.
 #![tactic(auto)]
 
 pub use cells::Cells;

@@ -27,7 +27,8 @@ label_start chain = codes " [label=\" " ++ chain_text chain
 -- the line of a message that this befell
 abbrev pub message_with : Sent → Fates → List ℕ
 message_with sent fates =
-    arrow_text (EntryNode sent.sender sent.stamp) (end_of sent) ++ label_start sent.chain ++ fates_text fates
+    arrow_text (EntryNode sent.sender sent.stamp) (end_of sent) ++ label_start sent.chain
+    ++ fates_text fates
     ++ codes "\", style=" ++ fates_style fates ++ codes "];\n"
 
 -- the line of a message

@@ -24,7 +24,8 @@ is_dropping Dropped = true
 is_dropping delivered = false
 
 abbrev pub is_drop : ChainId → ℕ → Outcome → Bool
-is_drop chain hop (DeliveredNow other number delivered) = is_hop chain hop other number && is_dropping delivered
+is_drop chain hop (DeliveredNow other number delivered) =
+    is_hop chain hop other number && is_dropping delivered
 is_drop chain hop outcome = false
 
 -- it was held
@@ -33,7 +34,8 @@ is_holding Held = true
 is_holding delivered = false
 
 abbrev pub is_hold : ChainId → ℕ → Outcome → Bool
-is_hold chain hop (DeliveredNow other number delivered) = is_hop chain hop other number && is_holding delivered
+is_hold chain hop (DeliveredNow other number delivered) =
+    is_hop chain hop other number && is_holding delivered
 is_hold chain hop outcome = false
 
 -- what befell the message of a hop in these outcomes
@@ -50,8 +52,12 @@ fate_word true word = word
 fate_word false word = []
 
 abbrev pub fates_text : Fates → List ℕ
-fates_text fates = fate_word fates.lost (codes " lost") ++ fate_word fates.dropped (codes " dropped") ++ fate_word fates.held (codes " held")
+fates_text fates =
+    fate_word fates.lost (codes " lost") ++ fate_word fates.dropped (codes " dropped")
+    ++ fate_word fates.held (codes " held")
 
 -- how its arrow is drawn
 abbrev pub fates_style : Fates → List ℕ
-fates_style fates = if fates.lost || fates.dropped then codes "dotted" else (if fates.held then codes "dashed" else codes "solid")
+fates_style fates =
+    if fates.lost || fates.dropped then codes "dotted"
+    else (if fates.held then codes "dashed" else codes "solid")

@@ -27,25 +27,33 @@ node_of placed = EntryNode placed.server (stamp_of placed.entry)
 
 -- the entries of two hops and the cell at which they collide
 abbrev pub meeting_at : Node → Placed → Touch → Meeting
-meeting_at before after touch = record { before = before; after = node_of after; table = touch.table; key = touch.key }
+meeting_at before after touch =
+    record { before = before; after = node_of after; table = touch.table; key = touch.key }
 
--- the meeting of an entry, whose hop touched that, with a later one, if a hop of the chain touched there what collides
+-- the meeting of an entry, whose hop touched that, with a later one, if a hop of the chain touched
+-- there what collides
 abbrev pub meeting_with : Set → ChainId → Node → List Touch → Placed → Option Meeting
-meeting_with set other before touches after = option_map (meeting_at before after) (touch_met touches (touches_in set other after.entry))
+meeting_with set other before touches after =
+    option_map (meeting_at before after) (touch_met touches (touches_in set other after.entry))
 
 -- the first meeting with one of these
 abbrev pub meeting_behind : Set → ChainId → Node → List Touch → List Placed → Option Meeting
 meeting_behind set other before touches [] = None
-meeting_behind set other before touches (after ∷ list) = option_or (meeting_with set other before touches after) (meeting_behind set other before touches list)
+meeting_behind set other before touches (after ∷ list) =
+    option_or (meeting_with set other before touches after)
+    (meeting_behind set other before touches list)
 
 -- the first meeting of an entry, in which a hop of the one chain ran, with a later one of the other
 abbrev pub meeting_from : Set → ChainId → ChainId → Placed → List Placed → Option Meeting
-meeting_from set one other before list = meeting_behind set other (node_of before) (touches_in set one before.entry) list
+meeting_from set one other before list =
+    meeting_behind set other (node_of before) (touches_in set one before.entry) list
 
--- the first entries in the list by which the one chain precedes the other, and the first cell at which they do
+-- the first entries in the list by which the one chain precedes the other, and the first cell at
+-- which they do
 abbrev pub meeting_of : Set → ChainId → ChainId → List Placed → Option Meeting
 meeting_of set one other [] = None
-meeting_of set one other (before ∷ list) = option_or (meeting_from set one other before list) (meeting_of set one other list)
+meeting_of set one other (before ∷ list) =
+    option_or (meeting_from set one other before list) (meeting_of set one other list)
 
 -- each chain of a cycle with the next, and the last with the first; an order has no such pairs
 abbrev pub linked : List ChainId → List (ChainId × ChainId)
@@ -57,12 +65,14 @@ links_of (Cycle chains) = linked chains
 
 -- each link has entries by which its first chain precedes the second
 abbrev pub AreMet : Set → List Placed → Explained → Type 0
-AreMet set list explained = All (λ link. IsSome (meeting_of set link.0 link.1 list)) (links_of explained)
+AreMet set list explained =
+    All (λ link. IsSome (meeting_of set link.0 link.1 list)) (links_of explained)
 
 -- the line of a meeting, with its cell
 abbrev pub meeting_line : Set → Meeting → List ℕ
 meeting_line set meeting =
-    arrow_text meeting.before meeting.after ++ codes " [label=\" " ++ table_name set meeting.table ++ codes " " ++ decimal meeting.key ++ codes "\"];\n"
+    arrow_text meeting.before meeting.after ++ codes " [label=\" " ++ table_name set meeting.table
+    ++ codes " " ++ decimal meeting.key ++ codes "\"];\n"
 
 abbrev pub link_line : Set → List Placed → ChainId × ChainId → List ℕ
 link_line set list link = option_map_or (meeting_line set) (meeting_of set link.0 link.1 list) []

@@ -17,7 +17,8 @@ use Rattle.lynx_chart.specs.declared.messages.Sent.{Sent}
 abbrev pub ran_in : ChainId → ℕ → Entry → Option ℕ
 ran_in chain hop (Begun begun) = None
 ran_in chain hop (Refused refused) = None
-ran_in chain hop (Hop ran) = if same_chain ran.message.chain chain && ran.message.hop == hop then Some ran.stamp else None
+ran_in chain hop (Hop ran) =
+    if same_chain ran.message.chain chain && ran.message.hop == hop then Some ran.stamp else None
 
 -- the stamp at which a later hop of a chain ran, if it did
 abbrev pub ran_at : ChainId → ℕ → List Placed → Option ℕ
@@ -38,7 +39,8 @@ sent_as set list server message = record {
 
 -- the message that an entry sends, if it sends one
 abbrev pub sent_by : Set → List Placed → Placed → Option Sent
-sent_by set list placed = option_map (sent_as set list placed.server) (next_message set placed.entry)
+sent_by set list placed =
+    option_map (sent_as set list placed.server) (next_message set placed.entry)
 
 -- all messages that were sent, in the order of the entries that sent them
 abbrev pub sent_in : Set → List Placed → List Sent

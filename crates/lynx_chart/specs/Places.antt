@@ -19,7 +19,8 @@ word_of (Cycle chains) = codes "cycle"
 -- the place of a chain among these, the first of which has that place
 abbrev pub place_from : ℕ → List ChainId → ChainId → Option ℕ
 place_from place [] chain = None
-place_from place (first ∷ chains) chain = if same_chain first chain then Some place else place_from (place + 1) chains chain
+place_from place (first ∷ chains) chain =
+    if same_chain first chain then Some place else place_from (place + 1) chains chain
 
 -- the place of a chain in an order or a cycle, counted from 0, if it is one of its chains
 abbrev pub place_of : Explained → ChainId → Option ℕ

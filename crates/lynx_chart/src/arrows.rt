@@ -67,7 +67,8 @@ fn put_message(
     put_message_with(alloc, out, sent, &fates)
 }
 
-/// Writes a line for each message. Its cost grows with the count of messages times that of outcomes.
+/// Writes a line for each message. Its cost grows with the count of messages times that of
+/// outcomes.
 pub(crate) fn put_messages(
     alloc: Global,
     out: &mut Vec<u8>,

@@ -52,8 +52,8 @@ fn put_head(alloc: Global, out: &mut Vec<u8>, server: ServerId) -> Result<(), Me
     put_head_label(alloc, out, server)
 }
 
-/// Writes the line from one entry of a server down to the next, as long as their stamps are apart. In a legal list stamps
-/// of a server rise.
+/// Writes the line from one entry of a server down to the next, as long as their stamps are apart.
+/// In a legal list stamps of a server rise.
 fn put_stem(
     alloc: Global,
     out: &mut Vec<u8>,
@@ -95,8 +95,8 @@ fn put_entry(
     put_stem(alloc, out, server, above, entry.stamp())
 }
 
-/// Writes the entries of a server, and answers the stamp of the last one, or 0 where it has none. It goes over the whole
-/// list.
+/// Writes the entries of a server, and answers the stamp of the last one, or 0 where it has none.
+/// It goes over the whole list.
 fn put_entries(
     alloc: Global,
     out: &mut Vec<u8>,
@@ -174,7 +174,8 @@ fn put_owed(
     Ok(())
 }
 
-/// Writes the hops that a server owes, the first below that node and each of the others below the one before.
+/// Writes the hops that a server owes, the first below that node and each of the others below the
+/// one before.
 fn put_owed_below(
     alloc: Global,
     out: &mut Vec<u8>,
@@ -214,7 +215,8 @@ fn put_column(
     put_owed_below(alloc, out, world.set(), server, last, messages)
 }
 
-/// Writes the columns of all servers. Its cost grows with the count of servers times that of entries.
+/// Writes the columns of all servers. Its cost grows with the count of servers times that of
+/// entries.
 pub(crate) fn put_columns(
     alloc: Global,
     out: &mut Vec<u8>,

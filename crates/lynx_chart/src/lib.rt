@@ -1,4 +1,5 @@
-//! The chart of a run, as a graph that Graphviz draws: a column for each server, with its entries downward by stamp.
+//! The chart of a run, as a graph that Graphviz draws: a column for each server, with its entries
+//! downward by stamp.
 #![tactic(auto)]
 
 pub use charting::chart;

@@ -51,7 +51,8 @@ fn node_of(listed: &Listed<'_>) -> Node
     }
 }
 
-/// The meeting of an entry, whose hop touched that, with the entry at a place, if that is of the chain and collides.
+/// The meeting of an entry, whose hop touched that, with the entry at a place, if that is of the
+/// chain and collides.
 fn meeting_with(
     alloc: Global,
     world: &World,
@@ -123,8 +124,8 @@ fn meeting_from(
     meeting_behind(alloc, world, other, &node_of(&listed), touches, place)
 }
 
-/// The first entries by which the one chain precedes the other, and the first cell at which they do. It goes over the list
-/// once, and once more behind each entry of the one chain.
+/// The first entries by which the one chain precedes the other, and the first cell at which they
+/// do. It goes over the list once, and once more behind each entry of the one chain.
 fn meeting_of(
     alloc: Global,
     world: &World,

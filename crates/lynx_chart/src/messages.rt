@@ -79,8 +79,8 @@ fn add_sent(
     Ok(())
 }
 
-/// All messages that were sent, in the order of the entries that sent them. Its cost grows with the square of the count
-/// of entries.
+/// All messages that were sent, in the order of the entries that sent them. Its cost grows with the
+/// square of the count of entries.
 pub(crate) fn sent_in(alloc: Global, world: &World) -> Result<Vec<Sent>, Memory>
     ensures { IfOk result (λ messages. messages.items ≡ sent_in world.now.set world.now.list) }
 {

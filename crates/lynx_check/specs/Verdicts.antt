@@ -7,8 +7,8 @@ use Rattle.lynx_check.specs.Reasons.{IsExcuse}
 use Rattle.lynx_graph.specs.Blocks.{IsOffendingBlockWalk}
 use Rattle.lynx_graph.specs.Walks.{IsOffending}
 
--- accepted: for that reason, and it is the set that was asked about. Offending: this closed walk does, and this walk of
--- blocks
+-- accepted: for that reason, and it is the set that was asked about. Offending: this closed walk
+-- does, and this walk of blocks
 abbrev pub Judges : Set → Verdict → Type 0
 Judges set (Accepted own) = (own.set ≡ set) × IsExcuse set own.excused
 Judges set (Offending walk blocks) = IsOffending set walk × IsOffendingBlockWalk set blocks

@@ -11,8 +11,8 @@ pub enum Reason {
     Blocks,
 }
 
-/// A set that is accepted: no closed walk of it offends, or no walk of blocks does. [`check`](crate::check()) alone makes
-/// one.
+/// A set that is accepted: no closed walk of it offends, or no walk of blocks does.
+/// [`check`](crate::check()) alone makes one.
 #[derive(Debug, Drop)]
 pub struct AcceptedSet {
     set: ChainSet,
@@ -61,7 +61,8 @@ impl AcceptedSet {
         }
     }
 
-    /// The closed walk that offends and is excused, the least of the shortest. None where no closed walk offends.
+    /// The closed walk that offends and is excused, the least of the shortest. None where no closed
+    /// walk offends.
     pub fn excused(&self) -> Option<&Walk>
         ensures value { option_copied result ≡ self.now.excused }
         ensures right { IsExcuse self.now.set self.now.excused }

@@ -1,5 +1,5 @@
-//! A walk of blocks that offends, where there is one: it takes a block that isn't forward, entered and left at hops that
-//! programs of other origins meet, and goes back by the same chains.
+//! A walk of blocks that offends, where there is one: it takes a block that isn't forward, entered
+//! and left at hops that programs of other origins meet, and goes back by the same chains.
 ghost use Rattle.std.specs.Prelude.{◌≡◌, IfOk, MatchOption, find};
 ghost use Rattle.lynx_graph.specs.Blocks.{IsOffendingBlockWalk, NoBlockWalkOffends};
 ghost use Rattle.lynx_check.specs.inner.Backward.{backward_between, backward_from, backward_in, end_of, ends_of, is_abroad_at, one_at, round_of, turned};
@@ -73,7 +73,8 @@ fn ends_of(alloc: Global, nodes: &[Node]) -> Result<Vec<End>, Memory>
     Ok(ends)
 }
 
-/// The block that is entered at the one end and left by the other, if there is one that isn't forward.
+/// The block that is entered at the one end and left by the other, if there is one that isn't
+/// forward.
 fn backward_between(set: &ChainSet, entered: &End, left: &End) -> Option<Block>
     ensures { result ≡ backward_between set.now entered.now left.now }
 {

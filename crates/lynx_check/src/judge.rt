@@ -10,10 +10,11 @@ use lynx_names::{Memory, TryCopy};
 use lynx_set::ChainSet;
 use std::alloc::Global;
 
-/// Judges the set: it is accepted if no closed walk offends, or no walk of blocks does. The closed walk given has the
-/// fewest visits of all that offend; of those it is the one whose list of conflict edges (program, hop left, next program,
-/// hop entered) is the least, compared number by number, and it begins with the visit whose leaving edge stands first in
-/// that list. Memory is answered where a growth was refused.
+/// Judges the set: it is accepted if no closed walk offends, or no walk of blocks does. The closed
+/// walk given has the fewest visits of all that offend; of those it is the one whose list of
+/// conflict edges (program, hop left, next program, hop entered) is the least, compared number by
+/// number, and it begins with the visit whose leaving edge stands first in that list. Memory is
+/// answered where a growth was refused.
 pub fn check(alloc: Global, set: &ChainSet) -> Result<Verdict, Memory>
     ensures { IfOk result (Judges set.now) }
 {

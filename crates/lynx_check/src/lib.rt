@@ -1,4 +1,5 @@
-//! The verdict on a set: whether a closed walk offends, and a walk of blocks, told by parts and by searches.
+//! The verdict on a set: whether a closed walk offends, and a walk of blocks, told by parts and by
+//! searches.
 #![tactic(auto)]
 
 pub use accepted::{AcceptedSet, Reason};

@@ -7,8 +7,9 @@ use lynx_graph::nodes::Node;
 use lynx_names::{Items, Memory};
 use std::alloc::Global;
 
-/// Whether a walk can be closed from one hop, by what its visits so far did: whether one of them was left by
-/// another hop than it was entered at, and whether one was of a program of another origin.
+/// Whether a walk can be closed from one hop, by what its visits so far did: whether one of them
+/// was left by another hop than it was entered at, and whether one was of a program of another
+/// origin.
 #[derive(Clone, Copy, Debug, PartialEq, Eq)]
 pub(crate) struct Marks {
     pub neither: bool,
@@ -50,7 +51,8 @@ pub(crate) fn is_abroad(start: &Node, node: &Node) -> bool
     !same_server(node.origin, start.origin)
 }
 
-/// Whether an arrival at the node closes the walk: the walk's first visit entered here and left at the start.
+/// Whether an arrival at the node closes the walk: the walk's first visit entered here and left at
+/// the start.
 fn is_goal(start: &Node, node: &Node, crossed: bool, abroad: bool) -> bool
     ensures { result ≡ is_goal start.now node.now crossed abroad }
 {
@@ -120,8 +122,8 @@ fn leaving_marks(table: &[Marks], some: &Marks, node: &Node) -> Marks
     }
 }
 
-/// For each hop whether a walk that leaves by it arrives at a marked one. Neighbours are asked only for marks that
-/// some hop has: in a set of one origin most are wanting.
+/// For each hop whether a walk that leaves by it arrives at a marked one. Neighbours are asked only
+/// for marks that some hop has: in a set of one origin most are wanting.
 fn leaving_table(alloc: Global, nodes: &[Node], table: &[Marks]) -> Result<Vec<Marks>, Memory>
     ensures { IfOk result (λ leaving. leaving.items ≡ leaving_table nodes.now table.now) }
 {

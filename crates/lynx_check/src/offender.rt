@@ -54,8 +54,8 @@ fn found_walk(alloc: Global, set: &ChainSet, map: &Map) -> Result<Option<Walk>, 
     }
 }
 
-/// The walk that the search alone finds, as [`check`](crate::check()) gives it. Only that a walk offends is promised, not
-/// that one is found where there is one: tests see that.
+/// The walk that the search alone finds, as [`check`](crate::check()) gives it. Only that a walk
+/// offends is promised, not that one is found where there is one: tests see that.
 pub fn search_walk(alloc: Global, set: &ChainSet) -> Result<Option<Walk>, Memory>
     ensures { IfOk result (λ found. IfSome found (IsOffending set.now)) }
 {

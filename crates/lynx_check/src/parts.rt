@@ -1,5 +1,5 @@
-//! Parts of the graph: a division of its hops that no edge crosses tells that no walk offends, where no part has both a
-//! program that a walk may cross and programs of two origins.
+//! Parts of the graph: a division of its hops that no edge crosses tells that no walk offends,
+//! where no part has both a program that a walk may cross and programs of two origins.
 ghost use Rattle.std.specs.Prelude.{◌≡◌};
 ghost use Rattle.lynx_check.specs.inner.Parts.{has_abroad, has_neighbours, has_other_exit, is_met, is_same_part, is_split, meets_other_part, part_offends, some_part_offends};
 
@@ -69,8 +69,8 @@ fn has_abroad(nodes: &[Node], parts: &[usize], place: usize, node: &Node) -> boo
     })
 }
 
-/// Whether the hop, or its program, has an edge to another part, or a walk may enter its program here and leave it by
-/// another hop, while a program of another origin is in the part.
+/// Whether the hop, or its program, has an edge to another part, or a walk may enter its program
+/// here and leave it by another hop, while a program of another origin is in the part.
 fn part_offends(nodes: &[Node], parts: &[usize], place: usize, node: &Node) -> bool
     ensures { result ≡ part_offends nodes.now parts.now place node.now }
 {
@@ -79,8 +79,8 @@ fn part_offends(nodes: &[Node], parts: &[usize], place: usize, node: &Node) -> b
         || is_met(node) && has_other_exit(nodes, node) && has_abroad(nodes, parts, place, node)
 }
 
-/// Whether this is no division into parts, or some part has both a program that a walk may cross and programs of two
-/// origins.
+/// Whether this is no division into parts, or some part has both a program that a walk may cross
+/// and programs of two origins.
 pub(crate) fn some_part_offends(nodes: &[Node], parts: &[usize]) -> bool
     ensures { result ≡ some_part_offends nodes.now parts.now }
 {

@@ -36,8 +36,8 @@ fn is_same(left: &[Marks], right: &[Marks]) -> bool
     left == right
 }
 
-/// Searches for the least of the shortest walks whose first visit is left at the start. With a limit, only for
-/// walks with at most so many visits after the first.
+/// Searches for the least of the shortest walks whose first visit is left at the start. With a
+/// limit, only for walks with at most so many visits after the first.
 pub(crate) fn search(
     alloc: Global,
     nodes: &[Node],

@@ -10,8 +10,9 @@ use lynx_graph::visit::{Visit, Walk};
 use lynx_names::{Items, Memory};
 use std::alloc::Global;
 
-/// An arrival at a node, and what the visits after the walk's first did before it: whether one was left by another
-/// hop than it was entered at, and whether one was of a program of another origin than the first's.
+/// An arrival at a node, and what the visits after the walk's first did before it: whether one was
+/// left by another hop than it was entered at, and whether one was of a program of another origin
+/// than the first's.
 #[derive(Clone, Copy, Debug, PartialEq, Eq)]
 pub(crate) struct Arrival {
     pub node: usize,
@@ -99,8 +100,8 @@ fn next_step(nodes: &[Node], start: &Node, table: &[Marks], arrival: &Arrival) -
     first_step(nodes, start, table, here, arrival)
 }
 
-/// Reads the walk off the tables of the start, of which the last is the first to mark a hop with which it may
-/// conflict.
+/// Reads the walk off the tables of the start, of which the last is the first to mark a hop with
+/// which it may conflict.
 pub(crate) fn read_walk(
     alloc: Global,
     nodes: &[Node],

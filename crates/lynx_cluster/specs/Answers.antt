@@ -1,4 +1,5 @@
--- What an answer to a begin says of its request, of what was told before, and of the server that gave it.
+-- What an answer to a begin says of its request, of what was told before, and of the server that
+-- gave it.
 use Rattle.std.specs.Prelude.{◌≡◌, ◌<◌, ◌⊎◌, ℕ, false, Some, None}
 use Rattle.lynx_entry.specs.declared.answer.Answer.{Answer}
 use Rattle.lynx_entry.specs.declared.answer.Answer.TheVariants.{Begun, Refused, Clash, UnknownProgram, WrongOrigin, ArgCount, OutsideRange, WrongShard, Full, Busy, Stopped, Memory}
@@ -15,15 +16,19 @@ IsAbove seen (Begun chain stamp results again) = again ≡ false → seen < stam
 IsAbove seen (Refused need stamp again) = again ≡ false → seen < stamp
 IsAbove seen given = Unit {0}
 
--- What is wrong with a request is answered only where just that is wrong with it at this server. A fresh begin or
--- refusal comes only where nothing is, and so do Full and Busy; Busy besides only where a program that begins at the
--- server returns there.
+-- What is wrong with a request is answered only where just that is wrong with it at this server. A
+-- fresh begin or refusal comes only where nothing is, and so do Full and Busy; Busy besides only
+-- where a program that begins at the server returns there.
 abbrev pub FitsRequest : Set → ℕ → Request → Answer → Type 0
-FitsRequest set server request (Begun chain stamp results again) = again ≡ false → request_fault set server request ≡ None
-FitsRequest set server request (Refused need stamp again) = again ≡ false → request_fault set server request ≡ None
+FitsRequest set server request (Begun chain stamp results again) =
+    again ≡ false → request_fault set server request ≡ None
+FitsRequest set server request (Refused need stamp again) =
+    again ≡ false → request_fault set server request ≡ None
 FitsRequest set server request Full = request_fault set server request ≡ None
-FitsRequest set server request Busy = (request_fault set server request ≡ None) × HasReturn set server
-FitsRequest set server request UnknownProgram = request_fault set server request ≡ Some UnknownProgram
+FitsRequest set server request Busy =
+    (request_fault set server request ≡ None) × HasReturn set server
+FitsRequest set server request UnknownProgram =
+    request_fault set server request ≡ Some UnknownProgram
 FitsRequest set server request WrongOrigin = request_fault set server request ≡ Some WrongOrigin
 FitsRequest set server request ArgCount = request_fault set server request ≡ Some ArgCount
 FitsRequest set server request OutsideRange = request_fault set server request ≡ Some OutsideRange
@@ -32,11 +37,15 @@ FitsRequest set server request Clash = Unit {0}
 FitsRequest set server request Stopped = Unit {0}
 FitsRequest set server request Memory = Unit {0}
 
--- the server answered as a server that runs does, by what its session had seen, and its keeper lasts
-pub record IsServed {K : Type 0} (terms : Terms K) (old : Serving K) (request : Request) (seen : ℕ) (given : Answer) (new : Serving K) : Type 0 where
+-- the server answered as a server that runs does, by what its session had seen, and its keeper
+-- lasts
+pub record IsServed {K : Type 0} (terms : Terms K) (old : Serving K) (request : Request) (seen : ℕ)
+    (given : Answer) (new : Serving K) : Type 0 where
   pub begins : Begins terms old request seen given new
   pub lasts : Lasts terms old (begins_here old request seen).added new
 
--- A begin on the state of a server that runs: memory was wanting, which changes nothing, or the server was asked.
+-- A begin on the state of a server that runs: memory was wanting, which changes nothing, or the
+-- server was asked.
 abbrev pub IsLeft : {K : Type 0} → Terms K → Serving K → Request → ℕ → Answer → Serving K → Type 0
-IsLeft terms old request seen given new = ((given ≡ Memory) × (new ≡ old)) ⊎ IsServed terms old request seen given new
+IsLeft terms old request seen given new =
+    ((given ≡ Memory) × (new ≡ old)) ⊎ IsServed terms old request seen given new

@@ -21,40 +21,49 @@ abbrev pub told_to : List SessionState → List (List ToldItem)
 told_to sessions = map (λ session. session.told) sessions
 
 -- this was taken back of that server: a lawful history, just what the keeper keeps
-pub record IsTakenBack {K : Type 0} (terms : Terms K) (set : Set) (server : ℕ) (history : History) (keeper : K) : Type 0 where
+pub record IsTakenBack {K : Type 0} (terms : Terms K) (set : Set) (server : ℕ) (history : History)
+    (keeper : K) : Type 0 where
   pub lawful : IsLawfulHistory set server history
   pub kept : terms.sound keeper → terms.keeps keeper (kept_of set history)
 
 -- these were taken back of all servers
-pub record AreTakenBack {K : Type 0} (terms : Terms K) (set : Set) (histories : List History) (keepers : List K) : Type 0 where
+pub record AreTakenBack {K : Type 0} (terms : Terms K) (set : Set) (histories : List History)
+    (keepers : List K) : Type 0 where
   pub one_history : length histories ≡ set.servers
   pub one_keeper : length keepers ≡ set.servers
-  pub each : (server : ℕ) (history : History) (keeper : K) → slice_get histories server ≡ Some history →
+  pub each : (server : ℕ) (history : History) (keeper : K)
+      → slice_get histories server ≡ Some history →
       slice_get keepers server ≡ Some keeper → IsTakenBack terms set server history keeper
 
 -- as many fresh answers of the server were told as it added entries for begins since the start
 abbrev pub IsCounted : List History → List ℕ → List (List ToldItem) → ℕ → Type 0
 IsCounted histories starts told server =
-    count_by (is_fresh_of server) (all_told told) ≡ count_by answers_begin (history_since histories starts server)
+    count_by (is_fresh_of server) (all_told told)
+    ≡ count_by answers_begin (history_since histories starts server)
 
--- A close: a world of just what the keepers keep, in which all that was told stands, each fresh item by an entry since
--- the start, and of each server as many were told as it added.
-pub record IsClosed {K : Type 0} (terms : Terms K) (cluster : ClusterState) (sessions : List SessionState) (world : WorldState) (keepers : List K) : Type 0 where
+-- A close: a world of just what the keepers keep, in which all that was told stands, each fresh
+-- item by an entry since the start, and of each server as many were told as it added.
+pub record IsClosed {K : Type 0} (terms : Terms K) (cluster : ClusterState)
+    (sessions : List SessionState) (world : WorldState) (keepers : List K) : Type 0 where
   pub histories : List History
   pub taken : AreTakenBack terms cluster.set histories keepers
   pub woven : IsWoven cluster.set histories (told_to sessions) world
-  pub none_old : All (All (λ item. IsFreshByOld histories cluster.starts item → ⊥)) (told_to sessions)
-  pub counted : (server : ℕ) → server < cluster.set.servers → IsCounted histories cluster.starts (told_to sessions) server
+  pub none_old : All (All (λ item. IsFreshByOld histories cluster.starts item → ⊥))
+      (told_to sessions)
+  pub counted : (server : ℕ) → server < cluster.set.servers
+      → IsCounted histories cluster.starts (told_to sessions) server
 
 -- what was taken back of all servers does not weave to a world in which what was told stands
-pub record IsUnwoven {K : Type 0} (terms : Terms K) (cluster : ClusterState) (sessions : List SessionState) (fault : WeaveFault) : Type 0 where
+pub record IsUnwoven {K : Type 0} (terms : Terms K) (cluster : ClusterState)
+    (sessions : List SessionState) (fault : WeaveFault) : Type 0 where
   pub histories : List History
   pub keepers : List K
   pub taken : AreTakenBack terms cluster.set histories keepers
   pub unwoven : WeavesSince cluster.set histories cluster.starts (told_to sessions) (Err fault)
 
 -- another count of fresh answers of that server was told than it added entries for begins
-pub record IsMiscounted {K : Type 0} (terms : Terms K) (cluster : ClusterState) (sessions : List SessionState) (server : ℕ) : Type 0 where
+pub record IsMiscounted {K : Type 0} (terms : Terms K) (cluster : ClusterState)
+    (sessions : List SessionState) (server : ℕ) : Type 0 where
   pub histories : List History
   pub keepers : List K
   pub taken : AreTakenBack terms cluster.set histories keepers
@@ -64,12 +73,16 @@ pub record IsMiscounted {K : Type 0} (terms : Terms K) (cluster : ClusterState) 
 -- none of the sessions has that number
 abbrev pub HasNone : List SessionState → ℕ → Type 0
 HasNone sessions number =
-    (place : ℕ) (session : SessionState) → slice_get sessions place ≡ Some session → session.number ≢ number
+    (place : ℕ) (session : SessionState) → slice_get sessions place ≡ Some session
+    → session.number ≢ number
 
 -- Why a cluster doesn't close well.
-abbrev pub IsUnclosed : {K : Type 0} → Terms K → ClusterState → List SessionState → CloseFault → Type 0
-IsUnclosed terms cluster sessions (Mismatch server place) = IsUnwoven terms cluster sessions (weave.Mismatch server place)
-IsUnclosed terms cluster sessions (Told session place) = IsUnwoven terms cluster sessions (weave.Told session place)
+abbrev pub IsUnclosed : {K : Type 0} → Terms K → ClusterState → List SessionState → CloseFault
+    → Type 0
+IsUnclosed terms cluster sessions (Mismatch server place) =
+    IsUnwoven terms cluster sessions (weave.Mismatch server place)
+IsUnclosed terms cluster sessions (Told session place) =
+    IsUnwoven terms cluster sessions (weave.Told session place)
 IsUnclosed terms cluster sessions (Stopped server) = server < cluster.set.servers
 IsUnclosed terms cluster sessions Memory = Unit {0}
 IsUnclosed terms cluster sessions (Absent number) = HasNone sessions number

@@ -10,7 +10,8 @@ pub record ClusterState : Type 0 where
   pub set : Set
   pub starts : List ℕ
 
--- the server at which a request begins: the origin of its program, server 0 where the set hasn't the program
+-- the server at which a request begins: the origin of its program, server 0 where the set hasn't
+-- the program
 abbrev pub home_of : Set → Request → ℕ
 home_of set request = unwrap_or (origin_of set request.program) 0
 

@@ -24,7 +24,8 @@ seen_by server chain hop Absent = []
 seen_by server chain hop (Found stamp results) = Seen server chain hop stamp results ∷ []
 
 -- that was found at the server of that hop of a program of the set, and noted
-pub record HasFound (set : Set) (old : SessionState) (chain : ChainId) (hop : ℕ) (looked : Looked) (new : SessionState) : Type 0 where
+pub record HasFound (set : Set) (old : SessionState) (chain : ChainId) (hop : ℕ) (looked : Looked)
+    (new : SessionState) : Type 0 where
   pub program : ℕ
   pub server : ℕ
   pub server_is : server_at set program hop ≡ Some server
@@ -33,4 +34,5 @@ pub record HasFound (set : Set) (old : SessionState) (chain : ChainId) (hop : �
 -- A look of a session: what was found was noted, and what is absent leaves the session as it was.
 abbrev pub Looks : Set → SessionState → ChainId → ℕ → Looked → SessionState → Type 0
 Looks set old chain hop Absent new = new ≡ old
-Looks set old chain hop (Found stamp results) new = HasFound set old chain hop (Found stamp results) new
+Looks set old chain hop (Found stamp results) new =
+    HasFound set old chain hop (Found stamp results) new

@@ -40,8 +40,8 @@ fn first_unmarked(is_here: &[bool]) -> Option<u64>
     None
 }
 
-/// The first number below the count of those made that none of the sessions has. Each session and each number is gone
-/// over once.
+/// The first number below the count of those made that none of the sessions has. Each session and
+/// each number is gone over once.
 pub(crate) fn first_absent(
     alloc: Global,
     made: u64,

@@ -48,7 +48,8 @@ impl Session {
             (answer ≡ Answer.Stopped) × (state.new ≡ state.old)) }
         ensures begins { state.old.is_stopped ≡ false → IfOk result (λ answer.
             Begins K.terms state.old request (greatest_told self.old.told) answer state.new) }
-        ensures lasts { state.old.is_stopped ≡ false → IfOk result (λ answer. Lasts K.terms state.old
+        ensures lasts { state.old.is_stopped ≡ false
+            → IfOk result (λ answer. Lasts K.terms state.old
             (begins_here state.old request (greatest_told self.old.told)).added state.new) }
         ensures lawful { IsLawfulHistory state.old.set state.old.server state.old.history }
         ensures told { IfOk result (λ answer. self.new ≡ record self.old

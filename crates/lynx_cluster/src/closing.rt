@@ -1,4 +1,5 @@
-//! Closing a cluster: its workers end, its states are taken back, and what its sessions were told is checked.
+//! Closing a cluster: its workers end, its states are taken back, and what its sessions were told
+//! is checked.
 ghost use Rattle.std.specs.Prelude.{◌≡◌, IfErr, IfOk, length};
 ghost use Rattle.lynx_cluster.specs.Closing.{IsClosed, IsUnclosed};
 ghost use Rattle.lynx_cluster.specs.inner.Closing.{IsFirstUncounted};
@@ -41,8 +42,8 @@ fn first_uncounted(set: &ChainSet, counts: &[ServerCounts]) -> Option<ServerId>
 }
 
 impl<K: Keeper + Drop, G: Gate + Drop> Cluster<K, G> {
-    /// Stops the workers and waits for each to end, then checks all that the sessions were told: [`Front::close`]. Chains
-    /// that haven't ended stay as they are.
+    /// Stops the workers and waits for each to end, then checks all that the sessions were told:
+    /// [`Front::close`]. Chains that haven't ended stay as they are.
     pub fn close<R: Threads + Wait>(
         self,
         rt: &R,
@@ -64,8 +65,8 @@ impl<K: Keeper + Drop, G: Gate + Drop> Cluster<K, G> {
 }
 
 impl<K: Keeper + Drop, G: Gate + Drop> Front<K, G> {
-    /// Takes the states out of their locks, weaves what the servers did to a world, and checks what the sessions were
-    /// told in it.
+    /// Takes the states out of their locks, weaves what the servers did to a world, and checks what
+    /// the sessions were told in it.
     fn close(self, alloc: Global, sessions: Vec<Session>) -> Result<Closed<K>, CloseFault>
         ensures closed { IfOk result (λ closed. IsClosed K.terms self sessions.items closed.world
             closed.keepers.items) }

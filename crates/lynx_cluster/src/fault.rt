@@ -55,16 +55,18 @@ impl<T: Drop> From<AllocFailed<T>> for StartFault {
     }
 }
 
-/// Why a cluster didn't close well. The cluster is gone, its threads have ended, and what the keepers stored stands.
+/// Why a cluster didn't close well. The cluster is gone, its threads have ended, and what the
+/// keepers stored stands.
 #[derive(Clone, Copy, Debug, PartialEq, Eq, Error)]
 pub enum CloseFault {
-    /// The entry at that place of that server's history, counted from 0, isn't lawful after those before it, or no
-    /// entry sent the message that it ran on.
+    /// The entry at that place of that server's history, counted from 0, isn't lawful after those
+    /// before it, or no entry sent the message that it ran on.
     #[error("no world has entry {place} of server {server}")]
     Mismatch { server: ServerId, place: u64 },
-    /// The item at that place of that session, both counted from 0 and the session in the list that was handed in,
-    /// doesn't stand, or is fresh and either its stamp isn't above those that its session was told before, or an item
-    /// of an earlier session or place is fresh by the same entry, or that entry is from before the start.
+    /// The item at that place of that session, both counted from 0 and the session in the list that
+    /// was handed in, doesn't stand, or is fresh and either its stamp isn't above those that its
+    /// session was told before, or an item of an earlier session or place is fresh by the same
+    /// entry, or that entry is from before the start.
     #[error("no world has item {place} of session {session}")]
     Told { session: u64, place: u64 },
     /// That server stopped, or its state can't be taken back.
@@ -76,7 +78,8 @@ pub enum CloseFault {
     /// The session of that number was made and isn't handed in.
     #[error("session {session} is absent")]
     Absent { session: u64 },
-    /// The fresh answers that sessions were told of that server aren't as many as the entries that it added for begins.
+    /// The fresh answers that sessions were told of that server aren't as many as the entries that
+    /// it added for begins.
     #[error("the answers of server {server} are not as many as its begins")]
     Uncounted { server: ServerId },
 }

@@ -10,7 +10,8 @@ pub enum Step {
     Deliver,
 }
 
-/// What a cluster tells of its steps, in whatever thread makes them. A test can so make one step wait for another.
+/// What a cluster tells of its steps, in whatever thread makes them. A test can so make one step
+/// wait for another.
 pub trait Gate {
     /// A step is about to be made. It is called with that server's lock taken.
     fn enter(&self, server: ServerId, step: Step);

@@ -14,12 +14,12 @@ use std::collections::VecDeque;
 use std::sync::{Arc, Mutex, Wait};
 use std::time::{Clock, Duration, Instant};
 
-/// Milliseconds for which the lock is held to serve parcels, about. Then those get it that begin and look meanwhile, which
-/// matters where a keeper writes to a disk.
+/// Milliseconds for which the lock is held to serve parcels, about. Then those get it that begin
+/// and look meanwhile, which matters where a keeper writes to a disk.
 const LOCK_MILLIS: u64 = 1;
 
-/// What the worker of one server is lent: a part in the server's state behind its lock, and in the gate. Where the lock
-/// has the state of another server or another set, no step is made.
+/// What the worker of one server is lent: a part in the server's state behind its lock, and in the
+/// gate. Where the lock has the state of another server or another set, no step is made.
 #[derive(Drop)]
 pub struct Lent<K: Keeper, G: Gate> {
     set: ChainSet,
@@ -47,7 +47,8 @@ fn note(receipts: &mut Vec<Receipt>, receipt: Receipt) {
     let _ = receipts.push(receipt);
 }
 
-/// Wakes one held message of the server. False where there is none whose turn it is, or it can't be woken now.
+/// Wakes one held message of the server. False where there is none whose turn it is, or it can't be
+/// woken now.
 fn wake_next<K: Keeper>(alloc: Global, state: &mut Server<K>, receipts: &mut Vec<Receipt>) -> bool {
     let Some(woken) = state.wake(alloc) else {
         return false;
@@ -74,8 +75,8 @@ fn wake_all<K: Keeper>(alloc: Global, state: &mut Server<K>, receipts: &mut Vec<
     }
 }
 
-/// Does what a parcel asks. Where a hop was done, the held messages that wait for it are woken before another message
-/// comes: one for which there is no room to be held would be dropped.
+/// Does what a parcel asks. Where a hop was done, the held messages that wait for it are woken
+/// before another message comes: one for which there is no room to be held would be dropped.
 fn serve_one<K: Keeper>(
     alloc: Global,
     state: &mut Server<K>,
@@ -106,7 +107,8 @@ fn is_long<R: Clock>(rt: &R, since: &Option<Instant>) -> bool {
     }
 }
 
-/// Wakes what is held, then does what the parcels of the inbox ask until the lock was held for a while.
+/// Wakes what is held, then does what the parcels of the inbox ask until the lock was held for a
+/// while.
 fn serve_some<K: Keeper, R: Clock>(
     rt: &R,
     alloc: Global,
@@ -167,8 +169,8 @@ impl<K: Keeper, G: Gate> Lent<K, G> {
         })
     }
 
-    /// Adds what the server owes from a place of its history on to the list, so many messages at most. The length of the
-    /// history where that is all.
+    /// Adds what the server owes from a place of its history on to the list, so many messages at
+    /// most. The length of the history where that is all.
     fn collect(
         &self,
         alloc: Global,
@@ -190,8 +192,8 @@ impl<K: Keeper, G: Gate> Lent<K, G> {
 }
 
 impl<K: Keeper, G: Gate> Steps for Lent<K, G> {
-    // That the state is this server's is asked only where something may be owed, so that to find nothing costs no walk
-    // over the set.
+    // That the state is this server's is asked only where something may be owed, so that to find
+    // nothing costs no walk over the set.
     fn owed<R: Wait>(&self, rt: &R, alloc: Global, from: u64, most: usize) -> Owed {
         let mut dues = Vec::new(alloc);
         let state = self.state.lock(rt);

@@ -1,5 +1,5 @@
-//! A cluster: the servers of a set, each behind a lock of its own and with a worker thread, the sessions that begin at
-//! them, and the close, which checks all that the sessions were told.
+//! A cluster: the servers of a set, each behind a lock of its own and with a worker thread, the
+//! sessions that begin at them, and the close, which checks all that the sessions were told.
 #![tactic(auto)]
 
 pub use closing::Closed;

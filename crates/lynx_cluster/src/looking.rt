@@ -48,7 +48,8 @@ impl Session {
         })
     }
 
-    /// One look at the state of a server, noted by the session where it finds the hop. What is found has a byte form.
+    /// One look at the state of a server, noted by the session where it finds the hop. What is
+    /// found has a byte form.
     pub(crate) fn look_at<K: Keeper>(
         &mut self,
         alloc: Global,

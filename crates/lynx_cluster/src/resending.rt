@@ -1,25 +1,28 @@
 //! Which messages are sent again, and when.
 use std::time::{Clock, Duration, Instant};
 
-/// Milliseconds that go by at least between the beginnings of two passes over all that a server owes.
+/// Milliseconds that go by at least between the beginnings of two passes over all that a server
+/// owes.
 pub const RESEND_MILLIS: u64 = 100;
 
-/// Milliseconds that go by at least between the beginnings of two passes over the first that it owes, where something was
-/// acknowledged meanwhile. Where nothing is, they double, up to [`RESEND_MILLIS`].
+/// Milliseconds that go by at least between the beginnings of two passes over the first that it
+/// owes, where something was acknowledged meanwhile. Where nothing is, they double, up to
+/// [`RESEND_MILLIS`].
 const FIRST_MILLIS: u64 = 1;
 
 /// Messages that a pass over the first sends again, at most.
 const FIRST_MESSAGES: u64 = 64;
 
-/// Places of the history that a pass over the first looks at, at most, so that it takes a short time also where most
-/// there were acknowledged.
+/// Places of the history that a pass over the first looks at, at most, so that it takes a short
+/// time also where most there were acknowledged.
 const FIRST_PLACES: u64 = 1_024;
 
 /// How much of what a server owes a pass goes over.
 #[derive(Clone, Copy, PartialEq, Eq)]
 pub(crate) enum Reach {
-    /// The first messages, and only where the very first is still owed that was so when the last pass began. Else they
-    /// come and are acknowledged as they should, and what is sent again would come twice.
+    /// The first messages, and only where the very first is still owed that was so when the last
+    /// pass began. Else they come and are acknowledged as they should, and what is sent again would
+    /// come twice.
     First,
     /// All messages.
     All,
@@ -51,8 +54,9 @@ impl Reach {
     }
 }
 
-/// The passes of a worker over what its server owes. A message stays due until it was acknowledged, so a pass over all
-/// comes to it again, and none is lost for ever. What a pass sends again was sent before the last one began.
+/// The passes of a worker over what its server owes. A message stays due until it was acknowledged,
+/// so a pass over all comes to it again, and none is lost for ever. What a pass sends again was
+/// sent before the last one began.
 #[derive(Drop)]
 pub(crate) struct Passes {
     reach: Reach,
@@ -104,8 +108,8 @@ impl Passes {
         }
     }
 
-    /// Where a pass that begins now is to end. It looks at no place again that is known to owe nothing, so that the way
-    /// to the next one, which may be long, is gone once.
+    /// Where a pass that begins now is to end. It looks at no place again that is known to owe
+    /// nothing, so that the way to the next one, which may be long, is gone once.
     fn reached(&self) -> u64 {
         let end = self
             .sent
@@ -117,8 +121,8 @@ impl Passes {
         }
     }
 
-    /// Begins a pass, if the last one ended, something that was sent may still be owed and it is time. All was sent
-    /// before that place.
+    /// Begins a pass, if the last one ended, something that was sent may still be owed and it is
+    /// time. All was sent before that place.
     pub(crate) fn begin<R: Clock>(&mut self, rt: &R, sent: u64) {
         if self.next().is_some() || self.floor >= sent || !self.is_due(rt) {
             return;

@@ -2,7 +2,8 @@
 use std::thread;
 use std::time::{Clock, Duration};
 
-/// Turns without work after which a worker no longer just gives its processor away, but sleeps a millisecond, ..
+/// Turns without work after which a worker no longer just gives its processor away, but sleeps a
+/// millisecond, ..
 const YIELDS: u32 = 32;
 
 /// .. after which it sleeps four, ..
@@ -11,9 +12,9 @@ const SHORT_SLEEPS: u32 = 128;
 /// .. and after which it sleeps sixteen.
 const MIDDLE_SLEEPS: u32 = 256;
 
-/// Rests after so many turns without work, the longer the more. So what comes to a server that was busy just now is
-/// served at once, and to one that has done nothing for a second within 16 milliseconds, and a cluster that has nothing
-/// to do takes next to no time.
+/// Rests after so many turns without work, the longer the more. So what comes to a server that was
+/// busy just now is served at once, and to one that has done nothing for a second within 16
+/// milliseconds, and a cluster that has nothing to do takes next to no time.
 pub(crate) fn rest<R: Clock>(rt: &R, idle: u32) {
     if idle < YIELDS {
         thread::yield_now();

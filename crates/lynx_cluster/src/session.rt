@@ -6,9 +6,9 @@ use lynx_weave::ToldItem;
 use std::alloc::Global;
 use std::marker::Model;
 
-/// One client of a cluster, which keeps all that it was told. It is handed in again at the close of its cluster; what
-/// another cluster told it would not stand there. An answer takes a copy of its request and room for 16 results, a look
-/// a copy of what was found.
+/// One client of a cluster, which keeps all that it was told. It is handed in again at the close of
+/// its cluster; what another cluster told it would not stand there. An answer takes a copy of its
+/// request and room for 16 results, a look a copy of what was found.
 #[derive(Drop)]
 pub struct Session {
     number: u64,

@@ -17,9 +17,9 @@ use std::thread::Threads;
 use std::time::Clock;
 
 impl<K: Keeper + Drop, G: Gate + Drop> Cluster<K, G> {
-    /// Opens each server of the set over its keeper, in order, and starts a worker thread for each. The set is copied,
-    /// once more for each worker. Where it fails the keepers are dropped, what they stored stands, and no thread is
-    /// left.
+    /// Opens each server of the set over its keeper, in order, and starts a worker thread for each.
+    /// The set is copied, once more for each worker. Where it fails the keepers are dropped, what
+    /// they stored stands, and no thread is left.
     pub fn start<R: Threads + Wait + Clock + Copy + Send + 'static>(
         rt: R,
         alloc: Global,

@@ -23,8 +23,8 @@ pub(crate) struct Taken<K: Keeper> {
     pub(crate) keepers: Vec<K>,
 }
 
-/// The state of that server, out of its lock. None where another still has a part in it, it is another server's or
-/// another set's, or it stopped.
+/// The state of that server, out of its lock. None where another still has a part in it, it is
+/// another server's or another set's, or it stopped.
 fn take_back<K: Keeper + Drop>(
     set: &ChainSet,
     server: ServerId,
@@ -88,7 +88,8 @@ pub(crate) fn take_all<K: Keeper + Drop>(
 
 /// What each session was told, in order.
 pub(crate) fn told_of(alloc: Global, sessions: Vec<Session>) -> Result<Vec<Vec<ToldItem>>, Memory>
-    ensures { IfOk result (λ told. told_in told.items ≡ map (λ session. session.told) sessions.items) }
+    ensures { IfOk result
+        (λ told. told_in told.items ≡ map (λ session. session.told) sessions.items) }
 {
     let mut told = Vec::new(alloc);
     for session in sessions {

@@ -1,4 +1,5 @@
-//! Workers: one thread for each server, which sends what the server owes and delivers what comes in.
+//! Workers: one thread for each server, which sends what the server owes and delivers what comes
+//! in.
 use crate::resending::{Passes, Reach};
 use crate::rest::rest;
 use crate::steps::{Arrived, Owed, Receipt, Steps};
@@ -19,8 +20,8 @@ const TURN_AGAIN: usize = 256;
 /// Rounds over all rings in which one turn takes parcels out of them, ..
 const TURN_ROUNDS: u32 = 4;
 
-/// .. and parcels that each round takes out of each ring, at most. Chains of one origin come by several rings, and what
-/// is far ahead of the others is held, or dropped where there is no room.
+/// .. and parcels that each round takes out of each ring, at most. Chains of one origin come by
+/// several rings, and what is far ahead of the others is held, or dropped where there is no room.
 const ROUND_PARCELS: usize = 16;
 
 /// The worker of one server: its steps, its ends of the rings, and how far it has sent.
@@ -39,7 +40,8 @@ pub struct Worker<S: Steps> {
     all: Passes,
 }
 
-/// Whether the ring to that server took the parcel. One that it didn't take is dropped: what it tells comes again.
+/// Whether the ring to that server took the parcel. One that it didn't take is dropped: what it
+/// tells comes again.
 fn offer(ends: &mut Ends, to: ServerId, parcel: Parcel) -> bool {
     match ends.sender(to) {
         Some(sender) => sender.offer(parcel).is_ok(),
@@ -109,7 +111,8 @@ impl<S: Steps> Worker<S> {
         }
     }
 
-    /// Sends what is owed and was not sent yet, up to the first message whose ring is full. Whether there was any.
+    /// Sends what is owed and was not sent yet, up to the first message whose ring is full. Whether
+    /// there was any.
     fn send(&mut self, owed: Owed) -> bool {
         let mut is_busy = false;
         for due in owed.dues {
@@ -140,7 +143,8 @@ impl<S: Steps> Worker<S> {
         has_first || has_all
     }
 
-    /// Puts what came from that server into the inbox. What there is no memory for stays in its ring.
+    /// Puts what came from that server into the inbox. What there is no memory for stays in its
+    /// ring.
     fn take_from(&mut self, from: ServerId) {
         let Some(receiver) = self.ends.receiver(from) else {
             return;
@@ -180,8 +184,8 @@ impl<S: Steps> Worker<S> {
         !self.inbox.is_empty()
     }
 
-    /// Tells the senders of these hops that they were done. A receipt whose ring is full is let go: the message comes
-    /// again.
+    /// Tells the senders of these hops that they were done. A receipt whose ring is full is let go:
+    /// the message comes again.
     fn acknowledge(&mut self, receipts: Vec<Receipt>) {
         for receipt in receipts {
             let parcel = Parcel::Done {
@@ -206,11 +210,12 @@ impl<S: Steps> Worker<S> {
         is_busy
     }
 
-    /// One turn. It sends again what is owed for a while, then what was not sent yet, then delivers what came in and wakes
-    /// what is held. The first 64 messages that are owed are sent again where the very first stays so for a millisecond,
-    /// or, as long as nothing is acknowledged, for a time that doubles; and all of them each
-    /// [`RESEND_MILLIS`](crate::RESEND_MILLIS). False where there was nothing to do. A turn has a bound: 64 messages sent
-    /// and 320 sent again, 64 parcels taken from each server, and 64 wakes before them and after each. Where there is
+    /// One turn. It sends again what is owed for a while, then what was not sent yet, then delivers
+    /// what came in and wakes what is held. The first 64 messages that are owed are sent again
+    /// where the very first stays so for a millisecond, or, as long as nothing is acknowledged, for
+    /// a time that doubles; and all of them each [`RESEND_MILLIS`](crate::RESEND_MILLIS). False
+    /// where there was nothing to do. A turn has a bound: 64 messages sent and 320 sent again, 64
+    /// parcels taken from each server, and 64 wakes before them and after each. Where there is
     /// nothing to do it takes the server's lock once.
     pub fn turn<R: Wait + Clock>(&mut self, rt: &R, alloc: Global) -> bool {
         let has_sent_again = self.send_again(rt, alloc);

@@ -69,7 +69,8 @@ fn start_next<
     }
 }
 
-/// A worker for each server. Where one can't be started, those that run are stopped, and have ended.
+/// A worker for each server. Where one can't be started, those that run are stopped, and have
+/// ended.
 pub(crate) fn start_all<
     K: Keeper + Send + Drop + 'static,
     G: Gate + Send + Sync + Drop + 'static,

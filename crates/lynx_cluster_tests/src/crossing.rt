@@ -41,8 +41,8 @@ impl Marks {
     }
 }
 
-/// Lets the first such step at server 1 go on once one is inside server 0, and the first at server 0 once one left server
-/// 1. So both are inside at once.
+/// Lets the first such step at server 1 go on once one is inside server 0, and the first at server
+/// 0 once one left server 1. So both are inside at once.
 #[derive(Drop)]
 pub struct Crossing<R: Clock> {
     rt: R,

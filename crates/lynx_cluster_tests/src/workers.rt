@@ -18,8 +18,8 @@ struct Turns {
     delivers_more: bool,
 }
 
-/// Turns of a server that owes three messages and of the one that they are for: what they answer, what was done and what
-/// is owed then.
+/// Turns of a server that owes three messages and of the one that they are for: what they answer,
+/// what was done and what is owed then.
 fn first_turns<R: Wait + Clock>(rt: &R, alloc: Global) -> Result<(Turns, u64, u64), Memory> {
     let (payer, payee) = (Board::owing(0b111), Board::owing(0));
     let (mut sender, mut receiver) = workers(alloc, &payer, &payee)?;
@@ -58,7 +58,8 @@ fn turn_both<R: Wait + Clock>(
     receiver.turn(rt, alloc);
 }
 
-/// Which messages of four were done first, where the receiver drops the first one, and which after four turns more.
+/// Which messages of four were done first, where the receiver drops the first one, and which after
+/// four turns more.
 fn done_around<R: Wait + Clock>(rt: &R, alloc: Global) -> Result<(u64, u64), Memory> {
     let (payer, payee) = (Board::owing(0b1111), Board::owing(0));
     payee.dropping.store(0b1, Ordering::SeqCst);
@@ -76,8 +77,8 @@ fn what_was_dropped_comes_again_soon(rt: HostRuntime) {
     assert!(rt; done_around(&rt, rt.alloc()) == Ok((0b1110, 0b1111)));
 }
 
-/// How often a message comes that is never acknowledged, in 200 turns, and how often it may: each 100 milliseconds twice,
-/// and eight times at the beginning.
+/// How often a message comes that is never acknowledged, in 200 turns, and how often it may: each
+/// 100 milliseconds twice, and eight times at the beginning.
 fn times_unheard<R: Wait + Clock>(rt: &R, alloc: Global) -> Result<(u64, u64), Memory> {
     let (payer, payee) = (Board::owing(0b1), Board::owing(0));
     payee.deaf.store(0b1, Ordering::SeqCst);

@@ -28,7 +28,8 @@ request_of (client, (number, (program, args))) =
 
 unfoldable pub request_at : Reader Request
 request_at =
-    made request_of (word_at then word_at then byte_below MAX_PROGRAMS then values_at MAX_PARAMETERS)
+    made request_of
+    (word_at then word_at then byte_below MAX_PROGRAMS then values_at MAX_PARAMETERS)
 
 unfoldable pub look_at : Reader Look
 look_at = made (λ f. record { chain = f.0; hop = f.1 }) (chain_at then byte_at)
@@ -50,8 +51,10 @@ abbrev pub answer_kinds : List (ℕ × Reader Answer)
 answer_kinds =
     (0, begun_at) ∷ (1, nothing answers.Clash) ∷ (2, nothing answers.UnknownProgram)
     ∷ (3, nothing answers.WrongOrigin) ∷ (4, nothing answers.ArgCount)
-    ∷ (5, nothing answers.WrongShard) ∷ (6, nothing answers.Full) ∷ (7, nothing answers.Busy) ∷ (8, refused_at)
-    ∷ (9, nothing answers.Stopped) ∷ (10, nothing answers.Memory) ∷ (11, nothing answers.OutsideRange) ∷ []
+    ∷ (5, nothing answers.WrongShard) ∷ (6, nothing answers.Full) ∷ (7, nothing answers.Busy)
+    ∷ (8, refused_at)
+    ∷ (9, nothing answers.Stopped) ∷ (10, nothing answers.Memory)
+    ∷ (11, nothing answers.OutsideRange) ∷ []
 
 unfoldable pub answer_at : Reader Answer
 answer_at = one_of answer_kinds
@@ -107,7 +110,8 @@ refused_entry_at =
     made refused_entry_of (request_at then stamp_at then byte_below MAX_ACTIONS then stamp_at)
 
 abbrev pub hop_entry_of : Message × (ℕ × List ℕ) → HopEntry
-hop_entry_of (message, (stamp, results)) = record { message = message; stamp = stamp; results = results }
+hop_entry_of (message, (stamp, results)) =
+    record { message = message; stamp = stamp; results = results }
 
 unfoldable pub hop_entry_at : Reader HopEntry
 hop_entry_at = made hop_entry_of (message_at then stamp_at then values_at MAX_ACTIONS)

@@ -91,7 +91,8 @@ GivesAll old (item ∷ items) new = (mid : Stream) × Gives old item mid × Give
 abbrev pub Run : Stream → List (List ℕ × List Item) → Stream → Type 0
 Run old [] new = new ≡ old
 Run old (step ∷ steps) new =
-    (mid : Stream) × GivesAll (record old { rest = old.rest ++ step.0 }) step.1 mid × Run mid steps new
+    (mid : Stream) × GivesAll (record old { rest = old.rest ++ step.0 }) step.1 mid
+    × Run mid steps new
 
 -- a feed that was pushed nothing
 abbrev pub empty : Stream

@@ -91,7 +91,8 @@ AreResultLists rs = (length rs ≤ MAX_HOPS) × AllByRecursion (AreValues MAX_AC
 
 abbrev pub IsRequest : Request → Type 0
 IsRequest r =
-    IsWord r.client × (IsWord r.number × ((r.program < MAX_PROGRAMS) × AreValues MAX_PARAMETERS r.args))
+    IsWord r.client
+    × (IsWord r.number × ((r.program < MAX_PROGRAMS) × AreValues MAX_PARAMETERS r.args))
 
 abbrev pub IsLook : Look → Type 0
 IsLook l = IsChain l.chain × (l.hop < 256)

@@ -30,7 +30,8 @@ pub fn append(item: &Item, out: &mut Vec<u8>)
     out[start..start + 4].copy_from_slice(&length.to_be_bytes());
 }
 
-/// Adds the form of an entry, as `append` adds that of the item that has it: no copy of the entry is made.
+/// Adds the form of an entry, as `append` adds that of the item that has it: no copy of the entry
+/// is made.
 #[tactic(auto, unfolding(crate::specs::Form::form, crate::specs::Form::length_bytes))]
 pub fn append_entry(entry: &Entry, out: &mut Vec<u8>)
     requires range { IsInRange (Item.Entry entry.now) }

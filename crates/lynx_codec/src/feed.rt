@@ -15,9 +15,10 @@ use std::marker::Model;
 
 /// Gives back the items of a stream of bytes that comes in pieces of any size.
 ///
-/// Contracts see a feed as the bytes that were pushed and not given back, and the fault that ended it. All calls
-/// together take time in proportion to the bytes that are pushed: an item is read when its last byte has come, and
-/// before that a call of [`Feed::next`] looks at five bytes at most.
+/// Contracts see a feed as the bytes that were pushed and not given back, and the fault that ended
+/// it. All calls together take time in proportion to the bytes that are pushed: an item is read
+/// when its last byte has come, and before that a call of [`Feed::next`] looks at five bytes at
+/// most.
 #[derive(Debug, Drop)]
 pub struct Feed {
     bytes: Vec<u8>,
@@ -50,7 +51,8 @@ impl Feed {
         }
     }
 
-    /// Adds a piece at the end of the stream. A feed that has failed takes it too, though it gives nothing any more.
+    /// Adds a piece at the end of the stream. A feed that has failed takes it too, though it gives
+    /// nothing any more.
     pub fn push(&mut self, piece: &[u8]) -> Result<(), Memory>
         ensures ok { OnOk result
             (self.new ≡ record self.old { rest = self.old.rest ++ piece.now }) }
@@ -61,8 +63,8 @@ impl Feed {
         Ok(())
     }
 
-    /// Takes the given bytes away where they are half of all or more: so all that is ever moved is no more than what
-    /// was given.
+    /// Takes the given bytes away where they are half of all or more: so all that is ever moved is
+    /// no more than what was given.
     fn forget_given(&mut self)
         ensures { self.new ≡ self.old }
     {
@@ -74,8 +76,9 @@ impl Feed {
 
     /// The next item of the stream. None where more bytes have to come.
     ///
-    /// BadTag comes as soon as the first byte of an item is known, BadLength as soon as its length is; the faults of
-    /// its fields come once its body is whole. Each of them ends the feed; want of memory doesn't.
+    /// BadTag comes as soon as the first byte of an item is known, BadLength as soon as its length
+    /// is; the faults of its fields come once its body is whole. Each of them ends the feed; want
+    /// of memory doesn't.
     pub fn next(&mut self, alloc: Global) -> Result<Option<Item>, DecodeFault>
         ensures given { IfOk result (λ given. IfSome given (λ item. Gives self.old item self.new)) }
         ensures waits { IfOk result (λ given. IfNone given (Waits self.old self.new)) }
@@ -123,8 +126,8 @@ impl Feed {
         &self.bytes[self.given..]
     }
 
-    /// Ends the stream, once all its items and its fault, if it has one, have been given: the fault that ended the
-    /// feed, or Short where an item has begun and isn't whole.
+    /// Ends the stream, once all its items and its fault, if it has one, have been given: the fault
+    /// that ended the feed, or Short where an item has begun and isn't whole.
     pub fn finish(self) -> Result<(), DecodeFault>
         requires { IfNone self.failed (front self.rest ≡ Ok None) }
         ensures { result ≡ end_of self.failed self.rest }

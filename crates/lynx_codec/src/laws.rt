@@ -15,14 +15,16 @@ pub fn no_form_begins_another()
         form a ++ x ≡ form b ++ y → (a ≡ b) × (x ≡ y) }
 {}
 
-/// What a feed has given of a stream, in whatever pieces it came, are the items whose forms, joined, begin the stream.
+/// What a feed has given of a stream, in whatever pieces it came, are the items whose forms,
+/// joined, begin the stream.
 pub fn given_forms_begin_the_stream()
     ensures { (steps : List (List ℕ × List Item)) (now : Stream) → Run empty steps now →
         AllByRecursion IsItem (given_of steps)
         × (pushed_of steps ≡ flat_map form (given_of steps) ++ now.rest) }
 {}
 
-/// It does not matter in which pieces a stream comes: the same items are given, and the same bytes are left.
+/// It does not matter in which pieces a stream comes: the same items are given, and the same bytes
+/// are left.
 pub fn pieces_do_not_matter()
     ensures { (ours theirs : List (List ℕ × List Item)) (x y : Stream) →
         Run empty ours x → Run empty theirs y → BeginsNoItem x.rest → BeginsNoItem y.rest →
@@ -30,8 +32,8 @@ pub fn pieces_do_not_matter()
         (given_of ours ≡ given_of theirs) × (x.rest ≡ y.rest) }
 {}
 
-/// A stream is the forms of some items, and then a rest at whose front no form stands, in one way at
-/// most.
+/// A stream is the forms of some items, and then a rest at whose front no form stands, in one way
+/// at most.
 pub fn a_stream_has_one_reading()
     ensures { (ours theirs : List Item) (x y : List ℕ) →
         AllByRecursion IsItem ours → AllByRecursion IsItem theirs →
@@ -39,8 +41,8 @@ pub fn a_stream_has_one_reading()
         flat_map form ours ++ x ≡ flat_map form theirs ++ y → (ours ≡ theirs) × (x ≡ y) }
 {}
 
-/// What stands at the front of some bytes is an item, and behind it the rest, exactly where the bytes are its form and
-/// the rest: so each item is read from its form, and from nothing else.
+/// What stands at the front of some bytes is an item, and behind it the rest, exactly where the
+/// bytes are its form and the rest: so each item is read from its form, and from nothing else.
 pub fn items_are_read_from_their_forms()
     ensures { (bytes : List ℕ) (item : Item) (rest : List ℕ) → AreBytes bytes →
         (front bytes ≡ Ok (Some (item, rest))) ↔ (IsItem item × (bytes ≡ form item ++ rest)) }

@@ -1,5 +1,5 @@
-//! The byte forms of all that is kept or sent, and the feed that gives the items of a stream of bytes
-//! back.
+//! The byte forms of all that is kept or sent, and the feed that gives the items of a stream of
+//! bytes back.
 #![tactic(auto)]
 
 pub use encoding::{append, append_entry, encode};

@@ -187,7 +187,8 @@ fn read_fields(alloc: Global, tag: Tag, body: &mut Body<'_>) -> Result<Item, Dec
     })
 }
 
-/// The item that a whole body is, behind its tag. BadLength also where bytes are left behind the last field.
+/// The item that a whole body is, behind its tag. BadLength also where bytes are left behind the
+/// last field.
 #[tactic(auto, unfolding(crate::specs::Bodies::body_at))]
 pub fn read_body(alloc: Global, tag: Tag, bytes: &[u8]) -> Result<Item, DecodeFault>
     ensures { Answers result (body_at tag bytes.now) }

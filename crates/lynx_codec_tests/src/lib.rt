@@ -1,5 +1,5 @@
-//! Tests of byte forms: worked forms, least and greatest fields, faults, streams, and a slow reading of the rules beside
-//! the feed.
+//! Tests of byte forms: worked forms, least and greatest fields, faults, streams, and a slow
+//! reading of the rules beside the feed.
 #![tactic(auto)]
 
 #[cfg(test)]

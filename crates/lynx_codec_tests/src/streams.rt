@@ -21,7 +21,8 @@ fn take_all(
     Ok(())
 }
 
-/// Whether a stream that comes in pieces of that size gives items whose forms, joined, are the stream.
+/// Whether a stream that comes in pieces of that size gives items whose forms, joined, are the
+/// stream.
 fn is_given_whole(alloc: Global, stream: &[u8], size: u8) -> Result<bool, DecodeFault> {
     let mut feed = Feed::new(alloc);
     let mut forms = Vec::new(alloc);

@@ -6,7 +6,8 @@ use crate::slow::{Slow, read_slowly};
 use lynx_codec::{DecodeFault, Feed};
 use std::alloc::Global;
 
-/// How long the form is that the feed gives, 0 where it isn't what stands at the front of the bytes.
+/// How long the form is that the feed gives, 0 where it isn't what stands at the front of the
+/// bytes.
 fn front(alloc: Global, feed: &mut Feed, bytes: &[u8]) -> Result<Option<usize>, DecodeFault> {
     match next(alloc, feed)? {
         None => Ok(None),

@@ -47,7 +47,9 @@ pub record ChangePlaces (set : Set) (first second : Act) (db : Database) : Type 
 
 -- two databases hold the same in each cell that is touched
 abbrev pub AgreeOn : List Touch → Database → Database → Type 0
-AgreeOn touches left right = All (λ touch. value_at left touch.table touch.key ≡ value_at right touch.table touch.key) touches
+AgreeOn touches left right =
+    All (λ touch. value_at left touch.table touch.key ≡ value_at right touch.table touch.key)
+    touches
 
 -- the cell of a touch: its table and its key
 abbrev pub cell_of : Touch → ℕ × ℕ

@@ -12,7 +12,8 @@ use Rattle.lynx_draw.specs.Nodes.{drawn_hops}
 
 -- the parameters of a program
 abbrev pub parameters_of : Set → ℕ → List (List ℕ)
-parameters_of set program = option_map_or (λ found. take found.parameters found.names) (program_at set program) []
+parameters_of set program =
+    option_map_or (λ found. take found.parameters found.names) (program_at set program) []
 
 -- the range of a parameter, if it has one
 abbrev pub range_text : Option Interval → List ℕ
@@ -22,21 +23,29 @@ range_text (Some interval) = codes ":" ++ interval_word interval
 -- parameters from a place on, each with its range
 abbrev pub parameters_text : List ParameterRange → ℕ → List (List ℕ) → List ℕ
 parameters_text ranges place [] = []
-parameters_text ranges place (name ∷ names) = 32 ∷ name ++ range_text (range_of ranges place) ++ parameters_text ranges (place + 1) names
+parameters_text ranges place (name ∷ names) =
+    32 ∷ name ++ range_text (range_of ranges place) ++ parameters_text ranges (place + 1) names
 
 -- what stands over it: its name and its parameters, or that it is drawn again
 abbrev pub first_label : Set → ℕ → List ℕ
 first_label set program =
-    codes "    label=\"" ++ program_name set program ++ parameters_text (ranges_of set program) 0 (parameters_of set program) ++ codes "\";\n"
+    codes "    label=\"" ++ program_name set program
+    ++ parameters_text (ranges_of set program) 0 (parameters_of set program) ++ codes "\";\n"
 
 abbrev pub second_label : Set → ℕ → List ℕ
-second_label set program = codes "    style=\"dashed,rounded\"; label=\"" ++ program_name set program ++ codes " (again)\";\n"
+second_label set program =
+    codes "    style=\"dashed,rounded\"; label=\"" ++ program_name set program
+    ++ codes " (again)\";\n"
 
 abbrev pub cluster_label : Set → ℕ → Bool → List ℕ
-cluster_label set program again = if again then second_label set program else first_label set program
+cluster_label set program again =
+    if again then second_label set program else first_label set program
 
 abbrev pub cluster_name : Set → ℕ → Bool → List ℕ
-cluster_name set program again = codes "  subgraph \"cluster " ++ program_name set program ++ again_word again ++ codes "\" {\n"
+cluster_name set program again =
+    codes "  subgraph \"cluster " ++ program_name set program ++ again_word again ++ codes "\" {\n"
 
 abbrev pub cluster_text : Set → ℕ → Bool → List ℕ
-cluster_text set program again = cluster_name set program again ++ cluster_label set program again ++ drawn_hops set program again ++ codes "  }\n"
+cluster_text set program again =
+    cluster_name set program again ++ cluster_label set program again
+    ++ drawn_hops set program again ++ codes "  }\n"

@@ -3,8 +3,8 @@
 ghost use Rattle.std.specs.Prelude.{◌≡◌};
 ghost use Rattle.lynx_draw.specs.Colours.{colour_at};
 
-/// The colour of that number: light enough to be written on, and told apart by those who see few colours. There are 16,
-/// and after the last comes the first again.
+/// The colour of that number: light enough to be written on, and told apart by those who see few
+/// colours. There are 16, and after the last comes the first again.
 pub fn colour_at(number: usize) -> &'static [u8]
     ensures { result.now ≡ colour_at number }
 {

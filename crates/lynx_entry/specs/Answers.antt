@@ -1,4 +1,5 @@
--- Answers that say nothing of a request or a message, but that memory was wanting; and the results that answers tell.
+-- Answers that say nothing of a request or a message, but that memory was wanting; and the results
+-- that answers tell.
 use Rattle.std.specs.Prelude.{◌≤◌, ℕ, Bool, true, false, List, [], length}
 use Rattle.lynx_names.specs.declared.limits.TheConstants.{MAX_ACTIONS}
 use Rattle.lynx_entry.specs.declared.answer.Answer.{Answer}
@@ -23,7 +24,8 @@ results_of given = []
 
 -- the same answer with these results, where a chain began
 abbrev pub with_results : Answer → List ℕ → Answer
-with_results (answers.Begun chain stamp results was_there) others = answers.Begun chain stamp others was_there
+with_results (answers.Begun chain stamp results was_there) others =
+    answers.Begun chain stamp others was_there
 with_results given others = given
 
 -- it tells few results: as many as a hop has actions, at most

@@ -8,7 +8,8 @@ use std::alloc::Global;
 /// What a begin is answered.
 #[derive(Debug, PartialEq, Eq, Drop)]
 pub enum Answer {
-    /// The chain began; its hop 0 gave these results. `again`: it began earlier, by this very request.
+    /// The chain began; its hop 0 gave these results. `again`: it began earlier, by this very
+    /// request.
     Begun {
         chain: ChainId,
         stamp: Stamp,
@@ -123,7 +124,8 @@ pub enum Delivered {
     },
     /// It is not this hop's turn; the message is held.
     Held,
-    /// It is not this hop's turn, and there is no room to hold the message; it may be delivered again.
+    /// It is not this hop's turn, and there is no room to hold the message; it may be delivered
+    /// again.
     Dropped,
     /// Nobody of this set can have sent it.
     Malformed,

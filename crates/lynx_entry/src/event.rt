@@ -5,7 +5,8 @@ use lynx_names::{ChainId, ServerId, Stamp};
 /// What happens to a world.
 #[derive(Debug, Drop)]
 pub enum Event {
-    /// A client asks a server to begin a chain. `seen` is the greatest stamp that its session was told.
+    /// A client asks a server to begin a chain. `seen` is the greatest stamp that its session was
+    /// told.
     Begin {
         server: ServerId,
         request: Request,

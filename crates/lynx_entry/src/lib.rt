@@ -1,5 +1,5 @@
-//! What a server keeps and sends: requests, answers, entries and messages; and the events of a world with what
-//! they come to.
+//! What a server keeps and sends: requests, answers, entries and messages; and the events of a
+//! world with what they come to.
 #![tactic(auto)]
 
 pub use answer::{Answer, Delivered};

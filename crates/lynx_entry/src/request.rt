@@ -1,8 +1,8 @@
 use lynx_names::{ClientId, Memory, ProgramId, TryCopy, Values};
 use std::alloc::Global;
 
-/// What a client asks for: a chain of that program with these arguments. The client numbers its requests; one
-/// that comes again with the same number is answered from the record.
+/// What a client asks for: a chain of that program with these arguments. The client numbers its
+/// requests; one that comes again with the same number is answered from the record.
 #[derive(Debug, PartialEq, Eq, Drop)]
 pub struct Request {
     pub client: ClientId,

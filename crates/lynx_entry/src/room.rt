@@ -8,8 +8,8 @@ use lynx_names::limits::MAX_ACTIONS;
 use lynx_names::{Memory, Values};
 use std::alloc::Global;
 
-/// Room for a copy of one answer, made before the answer is known: whoever has to note what a server answers needs no
-/// memory once it has answered.
+/// Room for a copy of one answer, made before the answer is known: whoever has to note what a
+/// server answers needs no memory once it has answered.
 #[derive(Debug, Drop)]
 pub struct AnswerRoom {
     results: Vec<u64>,

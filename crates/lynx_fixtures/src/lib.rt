@@ -1,5 +1,5 @@
-//! What tests of several crates use: worked set texts and a run, parts of which requests, messages and entries are made,
-//! and a writer that fails.
+//! What tests of several crates use: worked set texts and a run, parts of which requests, messages
+//! and entries are made, and a writer that fails.
 #![tactic(auto)]
 
 pub mod cells;

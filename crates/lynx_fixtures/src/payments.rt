@@ -1,4 +1,5 @@
-//! The parts of the payment's run: a seed of 100, and a payment of 30 that leaves server 0 for server 1.
+//! The parts of the payment's run: a seed of 100, and a payment of 30 that leaves server 0 for
+//! server 1.
 use crate::parts::{
     AnswerParts, BegunParts, DeliveredParts, EntryParts, HopParts, MessageParts, RequestParts,
 };

@@ -32,10 +32,15 @@ pub record MayCollide (left right : Reach) : Type 0 where
   pub kinds_collide : IsTrue (not (commute left.kind right.kind))
 
 -- two hops at one server, some reach of one of which may collide with some reach of the other
-pub record MayConflict (set : Set) (left_program left_hop right_program right_hop : ℕ) : Type 0 where
+pub record MayConflict (set : Set) (left_program left_hop right_program right_hop : ℕ) : Type
+    0 where
   pub same_server : server_at set left_program left_hop ≡ server_at set right_program right_hop
-  pub reaches_may_collide : Any (λ left. Any (λ right. MayCollide left right) (reaches_of set right_program right_hop)) (reaches_of set left_program left_hop)
+  pub reaches_may_collide : Any
+      (λ left. Any (λ right. MayCollide left right) (reaches_of set right_program right_hop))
+      (reaches_of set left_program left_hop)
 
 -- each touch of the hop is of a key that its server keeps
 abbrev pub KeysLieAtServer : Set → ℕ → ℕ → List ℕ → Type 0
-KeysLieAtServer set program hop args = All (λ touch. server_at set program hop ≡ Some (server_of set.shards touch.table touch.key)) (touches_of set program hop args)
+KeysLieAtServer set program hop args =
+    All (λ touch. server_at set program hop ≡ Some (server_of set.shards touch.table touch.key))
+    (touches_of set program hop args)

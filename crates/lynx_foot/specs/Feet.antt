@@ -23,7 +23,8 @@ kind_of Max = Raising
 -- the foot of an action: `let` and `need` have none
 abbrev pub foot_of : Action → Option Foot
 foot_of (Get table key) = Some (record { table = table; key = key; kind = Getting })
-foot_of (Update update table key value) = Some (record { table = table; key = key; kind = kind_of update })
+foot_of (Update update table key value) =
+    Some (record { table = table; key = key; kind = kind_of update })
 foot_of (Let left operator right) = None
 foot_of (Need left relation right) = None
 

@@ -9,7 +9,8 @@ use Rattle.lynx_foot.specs.Kinds.{commute}
 
 -- whether two touches collide
 abbrev pub collide : Touch → Touch → Bool
-collide left right = left.table == right.table && left.key == right.key && not (commute left.kind right.kind)
+collide left right =
+    left.table == right.table && left.key == right.key && not (commute left.kind right.kind)
 
 -- whether some two touches of the lists collide
 abbrev pub some_collide : List Touch → List Touch → Bool
@@ -22,8 +23,10 @@ may_meet left right = true
 
 -- whether two reaches may collide
 abbrev pub may_collide : Reach → Reach → Bool
-may_collide left right = left.table == right.table && may_meet left.keys right.keys && not (commute left.kind right.kind)
+may_collide left right =
+    left.table == right.table && may_meet left.keys right.keys && not (commute left.kind right.kind)
 
 -- whether some two reaches of the lists may collide
 abbrev pub some_may_collide : List Reach → List Reach → Bool
-some_may_collide lefts rights = list_any (λ left. list_any (λ right. may_collide left right) rights) lefts
+some_may_collide lefts rights =
+    list_any (λ left. list_any (λ right. may_collide left right) rights) lefts

@@ -41,8 +41,8 @@ fn any_collide(lefts: &[Action], left_args: &[u64], rights: &[Action], right_arg
         .any(|left| collides_with_any(left, rights, right_args))
 }
 
-/// Whether the two hops conflict with these arguments of their chains: some cell is touched by both, in kinds
-/// that don't commute. A hop may be asked with itself. It takes no memory.
+/// Whether the two hops conflict with these arguments of their chains: some cell is touched by
+/// both, in kinds that don't commute. A hop may be asked with itself. It takes no memory.
 pub fn conflict(
     set: &ChainSet,
     left_program: ProgramId,

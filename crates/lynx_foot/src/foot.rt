@@ -6,7 +6,8 @@ use lynx_names::{Memory, ProgramId, TableId};
 use lynx_set::{Action, ChainSet, Hop, Key};
 use std::alloc::Global;
 
-/// What one action of a program does: the table, the key as the program's text has it, and the kind.
+/// What one action of a program does: the table, the key as the program's text has it, and the
+/// kind.
 #[derive(Clone, Copy, Debug, PartialEq, Eq)]
 pub struct Foot {
     pub table: TableId,
@@ -43,7 +44,8 @@ pub(crate) fn actions_of(set: &ChainSet, program: ProgramId, hop: usize) -> &[Ac
     }
 }
 
-/// The feet of a hop, one for each `get` and each update, in order. A hop that the set hasn't has none.
+/// The feet of a hop, one for each `get` and each update, in order. A hop that the set hasn't has
+/// none.
 pub fn footprint(
     alloc: Global,
     set: &ChainSet,

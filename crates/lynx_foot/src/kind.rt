@@ -2,7 +2,8 @@ ghost use Rattle.std.specs.Prelude.{◌≡◌};
 
 use lynx_set::Update;
 
-/// What an action does to its cell: `get` is Getting, `set` is Setting, `add` and `sub` are Adding, `max` is Raising.
+/// What an action does to its cell: `get` is Getting, `set` is Setting, `add` and `sub` are Adding,
+/// `max` is Raising.
 #[derive(Clone, Copy, Debug, PartialEq, Eq)]
 pub enum Kind {
     Getting,

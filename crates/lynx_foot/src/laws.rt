@@ -1,5 +1,5 @@
-//! The laws of conflict, each the contract of a function that does nothing. `proofs/ConflictLaws.antt` has the
-//! lemmas.
+//! The laws of conflict, each the contract of a function that does nothing.
+//! `proofs/ConflictLaws.antt` has the lemmas.
 ghost use Rattle.std.specs.Prelude.{◌≡◌, ℕ, List, true};
 ghost use Rattle.lynx_set.specs.Set.{Set};
 ghost use Rattle.lynx_set.specs.Intervals.{are_in_range};
@@ -20,8 +20,8 @@ pub fn may_conflict_needs_no_order()
         → MayConflict set right_program right_hop left_program left_hop }
 {}
 
-/// Where the arguments of two hops lie in their ranges, and the keys at the hops' servers, hops that conflict may
-/// conflict.
+/// Where the arguments of two hops lie in their ranges, and the keys at the hops' servers, hops
+/// that conflict may conflict.
 pub fn hops_that_conflict_may_conflict()
     ensures { (set : Set) (left_program left_hop right_program right_hop : ℕ)
         (left_args right_args : List ℕ)

@@ -1,4 +1,5 @@
-//! Which cells the hops of chain programs touch and how, and which two hops conflict or may conflict.
+//! Which cells the hops of chain programs touch and how, and which two hops conflict or may
+//! conflict.
 #![tactic(auto)]
 
 pub use collision::{conflict, touches_collide};

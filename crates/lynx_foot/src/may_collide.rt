@@ -29,7 +29,8 @@ pub fn reaches_may_collide(left: Reach, right: Reach) -> bool
         && !left.kind.commutes(right.kind)
 }
 
-/// Whether some action, of a program whose parameters have these ranges, may collide with the reach.
+/// Whether some action, of a program whose parameters have these ranges, may collide with the
+/// reach.
 fn may_collide_with_any(left: Reach, actions: &[Action], ranges: &[ParameterRange]) -> bool
     ensures { result ≡ list_any (λ right. may_collide left right) (map (reach_of ranges.now)
         (filter_map foot_of actions.now)) }
@@ -59,9 +60,9 @@ fn any_may_collide(
         .any(|left| may_collide_with_any(left, rights, right_ranges))
 }
 
-/// Whether the two hops may conflict: they are at one server, and some reach of each is into one table, with keys that
-/// may meet and kinds that don't commute. A literal is one key, a parameter those of its range, all where it has none. A
-/// hop may be asked with itself. It takes no memory.
+/// Whether the two hops may conflict: they are at one server, and some reach of each is into one
+/// table, with keys that may meet and kinds that don't commute. A literal is one key, a parameter
+/// those of its range, all where it has none. A hop may be asked with itself. It takes no memory.
 pub fn may_conflict(
     set: &ChainSet,
     left_program: ProgramId,

@@ -7,8 +7,8 @@ use lynx_names::{Memory, ProgramId, TableId};
 use lynx_set::{ChainSet, Interval, Key, ParameterRange, range_of};
 use std::alloc::Global;
 
-/// What one action of a program may do: the table, the keys that its key may be, None where it may be any, and the
-/// kind.
+/// What one action of a program may do: the table, the keys that its key may be, None where it may
+/// be any, and the kind.
 #[derive(Clone, Copy, Debug)]
 pub struct Reach {
     pub table: TableId,

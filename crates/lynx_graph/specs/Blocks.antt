@@ -29,11 +29,12 @@ pub record HasCome (set : Set) (place : Place) (program last : ℕ) : Type 0 whe
   pub own : server_at set program hop ≡ Some server
   pub there : server_at set place.program place.hop ≡ Some server
 
--- One: left by the hop that it was entered at, or by a later one. Two: the second chain, by the hop that it is left
--- by, has been at the server where the first was entered
+-- One: left by the hop that it was entered at, or by a later one. Two: the second chain, by the hop
+-- that it is left by, has been at the server where the first was entered
 abbrev pub IsForward : Set → Block → Type 0
 IsForward set (One program entered left) = entered ≤ left
-IsForward set (Two first entered second left) = HasCome set (record { program = first; hop = entered }) second left
+IsForward set (Two first entered second left) =
+    HasCome set (record { program = first; hop = entered }) second left
 
 -- the places may conflict, and their programs are of different origins
 pub record Meets (set : Set) (left right : Place) : Type 0 where
@@ -43,13 +44,15 @@ pub record Meets (set : Set) (left right : Place) : Type 0 where
 -- the block meets the next, each of the rest the one after it, and the last of them the first
 abbrev pub MeetsAround : Set → Block → Block → List Block → Type 0
 MeetsAround set first block [] = Meets set (exit_of block) (entrance_of first)
-MeetsAround set first block (next ∷ rest) = Meets set (exit_of block) (entrance_of next) × MeetsAround set first next rest
+MeetsAround set first block (next ∷ rest) =
+    Meets set (exit_of block) (entrance_of next) × MeetsAround set first next rest
 
 -- at least two blocks, each of which meets the next, and the last the first
 abbrev pub IsBlockWalk : Set → List Block → Type 0
 IsBlockWalk set [] = ⊥
 IsBlockWalk set (only ∷ []) = ⊥
-IsBlockWalk set (first ∷ second ∷ rest) = All (IsBlock set) (first ∷ second ∷ rest) × MeetsAround set first first (second ∷ rest)
+IsBlockWalk set (first ∷ second ∷ rest) =
+    All (IsBlock set) (first ∷ second ∷ rest) × MeetsAround set first first (second ∷ rest)
 
 -- some block isn't forward
 abbrev pub IsOffendingBlockWalk : Set → List Block → Type 0

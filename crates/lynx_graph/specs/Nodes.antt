@@ -14,7 +14,9 @@ use Rattle.lynx_graph.specs.Tests.{joins, same_server}
 
 -- the hops of a program
 abbrev pub places_in : Set → ℕ → List Place
-places_in set program = map (λ hop. record { program = program; hop = hop }) (range_with_len 0 (option_map_or (λ known. length known.hops) (program_at set program) 0))
+places_in set program =
+    map (λ hop. record { program = program; hop = hop })
+    (range_with_len 0 (option_map_or (λ known. length known.hops) (program_at set program) 0))
 
 -- all hops, by program and then by number
 abbrev pub places_of : Set → List Place
@@ -22,11 +24,14 @@ places_of set = flat_map (places_in set) (range_with_len 0 (length set.programs)
 
 -- what is made of those that pass the test, each with its number
 abbrev pub found : {X Y : Type 0} → (Y → Bool) → (ℕ × Y → X) → ℕ → List Y → List X
-found test make first all = map make (filter (λ numbered. test numbered.1) (enumerate_from first all))
+found test make first all =
+    map make (filter (λ numbered. test numbered.1) (enumerate_from first all))
 
 -- the hops of the same program
 abbrev pub exits_of : List Place → Place → List Exit
-exits_of places place = found (λ other. other.program == place.program) (λ numbered. record { hop = numbered.1.hop; node = numbered.0 }) 0 places
+exits_of places place =
+    found (λ other. other.program == place.program)
+    (λ numbered. record { hop = numbered.1.hop; node = numbered.0 }) 0 places
 
 -- the hops with which the place may conflict
 abbrev pub neighbours_of : Set → List Place → Place → List ℕ
@@ -56,10 +61,13 @@ sites_of set = map (site_of set) (places_of set)
 
 -- whether two hops may conflict, and the surroundings of a hop, told from such
 abbrev pub meet : Site → Site → Bool
-meet left right = same_server left.server right.server && some_may_collide left.reaches right.reaches
+meet left right =
+    same_server left.server right.server && some_may_collide left.reaches right.reaches
 
 abbrev pub exits_among : List Site → Place → List Exit
-exits_among sites place = found (λ other. other.place.program == place.program) (λ numbered. record { hop = numbered.1.place.hop; node = numbered.0 }) 0 sites
+exits_among sites place =
+    found (λ other. other.place.program == place.program)
+    (λ numbered. record { hop = numbered.1.place.hop; node = numbered.0 }) 0 sites
 
 abbrev pub neighbours_among : List Site → Site → List ℕ
 neighbours_among sites site = found (meet site) (λ numbered. numbered.0) 0 sites

@@ -134,9 +134,9 @@ fn block_offends(set: &ChainSet, walk: &[Block]) -> bool
     is_block_walk(set, walk) && !some_is_no_block(set, walk) && some_is_backward(set, walk)
 }
 
-/// Whether the list is a walk of blocks that offends: of two blocks or more, each meets the next and the last the first,
-/// at hops that may conflict and of programs of different origins; each is of one chain, or of two of one origin; and
-/// some block isn't forward. It takes no memory.
+/// Whether the list is a walk of blocks that offends: of two blocks or more, each meets the next
+/// and the last the first, at hops that may conflict and of programs of different origins; each is
+/// of one chain, or of two of one origin; and some block isn't forward. It takes no memory.
 pub fn blocks_hold(set: &ChainSet, walk: &BlockWalk) -> bool
     ensures { IsTrue result ↔ IsOffendingBlockWalk set.now walk.now }
 {

@@ -8,7 +8,8 @@ use crate::visit::{Visit, Walk};
 use lynx_names::ServerId;
 use lynx_set::ChainSet;
 
-/// Whether the hop by which the visit is left may conflict with the hop at which the next is entered.
+/// Whether the hop by which the visit is left may conflict with the hop at which the next is
+/// entered.
 fn joins_next(set: &ChainSet, visit: &Visit, next: &Visit) -> bool
     ensures { result ≡ joins_next set.now visit.now next.now }
 {
@@ -86,9 +87,9 @@ fn offends(set: &ChainSet, walk: &[Visit]) -> bool
     is_closed(set, walk) && some_crosses(walk) && leaves_origin(set, walk)
 }
 
-/// Whether the walk is closed and offends: of two visits or more, each joins the next and the last the first,
-/// some visit is left by another hop than it was entered at, and two are of programs of different origins. It
-/// takes no memory.
+/// Whether the walk is closed and offends: of two visits or more, each joins the next and the last
+/// the first, some visit is left by another hop than it was entered at, and two are of programs of
+/// different origins. It takes no memory.
 pub fn walk_holds(set: &ChainSet, walk: &Walk) -> bool
     ensures { IsTrue result ↔ IsOffending set.now walk.now }
 {

@@ -1,5 +1,5 @@
-//! The hops of a set as a graph: for each hop, the hops by which its program may be left, and those with which it
-//! may conflict.
+//! The hops of a set as a graph: for each hop, the hops by which its program may be left, and those
+//! with which it may conflict.
 ghost use Rattle.std.specs.Prelude.{◌≡◌, ◌<◌, ◌++◌, IfOk, OnOk, map};
 ghost use Rattle.lynx_names.specs.declared.limits.TheConstants.{MAX_PROGRAMS};
 ghost use Rattle.lynx_graph.specs.Nodes.{places_in, places_of, exits_among, neighbours_among, node_among, nodes_of};
@@ -17,7 +17,8 @@ pub struct Exit {
     pub node: usize,
 }
 
-/// A hop with its surroundings. Nodes are named by their places in the list of nodes, in rising order.
+/// A hop with its surroundings. Nodes are named by their places in the list of nodes, in rising
+/// order.
 #[derive(Debug, Drop)]
 pub struct Node {
     pub place: Place,

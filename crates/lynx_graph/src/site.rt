@@ -1,4 +1,5 @@
-//! The hops of a set with their reaches, each made once, so that each two can be asked whether they may conflict.
+//! The hops of a set with their reaches, each made once, so that each two can be asked whether they
+//! may conflict.
 ghost use Rattle.std.specs.Prelude.{◌≡◌, IfOk};
 ghost use Rattle.std.specs.List.{list_any};
 ghost use Rattle.lynx_foot.specs.Tests.{may_collide, some_may_collide};

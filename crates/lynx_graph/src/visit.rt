@@ -1,6 +1,7 @@
 use lynx_names::{Items, ProgramId};
 
-/// A visit of a walk: an instance of the program that is entered at one hop and left by one, hops counted from 0.
+/// A visit of a walk: an instance of the program that is entered at one hop and left by one, hops
+/// counted from 0.
 #[derive(Clone, Copy, Debug, PartialEq, Eq)]
 pub struct Visit {
     pub program: ProgramId,

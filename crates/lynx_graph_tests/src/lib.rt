@@ -1,5 +1,5 @@
-//! Tests of the checker and of pictures: worked verdicts and walks, random sets beside a plain enumeration, a whole
-//! picture, and the largest sets.
+//! Tests of the checker and of pictures: worked verdicts and walks, random sets beside a plain
+//! enumeration, a whole picture, and the largest sets.
 #![tactic(auto)]
 
 #[cfg(test)]

@@ -67,7 +67,8 @@ fn comes_first(left: &[Visit], right: &[Visit]) -> bool {
     false
 }
 
-/// Makes the walk of that number the best one, if it offends and the best one so far does not come first.
+/// Makes the walk of that number the best one, if it offends and the best one so far does not come
+/// first.
 fn try_walk(
     alloc: Global,
     set: &ChainSet,
@@ -101,7 +102,8 @@ fn power(base: usize, exponent: usize) -> usize {
     power
 }
 
-/// Whether the least walk of so many visits is given. There is no answer where none of them offends.
+/// Whether the least walk of so many visits is given. There is no answer where none of them
+/// offends.
 fn is_least(
     alloc: Global,
     set: &ChainSet,
@@ -116,7 +118,8 @@ fn is_least(
     Ok(Some(least.as_slice() == given))
 }
 
-/// Whether the walk that is given is the one that comes of trying all, as far as these can be tried.
+/// Whether the walk that is given is the one that comes of trying all, as far as these can be
+/// tried.
 fn is_right(
     alloc: Global,
     set: &ChainSet,

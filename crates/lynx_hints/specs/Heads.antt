@@ -8,7 +8,8 @@ file_head name = codes "  " ++ name ++ codes ":"
 
 -- the same, and a line's number and a colon, where there is a line
 abbrev pub head_of : List ℕ → ℕ → List ℕ
-head_of name line = if line == 0 then file_head name else file_head name ++ decimal line ++ codes ":"
+head_of name line =
+    if line == 0 then file_head name else file_head name ++ decimal line ++ codes ":"
 
 -- what has to stand between a set and a script
 abbrev pub separator_told : List ℕ

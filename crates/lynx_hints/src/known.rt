@@ -1,4 +1,5 @@
-//! What the lines of a set before a fault declare. They are right, so they are read without judging them.
+//! What the lines of a set before a fault declare. They are right, so they are read without judging
+//! them.
 
 use crate::place::Place;
 use crate::verb::Verb;

@@ -1,5 +1,5 @@
-//! The lines behind the one that names a text's fault: the place, and in words what is wrong there and what was
-//! expected or is known. Cases test the words; the contracts say how the lines begin.
+//! The lines behind the one that names a text's fault: the place, and in words what is wrong there
+//! and what was expected or is known. Cases test the words; the contracts say how the lines begin.
 #![tactic(auto)]
 
 pub use hints::{Part, hint};

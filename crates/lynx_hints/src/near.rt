@@ -1,7 +1,7 @@
 //! Words that are nearly others.
 
-/// Whether a word is the other but for capitals and one slip: a letter too many, too few, wrong, or two that changed
-/// places.
+/// Whether a word is the other but for capitals and one slip: a letter too many, too few, wrong, or
+/// two that changed places.
 pub(crate) fn is_near(word: &[u8], other: &[u8]) -> bool {
     let shorter = word.len().min(other.len());
     let longer = word.len().max(other.len());

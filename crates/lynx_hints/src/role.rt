@@ -28,7 +28,8 @@ pub(crate) enum Role {
 }
 
 impl Role {
-    /// The role of the word of that place in a line of the verb, the interval of a range being two words.
+    /// The role of the word of that place in a line of the verb, the interval of a range being two
+    /// words.
     pub fn of(verb: Verb, place: usize) -> Role {
         match (verb, place) {
             (_, 0) => Role::Other,

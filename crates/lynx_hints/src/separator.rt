@@ -10,8 +10,8 @@ use lynx_lex::lines::next_line;
 use std::alloc::{AllocError, Global};
 use std::fmt::Write;
 
-/// Of an input without a line that is exactly `--`: the first line that looks like one, if any does, and what has to
-/// stand there; each line with two spaces before it.
+/// Of an input without a line that is exactly `--`: the first line that looks like one, if any
+/// does, and what has to stand there; each line with two spaces before it.
 pub fn separator_hint(alloc: Global, input: &[u8]) -> Result<String, AllocError>
     ensures told { IfOk result (λ lines. (before : List ℕ) × (string_bytes lines
         ≡ before ++ separator_told)) }

@@ -10,8 +10,8 @@ use std::fmt;
 /// As many bytes of a word are shown within a sentence, at most.
 const MAX_SHOWN: usize = 40;
 
-/// A word of a line, and where it begins. Within a sentence a long word is cut, and a byte that isn't printable ASCII
-/// is shown as `?`.
+/// A word of a line, and where it begins. Within a sentence a long word is cut, and a byte that
+/// isn't printable ASCII is shown as `?`.
 #[derive(Clone, Copy)]
 pub(crate) struct Word<'a> {
     pub text: &'a [u8],

@@ -56,7 +56,8 @@ is_met Differs left right = not (left == right)
 is_met AtLeast left right = nat_le right left
 is_met Above left right = nat_lt right left
 
--- What came of a hop: the results and the database after it, or the number of the first need that isn't met.
+-- What came of a hop: the results and the database after it, or the number of the first need that
+-- isn't met.
 abbrev pub HopOutcome : Type 0
 HopOutcome = Result (List ℕ × Database) ℕ
 
@@ -72,7 +73,9 @@ run args needs (Get table key ∷ actions) names db =
     let value = value_at db table (key_of args key) in
     after_results (value ∷ []) (run args needs actions (names ++ value ∷ []) db)
 run args needs (Update update table key value ∷ actions) names db =
-    run args needs actions names (with_value db table (key_of args key) (updated update (value_at db table (key_of args key)) (value_of names value)))
+    run args needs actions names
+    (with_value db table (key_of args key)
+    (updated update (value_at db table (key_of args key)) (value_of names value)))
 run args needs (Let left operator right ∷ actions) names db =
     let value = result_of operator (value_of names left) (value_of names right) in
     after_results (value ∷ []) (run args needs actions (names ++ value ∷ []) db)
@@ -81,7 +84,8 @@ run args needs (Need left relation right ∷ actions) names db =
     then run args (needs + 1) actions names db
     else Err needs
 
--- The meaning of a hop of a program, with the arguments of its chain and the results of the hops before it.
+-- The meaning of a hop of a program, with the arguments of its chain and the results of the hops
+-- before it.
 abbrev pub meaning : Set → ℕ → ℕ → List ℕ → List (List ℕ) → Database → HopOutcome
 meaning set program hop args earlier db =
     run args 0 (actions_at set program hop) (args ++ flat_map (λ results. results) earlier) db

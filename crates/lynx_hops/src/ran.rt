@@ -4,7 +4,8 @@ use lynx_cells::Changes;
 use lynx_names::Values;
 use std::marker::Model;
 
-/// A hop that ran: its results, and the changes that it makes. It must be spent, so that neither is lost.
+/// A hop that ran: its results, and the changes that it makes. It must be spent, so that neither is
+/// lost.
 #[derive(Debug)]
 pub struct Ran {
     results: Values,

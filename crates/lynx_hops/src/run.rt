@@ -33,7 +33,8 @@ impl From<Memory> for HopFault {
     }
 }
 
-/// A hop on its way: the values of the program's names so far, what came out, and the needs that were met.
+/// A hop on its way: the values of the program's names so far, what came out, and the needs that
+/// were met.
 #[derive(Drop)]
 struct Running<'a> {
     cells: &'a Cells,
@@ -183,9 +184,10 @@ fn run_actions(
     Ok(Ran::new(results, changes))
 }
 
-/// Runs a hop of a program with the arguments of its chain and the results of the hops before it, over the cells
-/// of its server, which stay as they are: the changes come with what ran. A hop that the set hasn't does nothing.
-/// The work is that of the hop's actions, each a look-up among the cells.
+/// Runs a hop of a program with the arguments of its chain and the results of the hops before it,
+/// over the cells of its server, which stay as they are: the changes come with what ran. A hop that
+/// the set hasn't does nothing. The work is that of the hop's actions, each a look-up among the
+/// cells.
 pub fn run_hop(
     alloc: Global,
     set: &ChainSet,

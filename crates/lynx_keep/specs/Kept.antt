@@ -15,7 +15,8 @@ pub record KeptState : Type 0 where
 
 -- What is said of a kind of keeper.
 pub record Terms (K : Type 0) : Type 1 where
-  -- the store has given back what it was given, so far; it may cease at any call, and no call tells it
+  -- the store has given back what it was given, so far; it may cease at any call, and no call tells
+  -- it
   pub sound : K → Type 0
   -- this is what is kept
   pub keeps : K → KeptState → Type 0
@@ -34,7 +35,8 @@ nothing_kept = record { entries = []; cells = empty_database }
 
 -- one more entry, with the changes of its cells
 abbrev pub with_entry : KeptState → Entry → ChangeSet → KeptState
-with_entry kept entry changes = record { entries = kept.entries ++ entry ∷ []; cells = applied changes kept.cells }
+with_entry kept entry changes =
+    record { entries = kept.entries ++ entry ∷ []; cells = applied changes kept.cells }
 
 -- a keeper in memory: what it is seen as is kept, and it never fails
 abbrev pub memory_terms : Terms KeptState
@@ -52,5 +54,7 @@ HasRisen old new = min (old + 1) (2 ^ 64 - 1) ≤ new
 -- what is kept is stored as the pair of its fields
 abbrev pub kept_code : Coded KeptState
 kept_code =
-    code_by (History × Database) (coded× (coded_list entry.the_row.coded) (map.code (coded× coded_ℕ coded_ℕ) coded_ℕ))
-    (λ kept. (kept.entries, kept.cells)) (λ pair. record { entries = pair.0; cells = pair.1 }) (λ _. refl)
+    code_by (History × Database)
+    (coded× (coded_list entry.the_row.coded) (map.code (coded× coded_ℕ coded_ℕ) coded_ℕ))
+    (λ kept. (kept.entries, kept.cells)) (λ pair. record { entries = pair.0; cells = pair.1 })
+    (λ _. refl)

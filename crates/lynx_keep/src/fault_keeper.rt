@@ -18,7 +18,8 @@ pub enum Planned {
     FailsAfter,
 }
 
-/// Keeps everything in memory, and answers one chosen commit by a fault: for tests of what is above.
+/// Keeps everything in memory, and answers one chosen commit by a fault: for tests of what is
+/// above.
 #[derive(Debug, Drop)]
 pub struct FaultKeeper {
     inner: MemoryKeeper,

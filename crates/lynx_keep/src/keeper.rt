@@ -16,17 +16,20 @@ pub struct Loaded {
 
 /// What keeps a server's entries, and the cells after them.
 pub trait Keeper {
-    // When the store can be believed, what is kept, what a stop leaves of it, and how often the store failed.
+    // When the store can be believed, what is kept, what a stop leaves of it, and how often the
+    // store failed.
     ghost terms: { Terms Self };
 
-    /// Keeps an entry, which has a byte form, and the changes of its cells, both or neither. A stop at any moment of
-    /// the call leaves what was kept, or that with the whole entry.
+    /// Keeps an entry, which has a byte form, and the changes of its cells, both or neither. A stop
+    /// at any moment of the call leaves what was kept, or that with the whole entry.
     fn commit(&mut self, alloc: Global, entry: &Entry, changes: &Changes) -> Result<(), KeepFault>
         requires range { IsEntryInRange entry.now }
         ensures sound { terms.sound self.new → terms.sound self.old }
-        ensures ok { terms.sound self.new → OnOk result ((before : KeptState) → terms.keeps self.old before
+        ensures ok { terms.sound self.new
+            → OnOk result ((before : KeptState) → terms.keeps self.old before
             → terms.keeps self.new (with_entry before entry.now changes.now)) }
-        ensures memory { terms.sound self.new → IsErrOf result KeepFault.Memory → (before : KeptState)
+        ensures memory { terms.sound self.new → IsErrOf result KeepFault.Memory
+            → (before : KeptState)
             → terms.keeps self.old before → terms.keeps self.new before }
         ensures stop { terms.sound self.new → (before : KeptState) → terms.keeps self.old before
             → terms.leaves self.new before (with_entry before entry.now changes.now) }
@@ -54,7 +57,8 @@ pub trait Keeper {
         ensures { result ≡ terms.counted self.now };
 
     // Between two calls a stop leaves what is kept.
-    ghost settled: { (keeper : Self) (kept : KeptState) → terms.sound keeper → terms.keeps keeper kept
+    ghost settled: { (keeper : Self) (kept : KeptState) → terms.sound keeper
+        → terms.keeps keeper kept
         → terms.leaves keeper kept kept };
 
     // What is left is one of more.

@@ -1,5 +1,5 @@
-//! Keepers: what outlasts a server. A keeper keeps a server's entries in order and the cells after them; one keeps
-//! them in memory, and one fails when a test asks for it.
+//! Keepers: what outlasts a server. A keeper keeps a server's entries in order and the cells after
+//! them; one keeps them in memory, and one fails when a test asks for it.
 #![tactic(auto)]
 
 pub use fault::KeepFault;

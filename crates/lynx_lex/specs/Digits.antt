@@ -17,7 +17,8 @@ starts_well (byte ∷ next ∷ bytes) = not (byte == 48)
 -- the number that a word spells
 abbrev pub read_number : List ℕ → Option ℕ
 read_number word =
-    if starts_well word && all_ascii_digits word && nat_lt (value_on 0 word) (2 ^ 64) then Some (value_on 0 word) else None
+    if starts_well word && all_ascii_digits word && nat_lt (value_on 0 word) (2 ^ 64) then Some
+    (value_on 0 word) else None
 
 -- whether a word can only be a number
 abbrev pub begins_with_digit : List ℕ → Bool

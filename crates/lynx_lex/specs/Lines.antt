@@ -16,7 +16,8 @@ is_space byte = byte == 32
 
 -- the first line without its line feed, and the text after it; none where there is no line feed
 abbrev pub next_line : List ℕ → Option (List ℕ × List ℕ)
-next_line text = option_map (λ place. (take place text, drop (place + 1) text)) (position is_feed text)
+next_line text =
+    option_map (λ place. (take place text, drop (place + 1) text)) (position is_feed text)
 
 -- a space before each word
 abbrev pub spaced : List (List ℕ) → List ℕ
@@ -59,7 +60,8 @@ AreWords words = (0 < length words) × (list_all is_word words ≡ true)
 -- the words of a line; none where a byte isn't printable or a word is empty
 abbrev pub words_in : List ℕ → Option (List (List ℕ))
 words_in line =
-    if list_all is_printable line && list_all is_filled (slice_split is_space line) then Some (slice_split is_space line) else None
+    if list_all is_printable line && list_all is_filled (slice_split is_space line) then Some
+    (slice_split is_space line) else None
 
 -- the bytes behind references
 abbrev pub texts : List (Bor (List ℕ)) → List (List ℕ)

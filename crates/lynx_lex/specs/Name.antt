@@ -17,7 +17,8 @@ pub record IsPadded (n : Inside) : Type 0 where
 
 -- the fields of a name of these bytes
 abbrev pub padded : List ℕ → Inside
-padded bytes = record { bytes = bytes ++ replicate (MAX_NAME_BYTES - length bytes) 0; length = length bytes }
+padded bytes =
+    record { bytes = bytes ++ replicate (MAX_NAME_BYTES - length bytes) 0; length = length bytes }
 
 -- the fields of a name follow from its bytes: the type of names asks for it, so it stands here
 pub padded-name_bytes : (n : Inside) → IsPadded n → padded (name_bytes n) ≡ n

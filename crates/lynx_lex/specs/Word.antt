@@ -14,4 +14,5 @@ is_name_byte byte = is_letter byte || (nat_le 48 byte && nat_le byte 57) || byte
 -- a letter, and at most 23 letters, digits and underscores
 abbrev pub is_name : List ℕ → Bool
 is_name [] = false
-is_name (first ∷ rest) = is_letter first && nat_lt (length rest) MAX_NAME_BYTES && list_all is_name_byte rest
+is_name (first ∷ rest) =
+    is_letter first && nat_lt (length rest) MAX_NAME_BYTES && list_all is_name_byte rest

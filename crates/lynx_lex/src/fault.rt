@@ -46,7 +46,8 @@ pub enum FaultKind {
     Memory,
 }
 
-/// The first fault of a text, and its line, counted from 1. The line of [`FaultKind::TooLong`] is 0.
+/// The first fault of a text, and its line, counted from 1. The line of [`FaultKind::TooLong`] is
+/// 0.
 #[derive(Clone, Copy, Debug, PartialEq, Eq, Error)]
 #[error("line {line}: {kind}")]
 pub struct TextFault {

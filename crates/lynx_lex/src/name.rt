@@ -8,8 +8,8 @@ use std::alloc::Global;
 use std::marker::Model;
 use std::{fmt, str};
 
-/// A name of a table, a program, a parameter or a bound value: 1 to 24 bytes, a letter a to z first, then
-/// letters, digits and underscores. It is printed as it is spelled.
+/// A name of a table, a program, a parameter or a bound value: 1 to 24 bytes, a letter a to z
+/// first, then letters, digits and underscores. It is printed as it is spelled.
 #[derive(Clone, Copy, Debug, PartialEq, Eq, Hash)]
 pub struct Name {
     /// The bytes, and zeros behind them.

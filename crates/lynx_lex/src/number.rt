@@ -3,7 +3,8 @@
 ghost use Rattle.std.specs.Prelude.{◌≡◌, ◌<◌, ◌^◌, ℕ, Some, IfSome, decimal};
 ghost use Rattle.lynx_lex.specs.Digits.{read_number, starts_well};
 
-/// The number that the word spells in decimal, below 2^64 and without sign or leading zeros, or None.
+/// The number that the word spells in decimal, below 2^64 and without sign or leading zeros, or
+/// None.
 pub fn number(word: &[u8]) -> Option<u64>
     ensures found { IfSome result (λ number. word.now ≡ decimal number) }
     ensures only { (number : ℕ) → number < 2 ^ 64 → word.now ≡ decimal number

@@ -10,9 +10,11 @@ use Rattle.lynx_link.specs.contracts.receiver.Receiver.{the_row as receiver_row}
 -- the ends come back with what the sender of that server was left as
 abbrev pub LendsSender : MutBor EndLists → ℕ → Option (MutBor Sending) → Fml
 LendsSender ends server lent =
-    LendsIf the_row sender_row ends lent (λ left. record ends.now { to = slice_set ends.now.to server left }) ends.now
+    LendsIf the_row sender_row ends lent
+    (λ left. record ends.now { to = slice_set ends.now.to server left }) ends.now
 
 -- the ends come back with what the receiver of that server was left as
 abbrev pub LendsReceiver : MutBor EndLists → ℕ → Option (MutBor Receiving) → Fml
 LendsReceiver ends server lent =
-    LendsIf the_row receiver_row ends lent (λ left. record ends.now { from = slice_set ends.now.from server left }) ends.now
+    LendsIf the_row receiver_row ends lent
+    (λ left. record ends.now { from = slice_set ends.now.from server left }) ends.now

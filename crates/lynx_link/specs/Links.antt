@@ -15,7 +15,8 @@ from_of [] server = []
 from_of (own ∷ rest) zero = own.from
 from_of (own ∷ rest) (suc server) = from_of rest server
 
--- a new ring leads from one server to the other: each has its own end of it, at the place of the other
+-- a new ring leads from one server to the other: each has its own end of it, at the place of the
+-- other
 pub record IsLinked (ends : List EndLists) (sender receiver : ℕ) : Type 0 where
   pub sending : Sending
   pub receiving : Receiving
@@ -28,4 +29,5 @@ pub record AreLinks (servers : ℕ) (ends : List EndLists) : Type 0 where
   pub counted : length ends ≡ servers
   pub to_each : (server : ℕ) → server < servers → length (to_of ends server) ≡ servers
   pub from_each : (server : ℕ) → server < servers → length (from_of ends server) ≡ servers
-  pub linked : (sender receiver : ℕ) → sender < servers → receiver < servers → IsLinked ends sender receiver
+  pub linked : (sender receiver : ℕ) → sender < servers → receiver < servers
+      → IsLinked ends sender receiver

@@ -16,7 +16,8 @@ pub record Ring : Type 0 where
 abbrev pub ring_of : {T A P : Type 0} → End T A P → Ring
 ring_of end = record { words = end.words; slots = end.slots; names = end.names }
 
--- the end that parcels go in at: its ring, all that was sent, and for how many more there is surely room
+-- the end that parcels go in at: its ring, all that was sent, and for how many more there is surely
+-- room
 pub record Sending : Type 0 where
   pub ring : Ring
   pub sent : List Parcel

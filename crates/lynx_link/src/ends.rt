@@ -6,8 +6,8 @@ use lynx_names::{Memory, ServerId};
 use std::alloc::Global;
 use std::marker::Model;
 
-/// One server's ends of the rings: of those that lead to each server, and of those that lead from each. Contracts see
-/// both as lists, by server.
+/// One server's ends of the rings: of those that lead to each server, and of those that lead from
+/// each. Contracts see both as lists, by server.
 #[derive(Drop)]
 pub struct Ends {
     to: Vec<Sender>,

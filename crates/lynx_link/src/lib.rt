@@ -1,4 +1,5 @@
-//! The links between the servers of one process: a ring for each ordered pair of servers, each end at one thread.
+//! The links between the servers of one process: a ring for each ordered pair of servers, each end
+//! at one thread.
 #![tactic(auto)]
 
 pub use ends::Ends;

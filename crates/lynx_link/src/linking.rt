@@ -9,8 +9,8 @@ use crate::ring::new_ring;
 use lynx_names::Memory;
 use std::alloc::Global;
 
-/// The ends of so many servers, by server: a new ring for each ordered pair of them, a server with itself too. All the
-/// memory that the rings ever take is taken here.
+/// The ends of so many servers, by server: a new ring for each ordered pair of them, a server with
+/// itself too. All the memory that the rings ever take is taken here.
 pub fn links(alloc: Global, servers: u8) -> Result<Vec<Ends>, Memory>
     ensures { IfOk result (λ ends. AreLinks servers ends.items) }
 {

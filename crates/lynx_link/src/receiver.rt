@@ -6,8 +6,8 @@ use crate::sender::Sender;
 use rtrb::Consumer;
 use std::marker::Model;
 
-/// The end of a ring that parcels come out at. Contracts see which ring it is, all that was received so far, and the
-/// next parcels, as far as the receiver knows them.
+/// The end of a ring that parcels come out at. Contracts see which ring it is, all that was
+/// received so far, and the next parcels, as far as the receiver knows them.
 #[derive(Drop)]
 pub struct Receiver {
     pub(crate) consumer: Consumer<Parcel>,
@@ -38,8 +38,8 @@ impl Receiver {
         self.consumer.pop().ok()
     }
 
-    /// How many parcels are on their way, as seen by a thread that has both ends: what was received, and then what is
-    /// on its way, is what was sent.
+    /// How many parcels are on their way, as seen by a thread that has both ends: what was
+    /// received, and then what is on its way, is what was sent.
     pub fn waiting(&mut self, sender: &mut Sender) -> usize
         requires { sender.old.ring ≡ self.old.ring }
         ensures receiver { SeesParcels self.old self.new }

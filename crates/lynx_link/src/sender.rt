@@ -7,8 +7,8 @@ use crate::receiver::Receiver;
 use rtrb::{Producer, PushError};
 use std::marker::Model;
 
-/// The end of a ring that parcels go in at. Contracts see which ring it is, all that was sent so far, and for how many
-/// parcels the sender knows that there is room.
+/// The end of a ring that parcels go in at. Contracts see which ring it is, all that was sent so
+/// far, and for how many parcels the sender knows that there is room.
 #[derive(Drop)]
 pub struct Sender {
     pub(crate) producer: Producer<Parcel>,
@@ -32,7 +32,8 @@ impl Model for Sender {
 }
 
 impl Sender {
-    /// Puts a parcel in behind those before it, or gives it back where the ring is full. Takes no memory.
+    /// Puts a parcel in behind those before it, or gives it back where the ring is full. Takes no
+    /// memory.
     pub fn offer(&mut self, parcel: Parcel) -> Result<(), Parcel>
         ensures ring { self.new.ring ≡ self.old.ring }
         ensures ok { OnOk result (Sends self.old self.new parcel) }

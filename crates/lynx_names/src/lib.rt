@@ -1,5 +1,5 @@
-//! Names that the whole store speaks of: servers, tables, programs, clients, chains and stamps, the limits
-//! they keep, lists of values, the numbers of a chain, and want of memory.
+//! Names that the whole store speaks of: servers, tables, programs, clients, chains and stamps, the
+//! limits they keep, lists of values, the numbers of a chain, and want of memory.
 #![tactic(auto)]
 
 pub use chain::ChainId;

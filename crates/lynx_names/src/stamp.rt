@@ -5,7 +5,8 @@ use crate::limits::STAMP_LIMIT;
 use std::fmt;
 use std::marker::Model;
 
-/// A logical time. Stamps of one server's entries rise, and a hop's is above that of the message it ran on.
+/// A logical time. Stamps of one server's entries rise, and a hop's is above that of the message it
+/// ran on.
 #[derive(Clone, Copy, Debug, PartialEq, Eq, PartialOrd, Ord, Hash)]
 pub struct Stamp {
     time: u64,

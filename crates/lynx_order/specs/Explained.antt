@@ -9,8 +9,8 @@ use Rattle.lynx_order.specs.declared.explained.Explained.TheVariants.{Order, Cyc
 use Rattle.lynx_order.specs.Precedence.{KeepsPrecedence, IsCycle}
 use Rattle.lynx_order.specs.Explanations.{AreTheBegun, IsExplanation}
 
--- an order of exactly the begun chains, in which each stands before those that it precedes, and which explains the
--- list, if the literal keys of the set lie at their servers
+-- an order of exactly the begun chains, in which each stands before those that it precedes, and
+-- which explains the list, if the literal keys of the set lie at their servers
 pub record IsOrder (set : Set) (list : List Placed) (chains : List ChainId) : Type 0 where
   pub the_begun : AreTheBegun list chains
   pub in_order : KeepsPrecedence set list chains

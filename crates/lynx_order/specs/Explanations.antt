@@ -53,12 +53,14 @@ abbrev pub calls_of : List Placed → List ChainId → List Call
 calls_of list chains =
     filter_map (λ chain. option_map (call_of list chain) (request_of list chain)) chains
 
--- Exactly the begun chains, each once. Their serial run, from the empty database, each with the hops that it has done,
--- gives the results that are kept of each hop, and holds in each cell what the tables of that cell's server hold.
+-- Exactly the begun chains, each once. Their serial run, from the empty database, each with the
+-- hops that it has done, gives the results that are kept of each hop, and holds in each cell what
+-- the tables of that cell's server hold.
 pub record IsExplanation (set : Set) (list : List Placed) (chains : List ChainId) : Type 0 where
   pub the_begun : AreTheBegun list chains
   pub last : Database
   pub runs : serial_run set (calls_of list chains) empty_database
       ≡ Some (record { results = map (results_of list) chains; database = last })
   pub tables : (table key : ℕ) →
-      value_at last table key ≡ value_at (tables_of set (history_of (server_of set.shards table key) list)) table key
+      value_at last table key
+      ≡ value_at (tables_of set (history_of (server_of set.shards table key) list)) table key

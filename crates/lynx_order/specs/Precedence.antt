@@ -14,7 +14,8 @@ use Rattle.lynx_order.specs.Lists.{AreDifferent, StandsBefore}
 -- what the chain's hop touched in an entry: nothing, if the entry isn't one of the chain's hops
 abbrev pub touches_in : Set → ChainId → Entry → List Touch
 touches_in set chain (Begun begun) =
-    if same_chain begun.chain chain then touches_of set begun.request.program 0 begun.request.args else []
+    if same_chain begun.chain chain then touches_of set begun.request.program 0 begun.request.args
+    else []
 touches_in set chain (Refused refused) = []
 touches_in set chain (Hop ran) =
     if same_chain ran.message.chain chain

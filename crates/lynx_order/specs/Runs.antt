@@ -25,17 +25,21 @@ abbrev pub ran_in : HopOutcome → Option (List ℕ × Database)
 ran_in (Ok ran) = Some ran
 ran_in (Err need) = None
 
--- so many more hops of a program, behind those that gave these results; each is given all results before its own
+-- so many more hops of a program, behind those that gave these results; each is given all results
+-- before its own
 abbrev pub run_hops : Set → ℕ → List ℕ → ℕ → List (List ℕ) → Database → Option CallRun
 run_hops set program args zero earlier db = Some (record { results = earlier; database = db })
 run_hops set program args (suc count) earlier db =
     option_and_then (λ ran. run_hops set program args count (earlier ++ ran.0 ∷ []) ran.1)
     (ran_in (meaning set program (length earlier) args earlier db))
 
--- The serial run from this database: each program in turn runs its hops from 0 on. None where a hop refuses.
+-- The serial run from this database: each program in turn runs its hops from 0 on. None where a hop
+-- refuses.
 abbrev pub serial_run : Set → List Call → Database → Option SerialRun
 serial_run set [] db = Some (record { results = []; database = db })
 serial_run set (call ∷ calls) db =
-    option_and_then (λ ran. option_map (λ rest. record { results = ran.results ∷ rest.results; database = rest.database })
+    option_and_then
+    (λ ran. option_map
+    (λ rest. record { results = ran.results ∷ rest.results; database = rest.database })
     (serial_run set calls ran.database))
     (run_hops set call.program call.args call.count [] db)

@@ -11,13 +11,15 @@ use Rattle.lynx_order.specs.Precedence.{touches_in}
 
 -- the touches at a place, if there are some
 abbrev pub touching : ℕ → List Touch → Option Touching
-touching place touches = if length touches == 0 then None else Some (record { place = place; touches = touches })
+touching place touches =
+    if length touches == 0 then None else Some (record { place = place; touches = touches })
 
 -- the hops of the chain that touched something, where the list begins at this place
 abbrev pub touchings_from : Set → ChainId → ℕ → List Placed → List Touching
 touchings_from set chain place [] = []
 touchings_from set chain place (placed ∷ list) =
-    cons_option (touching place (touches_in set chain placed.entry)) (touchings_from set chain (place + 1) list)
+    cons_option (touching place (touches_in set chain placed.entry))
+    (touchings_from set chain (place + 1) list)
 
 abbrev pub touchings_of : Set → List Placed → ChainId → List Touching
 touchings_of set list chain = touchings_from set chain 0 list
@@ -32,7 +34,8 @@ meet ones others = list_any (λ one. list_any (λ other. stands_before one other
 
 -- whether the chain of the one place precedes the one of the other
 abbrev pub precede_at : List (List Touching) → ℕ → ℕ → Bool
-precede_at all other one = not (one == other) && meet (slice_index_or all one []) (slice_index_or all other [])
+precede_at all other one =
+    not (one == other) && meet (slice_index_or all one []) (slice_index_or all other [])
 
 -- for each chain, whether it precedes the one of that place
 abbrev pub row_of : List (List Touching) → ℕ → List Bool

@@ -5,8 +5,8 @@ use lynx_names::limits::MAX_SERVERS;
 use lynx_names::{ChainId, Items, Memory};
 use std::alloc::Global;
 
-/// For each origin the places of its chains, in order. A chain's index counts the chains that began at its origin
-/// before, so it is the chain's place in that list.
+/// For each origin the places of its chains, in order. A chain's index counts the chains that began
+/// at its origin before, so it is the chain's place in that list.
 pub(crate) fn places_by_origin(
     alloc: Global,
     chains: &[ChainId],

@@ -8,9 +8,9 @@ use lynx_names::Memory;
 use lynx_order_search::ChainTouch;
 use std::alloc::Global;
 
-/// Whether the order has each of so many chains once, each before those that touch the same cell later in a way that
-/// doesn't commute. The touches stand in order of their cells, those of one cell in order of the list; where they don't,
-/// the answer is no. One pass over the touches.
+/// Whether the order has each of so many chains once, each before those that touch the same cell
+/// later in a way that doesn't commute. The touches stand in order of their cells, those of one
+/// cell in order of the list; where they don't, the answer is no. One pass over the touches.
 pub(crate) fn order_holds(
     alloc: Global,
     count: usize,

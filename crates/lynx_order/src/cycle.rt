@@ -22,8 +22,8 @@ fn step_back(table: &[Items<bool>], left: &[bool], place: usize) -> usize
     }
 }
 
-/// A walk back, from predecessor to predecessor, until it comes to a chain that it has met: those that it met, the
-/// newest first, and that chain.
+/// A walk back, from predecessor to predecessor, until it comes to a chain that it has met: those
+/// that it met, the newest first, and that chain.
 #[derive(Debug, Drop)]
 struct Trail {
     path: Items<usize>,
@@ -96,8 +96,8 @@ fn least(round: &[usize]) -> Option<usize>
     round.iter().copied().min()
 }
 
-/// The cycle that is found, going from the chain of that place to the first predecessor that is left, from there to
-/// its first, and so on. It begins with its first chain.
+/// The cycle that is found, going from the chain of that place to the first predecessor that is
+/// left, from there to its first, and so on. It begins with its first chain.
 pub(crate) fn cycle_from(
     alloc: Global,
     table: &[Items<bool>],

@@ -92,7 +92,8 @@ fn certified(alloc: Global, set: &ChainSet, world: &World) -> Result<Option<Expl
     }
 }
 
-/// The same by a table of which chains precede which: the way out where what was found doesn't hold.
+/// The same by a table of which chains precede which: the way out where what was found doesn't
+/// hold.
 fn explain_by_table(alloc: Global, set: &ChainSet, world: &World) -> Result<Explained, Memory>
     requires { IsLegal set.now world.now.list }
     ensures order { IfOk result (λ explained. OrderIsRight set.now world.now.list explained) }
@@ -130,24 +131,27 @@ fn explain_list(alloc: Global, set: &ChainSet, world: &World) -> Result<Explaine
     }
 }
 
-/// What a search finds of the world, as `explain` gives it; none where that doesn't hold. No world is known for which it
-/// doesn't, but no proof says that there is none.
+/// What a search finds of the world, as `explain` gives it; none where that doesn't hold. No world
+/// is known for which it doesn't, but no proof says that there is none.
 pub fn explain_by_search(alloc: Global, world: &World) -> Result<Option<Explained>, Memory>
-    ensures order { IfOk result (λ found. IfSome found (OrderIsRight world.now.set world.now.list)) }
-    ensures cycle { IfOk result (λ found. IfSome found (CycleIsRight world.now.set world.now.list)) }
+    ensures order { IfOk result
+        (λ found. IfSome found (OrderIsRight world.now.set world.now.list)) }
+    ensures cycle { IfOk result
+        (λ found. IfSome found (CycleIsRight world.now.set world.now.list)) }
 {
     certified(alloc, world.set(), world)
 }
 
-/// An order of the begun chains that explains what the world's servers did, or a cycle of chains each of which
-/// precedes the next.
+/// An order of the begun chains that explains what the world's servers did, or a cycle of chains
+/// each of which precedes the next.
 ///
-/// The order takes again and again the chain that began first in the world's list among those that no remaining
-/// chain precedes. Where each is preceded by one, the cycle is found from the remaining chain that began first,
-/// going again and again to the remaining chain that began first among those that precede it; it begins with the
-/// chain of the cycle that began first.
+/// The order takes again and again the chain that began first in the world's list among those that
+/// no remaining chain precedes. Where each is preceded by one, the cycle is found from the
+/// remaining chain that began first, going again and again to the remaining chain that began first
+/// among those that precede it; it begins with the chain of the cycle that began first.
 ///
-/// For n touches of all entries it takes time for about n log n steps, and some hundred bytes for each touch.
+/// For n touches of all entries it takes time for about n log n steps, and some hundred bytes for
+/// each touch.
 pub fn explain(alloc: Global, world: &World) -> Result<Explained, Memory>
     ensures order { IfOk result (λ explained. OrderIsRight world.now.set world.now.list explained) }
     ensures cycle { IfOk result (λ explained. CycleIsRight world.now.set world.now.list explained) }

@@ -10,7 +10,8 @@ ghost use Rattle.lynx_world.specs.Legal.{IsLegal};
 ghost use Rattle.lynx_order.specs.Precedence.{KeepsPrecedence, IsCycle};
 ghost use Rattle.lynx_order.specs.Explanations.{AreTheBegun, IsExplanation};
 
-/// Each order of the begun chains in which a chain stands before those that it precedes explains the list.
+/// Each order of the begun chains in which a chain stands before those that it precedes explains
+/// the list.
 pub fn an_order_that_respects_precedence_explains()
     ensures { (set : Set) (list : List Placed) (chains : List ChainId) → AreLiteralsHome set
         → IsLegal set list
@@ -18,8 +19,8 @@ pub fn an_order_that_respects_precedence_explains()
         → IsExplanation set list chains }
 {}
 
-/// In an accepted set, by either reason, no chains precede one another around a cycle. Each `ChainSet` has at most 16
-/// servers.
+/// In an accepted set, by either reason, no chains precede one another around a cycle. Each
+/// `ChainSet` has at most 16 servers.
 pub fn no_cycle_where_accepted()
     ensures { (set : Set) (list : List Placed) (chains : List ChainId) → AreLiteralsHome set
         → set.servers ≤ MAX_SERVERS → IsLegal set list

@@ -1,4 +1,5 @@
-//! Serial runs, precedence and explanation: which order of the begun chains gives what a world's servers did.
+//! Serial runs, precedence and explanation: which order of the begun chains gives what a world's
+//! servers did.
 #![tactic(auto)]
 
 pub use explained::Explained;

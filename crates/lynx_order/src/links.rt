@@ -42,7 +42,8 @@ fn precedes(
     other: &ChainId,
     next: usize,
 ) -> Result<bool, Memory>
-    ensures { IfOk result (λ holds. IsTrue holds → Precedes set.now world.now.list one.now other.now) }
+    ensures { IfOk result
+        (λ holds. IsTrue holds → Precedes set.now world.now.list one.now other.now) }
 {
     if one == other || own >= next {
         return Ok(false);
@@ -72,7 +73,8 @@ fn holds(
     precedes(alloc, set, world, one, link.own, other, link.next)
 }
 
-/// Whether the chain of the link at that place precedes that of the next, and the last link's that of the first.
+/// Whether the chain of the link at that place precedes that of the next, and the last link's that
+/// of the first.
 fn holds_at(
     alloc: Global,
     set: &ChainSet,
@@ -133,8 +135,8 @@ fn are_different(alloc: Global, count: usize, numbers: &[usize]) -> Result<bool,
     Ok(inverts(numbers, ranks.as_slice()))
 }
 
-/// Whether the chains of the links are a cycle: different ones, each of which precedes the next, and the last the first.
-/// It looks at two entries for each link.
+/// Whether the chains of the links are a cycle: different ones, each of which precedes the next,
+/// and the last the first. It looks at two entries for each link.
 pub(crate) fn cycle_holds(
     alloc: Global,
     set: &ChainSet,
@@ -147,7 +149,8 @@ pub(crate) fn cycle_holds(
     requires numbers { numbers.now ≡ map (λ link. link.chain) links.now }
     ensures cycle { IfOk result (λ holds. IsTrue holds → IsCycle set.now world.now.list
         (map (chain_at chains.now) numbers.now)) }
-    ensures numbers { IfOk result (λ holds. IsTrue holds → AreNumbers (length chains.now) numbers.now) }
+    ensures numbers { IfOk result
+        (λ holds. IsTrue holds → AreNumbers (length chains.now) numbers.now) }
 {
     let Some((first, _)) = links.split_first() else {
         return Ok(false);

@@ -45,8 +45,8 @@ fn add_touches(
     Ok(())
 }
 
-/// The touches of all hops in order of the list, each with the number of its chain among those; none where an entry's
-/// chain isn't among them.
+/// The touches of all hops in order of the list, each with the number of its chain among those;
+/// none where an entry's chain isn't among them.
 fn all_touches(
     alloc: Global,
     set: &ChainSet,

@@ -46,7 +46,8 @@ pub(crate) fn predecessor(table: &[Items<bool>], left: &[bool], place: usize) ->
     first_common(table[place].as_slice(), left, 0)
 }
 
-/// The same, with a place for each chain below which none that is left precedes it. So no chain is asked twice.
+/// The same, with a place for each chain below which none that is left precedes it. So no chain is
+/// asked twice.
 fn next_predecessor(
     table: &[Items<bool>],
     left: &[bool],

@@ -128,7 +128,8 @@ impl Sweep {
     }
 }
 
-/// Whether the touches stand in order, and no touch collides with an earlier one whose chain has a greater rank.
+/// Whether the touches stand in order, and no touch collides with an earlier one whose chain has a
+/// greater rank.
 pub(crate) fn rise(ranks: &[usize], touches: &[ChainTouch]) -> bool
     ensures { IsTrue result → Rise ranks.now touches.now }
 {

@@ -9,7 +9,8 @@ pub enum Candidate {
     Cycle(Items<Link>),
 }
 
-/// A chain of a cycle, with the places of two entries that conflict: its own, and a later one of the next chain.
+/// A chain of a cycle, with the places of two entries that conflict: its own, and a later one of
+/// the next chain.
 #[derive(Clone, Copy, Debug)]
 pub struct Link {
     pub chain: usize,

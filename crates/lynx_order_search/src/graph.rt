@@ -27,7 +27,8 @@ pub(crate) fn degrees_of(alloc: Global, edges: &Edges) -> Result<Vec<usize>, Mem
     Ok(degrees)
 }
 
-/// For each node where the targets of its edges begin, if those of one node stand beside each other; and one more.
+/// For each node where the targets of its edges begin, if those of one node stand beside each
+/// other; and one more.
 fn starts_of(alloc: Global, edges: &Edges) -> Result<Vec<usize>, Memory> {
     let mut starts = vec![in alloc; 0; edges.nodes.saturating_add(2)]?;
     for edge in &edges.edges {

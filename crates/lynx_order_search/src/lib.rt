@@ -1,5 +1,5 @@
-//! A search for an order of chains, or for a cycle among them, by what they touched. What it finds is a guess: nothing is
-//! promised of it, and who asks looks whether it holds.
+//! A search for an order of chains, or for a cycle among them, by what they touched. What it finds
+//! is a guess: nothing is promised of it, and who asks looks whether it holds.
 #![tactic(auto)]
 
 pub use candidate::{Candidate, Link};

@@ -4,7 +4,8 @@ use lynx_foot::Kind;
 use lynx_names::Memory;
 use std::alloc::Global;
 
-/// A chain that precedes another, with the places of the entries that conflict: its own, and that of the other.
+/// A chain that precedes another, with the places of the entries that conflict: its own, and that
+/// of the other.
 #[derive(Clone, Copy, Debug)]
 pub(crate) struct Predecessor {
     pub chain: usize,
@@ -121,8 +122,8 @@ fn note(found: &mut [Option<Predecessor>], touch: &ChainTouch, before: Option<(u
     }
 }
 
-/// For each chain the first of those that are left and precede it. The touches are in order of their cells, those of one
-/// cell in order of the list.
+/// For each chain the first of those that are left and precede it. The touches are in order of
+/// their cells, those of one cell in order of the list.
 pub(crate) fn predecessors(
     alloc: Global,
     touches: &[ChainTouch],

@@ -5,7 +5,8 @@ use std::alloc::Global;
 use std::cmp::Reverse;
 use std::collections::BinaryHeap;
 
-/// The chains that may be taken now, and for each node how many edges come to it from nodes that are left.
+/// The chains that may be taken now, and for each node how many edges come to it from nodes that
+/// are left.
 #[derive(Drop)]
 struct Picking {
     chains: usize,
@@ -64,7 +65,8 @@ impl Picking {
     }
 }
 
-/// Takes again and again the first chain that no node which is left has an edge to, until there is none.
+/// Takes again and again the first chain that no node which is left has an edge to, until there is
+/// none.
 pub(crate) fn pick(
     alloc: Global,
     chains: usize,

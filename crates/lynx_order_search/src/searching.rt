@@ -27,14 +27,15 @@ fn order_of(alloc: Global, chains: usize, touches: &[ChainTouch]) -> Result<Item
     pick(alloc, chains, &graph, degrees)
 }
 
-/// An order of so many chains, or a cycle among them. The touches are in order of their cells, those of one cell in order
-/// of the list.
+/// An order of so many chains, or a cycle among them. The touches are in order of their cells,
+/// those of one cell in order of the list.
 ///
-/// The order takes again and again the first chain that none which is left precedes. Where there is none, the cycle is
-/// found from the first chain that is left, going again and again to the first among those that are left and precede it;
-/// it begins with its first chain.
+/// The order takes again and again the first chain that none which is left precedes. Where there is
+/// none, the cycle is found from the first chain that is left, going again and again to the first
+/// among those that are left and precede it; it begins with its first chain.
 ///
-/// For n chains and t touches it takes time for n log n + t steps, and at most some 200 bytes for each touch and chain.
+/// For n chains and t touches it takes time for n log n + t steps, and at most some 200 bytes for
+/// each touch and chain.
 pub fn search(alloc: Global, chains: usize, touches: &[ChainTouch]) -> Result<Candidate, Memory> {
     let order = order_of(alloc, chains, touches)?;
     let is_left = left_of(alloc, chains, order.as_slice())?;

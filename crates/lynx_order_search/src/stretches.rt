@@ -1,5 +1,5 @@
-//! Stretches of touches of one cell that commute with each other. Each stretch precedes the one behind it, and through
-//! that one all that come after, so edges between neighbours say all.
+//! Stretches of touches of one cell that commute with each other. Each stretch precedes the one
+//! behind it, and through that one all that come after, so edges between neighbours say all.
 use crate::edges::Edges;
 use crate::touched::ChainTouch;
 use lynx_names::Memory;
@@ -53,8 +53,8 @@ impl Stretches {
         }
     }
 
-    /// The node through which the edges go from all of the earlier stretch to all of the later: a chain that is in
-    /// both, the only one of either, or a joint.
+    /// The node through which the edges go from all of the earlier stretch to all of the later: a
+    /// chain that is in both, the only one of either, or a joint.
     fn hub(&self, edges: &mut Edges) -> Option<usize> {
         let shared = self
             .earlier
@@ -113,8 +113,8 @@ impl Stretches {
     }
 }
 
-/// The edges between the chains that touched each cell. The touches are in order of their cells, those of one cell in
-/// order of the list. At most three edges for each touch.
+/// The edges between the chains that touched each cell. The touches are in order of their cells,
+/// those of one cell in order of the list. At most three edges for each touch.
 pub(crate) fn edges_of(
     alloc: Global,
     chains: usize,

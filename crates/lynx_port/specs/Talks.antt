@@ -37,8 +37,8 @@ abbrev pub AreAt : List Item → Option Bool → Type 0
 AreAt frames None = GoOn frames
 AreAt frames (Some shut) = Closes frames shut
 
--- A stretch of a talk: the bytes are the forms of the frames and then what is left, and what was written is the forms
--- of the replies to them and then a part of one more.
+-- A stretch of a talk: the bytes are the forms of the frames and then what is left, and what was
+-- written is the forms of the replies to them and then a part of one more.
 pub record Talked {D : Type 0} (replies : Answering D) (first last : D)
     (unwritten wrote : Option (List ℕ)) (bytes : List ℕ) (frames : List Item)
     (left part : List ℕ) : Type 0 where

@@ -59,7 +59,8 @@ fn answer_frame<W: Write, D: Desk>(
     write_form(writer, form.as_slice(), turns)
 }
 
-/// Answers the whole frames of the feed in order, up to one that ends the talk: whether all is to shut then.
+/// Answers the whole frames of the feed in order, up to one that ends the talk: whether all is to
+/// shut then.
 pub fn answer_all<W: Write, D: Desk>(
     alloc: Global,
     feed: &mut Feed,

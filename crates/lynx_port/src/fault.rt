@@ -3,8 +3,8 @@ use lynx_names::Memory;
 use std::alloc::AllocError;
 use thiserror::Error;
 
-/// Why a connection ended before the client or its input did. What was read, written and asked of the desk before
-/// stands.
+/// Why a connection ended before the client or its input did. What was read, written and asked of
+/// the desk before stands.
 #[derive(Clone, Copy, Debug, PartialEq, Eq, Error)]
 pub enum PortFault {
     /// A read failed.
@@ -13,7 +13,8 @@ pub enum PortFault {
     /// A write failed, or took no byte.
     #[error("cannot write")]
     Write,
-    /// What the client sent next is no item: Short where its input ends inside one. Never for want of memory.
+    /// What the client sent next is no item: Short where its input ends inside one. Never for want
+    /// of memory.
     #[error("{0}")]
     Bad(DecodeFault),
     /// All turns were made: [`MAX_TURNS`](crate::limits::MAX_TURNS).

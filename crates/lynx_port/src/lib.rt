@@ -1,4 +1,5 @@
-//! One client's connection: the items that it sends are read, and each is answered in the order in which it came.
+//! One client's connection: the items that it sends are read, and each is answered in the order in
+//! which it came.
 #![tactic(auto)]
 
 pub use desk::Desk;

@@ -36,14 +36,16 @@ fn end_of_input(feed: Feed, answers: u64) -> Result<Served, PortFault>
     })
 }
 
-/// Serves one client, until it ends the talk or its input ends. Of each read, of 4,096 bytes at most, the whole items are
-/// answered in order before more is read. Quit and Shut are answered by Bye; what stands behind them is not read as items,
-/// though some of it may have been taken from the reader.
+/// Serves one client, until it ends the talk or its input ends. Of each read, of 4,096 bytes at
+/// most, the whole items are answered in order before more is read. Quit and Shut are answered by
+/// Bye; what stands behind them is not read as items, though some of it may have been taken from
+/// the reader.
 ///
-/// A fault comes where the bytes have it: all items before it were answered. After 1,000,000 turns it is Turns, so the
-/// call ends if those of the reader, the writer and the desk do. Nothing is flushed: the writer is to pass on what it
-/// takes. Memory is taken for what was read and isn't answered yet, at most an item that isn't whole and a read, and for
-/// one answer, before the desk is asked for it.
+/// A fault comes where the bytes have it: all items before it were answered. After 1,000,000 turns
+/// it is Turns, so the call ends if those of the reader, the writer and the desk do. Nothing is
+/// flushed: the writer is to pass on what it takes. Memory is taken for what was read and isn't
+/// answered yet, at most an item that isn't whole and a read, and for one answer, before the desk
+/// is asked for it.
 pub fn serve<R: Read, W: Write, D: Desk>(
     alloc: Global,
     reader: &mut R,

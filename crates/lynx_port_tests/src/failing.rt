@@ -8,7 +8,8 @@ use lynx_names::Memory;
 use lynx_port::{PortFault, Served};
 use std::alloc::Global;
 
-/// How many frames stand in so many bytes of the worked input, where they end, and how many bytes answer them.
+/// How many frames stand in so many bytes of the worked input, where they end, and how many bytes
+/// answer them.
 fn answered(read: usize) -> (u64, usize, usize) {
     let mut found = (0, 0, 0);
     for (place, &(end, answer)) in ENDS.iter().enumerate() {
@@ -37,7 +38,8 @@ fn is_cut(
     outcome.result == ended && outcome.written.as_slice() == written
 }
 
-/// Whether input that ends inside an item is Short, and a read that fails is Read, with what was whole before answered.
+/// Whether input that ends inside an item is Short, and a read that fails is Read, with what was
+/// whole before answered.
 fn are_reads_cut(alloc: Global) -> Result<bool, Memory> {
     let (input, written) = (hex(alloc, &[INPUT])?, hex(alloc, &[WRITTEN])?);
     for read in 0..128u32 {

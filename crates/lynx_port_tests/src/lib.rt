@@ -1,5 +1,5 @@
-//! Tests of connections over readers and writers in memory: the worked connection in pieces of any size, each fault, and
-//! bytes that are no items.
+//! Tests of connections over readers and writers in memory: the worked connection in pieces of any
+//! size, each fault, and bytes that are no items.
 #![tactic(auto)]
 
 #[cfg(test)]

@@ -1,4 +1,5 @@
-//! A reader and a writer in memory, which take their bytes in pieces, are interrupted and fail as they are told.
+//! A reader and a writer in memory, which take their bytes in pieces, are interrupted and fail as
+//! they are told.
 ghost use Rattle.std.specs.Prelude.{◌≤◌, IfOk};
 
 use std::alloc::Global;

@@ -6,7 +6,8 @@ use lynx_names::Memory;
 use lynx_port::{PortFault, Served, serve};
 use std::alloc::Global;
 
-/// How the client's bytes come, how those to it are taken, and whether memory is wanting to the desk.
+/// How the client's bytes come, how those to it are taken, and whether memory is wanting to the
+/// desk.
 #[derive(Clone, Copy)]
 pub struct Setting {
     pub reads: Manner,

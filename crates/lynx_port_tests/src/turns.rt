@@ -67,7 +67,8 @@ fn are_reads_given_up(alloc: Global) -> bool {
     result == Err(PortFault::Turns) && reader.calls == 1_000_000 && writer.bytes.is_empty()
 }
 
-/// Whether a writer that is interrupted each time is asked again until, with the one read, a million turns are made.
+/// Whether a writer that is interrupted each time is asked again until, with the one read, a
+/// million turns are made.
 fn are_writes_given_up(alloc: Global) -> bool {
     let mut reader = Source::new(&LOOK, SMOOTH);
     let mut writer = Interrupted { calls: 0 };

@@ -6,7 +6,8 @@ use lynx_names::Memory;
 use lynx_port::Served;
 use std::alloc::Global;
 
-/// A request, the same again, another one of the same number, looks at its chain and at one that isn't there, and Shut.
+/// A request, the same again, another one of the same number, looks at its chain and at one that
+/// isn't there, and Shut.
 pub const INPUT: &str = "\
     01 0000001a 0000000000000001 0000000000000001 00 01 0000000000000064 \
     01 0000001a 0000000000000001 0000000000000001 00 01 0000000000000064 \
@@ -74,7 +75,8 @@ fn the_worked_connection(rt: HostRuntime) {
     assert!(rt; is_served_in_pieces(rt.alloc()) == Ok(true));
 }
 
-/// Inputs that end otherwise, with the answers that are counted, whether all shuts, what is written, and how often the desk is asked.
+/// Inputs that end otherwise, with the answers that are counted, whether all shuts, what is
+/// written, and how often the desk is asked.
 const ENDINGS: &[(&str, u64, bool, &str, u32)] = &[
     ("", 0, false, "", 0),
     ("03 00000000", 1, false, "13 00000000", 0),

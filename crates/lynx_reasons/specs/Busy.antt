@@ -11,12 +11,14 @@ abbrev pub is_there_again : ℕ → List Hop → Bool
 is_there_again server later = list_any (λ hop. hop.server == server) later
 
 abbrev pub busy_line : Set → ℕ → ℕ → List ℕ
-busy_line set program server = with_feed (codes "busy " ++ program_name set program ++ 32 ∷ decimal server)
+busy_line set program server =
+    with_feed (codes "busy " ++ program_name set program ++ 32 ∷ decimal server)
 
 -- a program of these hops returns where a later one is at the server of the first
 abbrev pub busy_line_of : Set → ℕ → List Hop → List ℕ
 busy_line_of set program [] = []
-busy_line_of set program (first ∷ later) = if is_there_again first.server later then busy_line set program first.server else []
+busy_line_of set program (first ∷ later) =
+    if is_there_again first.server later then busy_line set program first.server else []
 
 abbrev pub busy_text : Set → ℕ → List ℕ
 busy_text set program = busy_line_of set program (hops_of set program)

@@ -1,4 +1,5 @@
-//! The programs that return to the server where they begin: it answers busy to each begin until the chain is back.
+//! The programs that return to the server where they begin: it answers busy to each begin until the
+//! chain is back.
 
 ghost use Rattle.std.specs.Prelude.{◌≡◌, ◌++◌, OnOk};
 ghost use Rattle.std.specs.List.{flat_map, range_with_len};

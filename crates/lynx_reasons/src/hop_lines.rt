@@ -95,7 +95,8 @@ fn lines_of_tables(names: &[Name], tables: &[Items<Shard>]) -> usize
     lines
 }
 
-/// The line of the set's text on which the hop stands, counted from 1: one more than the lines before it.
+/// The line of the set's text on which the hop stands, counted from 1: one more than the lines
+/// before it.
 pub fn line_of(set: &ChainSet, place: &Place) -> usize
     requires { IsSet set.now }
     ensures { result ≡ line_of set.now place.now }

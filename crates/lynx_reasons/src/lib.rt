@@ -1,5 +1,5 @@
-//! What a verdict on a set rests on, by lines: the hops that meet, the groups of programs, and the programs that keep
-//! their first server busy.
+//! What a verdict on a set rests on, by lines: the hops that meet, the groups of programs, and the
+//! programs that keep their first server busy.
 #![tactic(auto)]
 
 pub use lines::why;

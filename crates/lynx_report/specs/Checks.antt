@@ -30,7 +30,8 @@ use Rattle.lynx_set.specs.Lookups.{program_name}
 -- the line of the conflict edge from one visit to the next: the hop left, and the hop entered
 abbrev pub edge_line : Set → Visit × Visit → List ℕ
 edge_line chains edge =
-    with_feed (codes "conflict " ++ program_name chains edge.0.program ++ 32 ∷ decimal edge.0.left ++ 32 ∷ program_name chains edge.1.program ++ 32 ∷ decimal edge.1.entered)
+    with_feed (codes "conflict " ++ program_name chains edge.0.program ++ 32 ∷ decimal edge.0.left
+    ++ 32 ∷ program_name chains edge.1.program ++ 32 ∷ decimal edge.1.entered)
 
 -- each visit with the next, and the last with the first
 abbrev pub edges : List Visit → List (Visit × Visit)
@@ -45,11 +46,14 @@ abbrev pub accepted_line : Reason → List ℕ
 accepted_line Walks = with_feed (codes "accepted")
 accepted_line Blocks = with_feed (codes "accepted by blocks")
 
--- accepted: for that reason. Offending: the lines are those of a closed walk that offends, and a walk of blocks does too
+-- accepted: for that reason. Offending: the lines are those of a closed walk that offends, and a
+-- walk of blocks does too
 abbrev pub IsVerdict : Set → Finding → List ℕ → Type 0
-IsVerdict chains (Accepted reason) printed = IsReason chains reason × (printed ≡ accepted_line reason)
+IsVerdict chains (Accepted reason) printed =
+    IsReason chains reason × (printed ≡ accepted_line reason)
 IsVerdict chains Offending printed =
-    ((walk : List Visit) × IsOffending chains walk × (printed ≡ with_feed (codes "offending") ++ edge_lines chains walk))
+    ((walk : List Visit) × IsOffending chains walk
+    × (printed ≡ with_feed (codes "offending") ++ edge_lines chains walk))
     × ((blocks : List Block) × IsOffendingBlockWalk chains blocks)
 
 -- what a verdict finds, and its lines
@@ -59,7 +63,8 @@ finding_of (OffendingVerdict walk blocks) = Offending
 
 abbrev pub verdict_lines : Set → Verdict → List ℕ
 verdict_lines chains (AcceptedVerdict own) = accepted_line (reason_of own.excused)
-verdict_lines chains (OffendingVerdict walk blocks) = with_feed (codes "offending") ++ edge_lines chains walk
+verdict_lines chains (OffendingVerdict walk blocks) =
+    with_feed (codes "offending") ++ edge_lines chains walk
 
 -- the lines behind a verdict: why it is what it is where that is asked for, else nothing
 abbrev pub AreBehind : Bool → Set → Verdict → List ℕ → Type 0
@@ -87,7 +92,8 @@ pub record Finds (why : Bool) (text : List ℕ) (finding : Finding) (printed : L
   pub spelled : text ≡ text_of chains
   pub verdict : IsVerdictWith why chains finding printed
 
--- why no verdict comes, that a faulty text is told before anything is written, and that its fault is never want of memory
+-- why no verdict comes, that a faulty text is told before anything is written, and that its fault
+-- is never want of memory
 abbrev pub NoVerdictFor : List ℕ → Type 0 → RunFault → Type 0
 NoVerdictFor set unwritten (SetFault fault) = IsNoSet set × unwritten × (fault.kind ≢ NoMemory)
 NoVerdictFor set unwritten (ScriptFault fault) = ⊥
@@ -97,9 +103,13 @@ NoVerdictFor set unwritten Memory = Unit {0}
 -- nothing is written, or a beginning of a verdict on the set
 abbrev pub BeginsVerdict : Bool → Set → Option (List ℕ) → Option (List ℕ) → Type 0
 BeginsVerdict why chains old new =
-    Keeps old new ⊎ ((finding : Finding) × (printed : List ℕ) × IsVerdictWith why chains finding printed × AppendsPart old new printed)
+    Keeps old new
+    ⊎ ((finding : Finding) × (printed : List ℕ) × IsVerdictWith why chains finding printed
+    × AppendsPart old new printed)
 
 -- Where a fault stops a check, nothing is written, or a beginning of what it prints.
 abbrev pub BeginsFinding : Bool → List ℕ → Option (List ℕ) → Option (List ℕ) → Type 0
 BeginsFinding why set old new =
-    Keeps old new ⊎ ((finding : Finding) × (printed : List ℕ) × Finds why set finding printed × AppendsPart old new printed)
+    Keeps old new
+    ⊎ ((finding : Finding) × (printed : List ℕ) × Finds why set finding printed
+    × AppendsPart old new printed)

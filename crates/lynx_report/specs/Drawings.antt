@@ -31,7 +31,8 @@ shown_by walk = if walk then Walk else All
 -- the picture shows the set and a verdict on it, and the finding is the verdict's
 abbrev pub IsDrawing : Bool → Set → Finding → List ℕ → Type 0
 IsDrawing walk chains finding picture =
-    (verdict : Verdict) × Judges chains verdict × (finding ≡ finding_of verdict) × IsPicture (shown_by walk) chains verdict picture
+    (verdict : Verdict) × Judges chains verdict × (finding ≡ finding_of verdict)
+    × IsPicture (shown_by walk) chains verdict picture
 
 -- what is found of a set text, and its picture
 pub record Draws (walk : Bool) (text : List ℕ) (finding : Finding) (picture : List ℕ) : Type 0 where
@@ -40,8 +41,8 @@ pub record Draws (walk : Bool) (text : List ℕ) (finding : Finding) (picture : 
   pub spelled : text ≡ text_of chains
   pub drawing : IsDrawing walk chains finding picture
 
--- why no picture comes: a faulty text, and want of memory, are told before anything is written, and a text's fault is
--- never want of memory
+-- why no picture comes: a faulty text, and want of memory, are told before anything is written, and
+-- a text's fault is never want of memory
 abbrev pub NoPictureFor : List ℕ → Type 0 → RunFault → Type 0
 NoPictureFor set unwritten (SetFault fault) = IsNoSet set × unwritten × (fault.kind ≢ NoMemory)
 NoPictureFor set unwritten (ScriptFault fault) = ⊥
@@ -51,4 +52,6 @@ NoPictureFor set unwritten Memory = unwritten
 -- Where a fault stops a drawing, nothing is written, or a beginning of the picture.
 abbrev pub BeginsPicture : Bool → List ℕ → Option (List ℕ) → Option (List ℕ) → Type 0
 BeginsPicture walk set old new =
-    Keeps old new ⊎ ((finding : Finding) × (picture : List ℕ) × Draws walk set finding picture × AppendsPart old new picture)
+    Keeps old new
+    ⊎ ((finding : Finding) × (picture : List ℕ) × Draws walk set finding picture
+    × AppendsPart old new picture)

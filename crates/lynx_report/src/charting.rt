@@ -14,9 +14,9 @@ use lynx_world::Event;
 use std::alloc::Global;
 use std::io::Write;
 
-/// Judges the set text and then the script, runs the script in a new world, and writes the chart of what the servers did
-/// and of an order that explains it, or of a cycle. The whole chart is made before any of it is written. Its cost grows
-/// with the square of the count of events.
+/// Judges the set text and then the script, runs the script in a new world, and writes the chart of
+/// what the servers did and of an order that explains it, or of a cycle. The whole chart is made
+/// before any of it is written. Its cost grows with the square of the count of events.
 pub fn chart_texts<W: Write>(
     alloc: Global,
     set: &[u8],

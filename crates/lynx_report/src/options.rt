@@ -22,8 +22,9 @@ pub struct RunOptions {
 /// What a check writes behind its verdict, which is nothing by default.
 #[derive(Clone, Copy, Debug, Default, PartialEq, Eq)]
 pub struct CheckOptions {
-    /// Why the verdict is what it is: a line for each two hops that may conflict, for each group of programs of an
-    /// accepted set, and for each program that returns to the server where it begins.
+    /// Why the verdict is what it is: a line for each two hops that may conflict, for each group of
+    /// programs of an accepted set, and for each program that returns to the server where it
+    /// begins.
     pub why: bool,
 }
 

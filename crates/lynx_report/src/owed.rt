@@ -35,7 +35,8 @@ fn add_left(
     chain: &ChainId,
     reached: &Reached,
 ) -> Result<(), Memory>
-    ensures { OnOk result (owed.new.items ≡ owed.old.items ++ left_of set.now (chain.now, reached.now)) }
+    ensures { OnOk result
+        (owed.new.items ≡ owed.old.items ++ left_of set.now (chain.now, reached.now)) }
 {
     for hop in reached.next..set.hops(reached.program).len() {
         owed.push(OwedHop { chain: *chain, hop })?;
@@ -60,7 +61,8 @@ fn left_hops(
     Ok(owed)
 }
 
-/// The hops that the chains of the world still owe, by origin, index and hop. It takes n log n steps for n entries.
+/// The hops that the chains of the world still owe, by origin, index and hop. It takes n log n
+/// steps for n entries.
 pub fn owed_hops(alloc: Global, world: &World) -> Result<Vec<OwedHop>, Memory>
     ensures { IfOk result (λ owed. AreTheOwed world.now.set world.now.list owed.items) }
 {

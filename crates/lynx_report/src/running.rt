@@ -48,7 +48,8 @@ fn run_events(
 /// Runs the events in a new world, unless memory is wanting.
 pub fn run_in_new_world(alloc: Global, set: ChainSet, events: Vec<Event>) -> Result<Ran, Memory>
     ensures worlds { IfOk result (λ ran. ran.world ≡ world_after (new_world set) events.items) }
-    ensures outcomes { IfOk result (λ ran. ran.outcomes ≡ outcomes_of (new_world set) events.items) }
+    ensures outcomes { IfOk result
+        (λ ran. ran.outcomes ≡ outcomes_of (new_world set) events.items) }
 {
     let keepers = empty_keepers(alloc, &set)?;
     let mut world = World::new(alloc, set, keepers)?;

@@ -44,7 +44,8 @@ recorded_answer (Hop ran) request = Clash
 -- the history, or the stamps, can grow no more
 abbrev pub is_full : History → ℕ → Bool
 is_full history told =
-    not (nat_lt (length history) MAX_ENTRIES) || not (nat_lt (max (clock_of history) told + 1) STAMP_LIMIT)
+    not (nat_lt (length history) MAX_ENTRIES) || not
+    (nat_lt (max (clock_of history) told + 1) STAMP_LIMIT)
 
 -- a chain begun here has still to return here
 abbrev pub is_busy : Set → ℕ → History → Bool
@@ -76,8 +77,10 @@ begun_with set server history request seen results =
 
 -- a begin whose hop 0 came out so
 abbrev pub begun_by : Set → ℕ → History → Request → ℕ → HopOutcome → Begins
-begun_by set server history request seen (Ok outcome) = begun_with set server history request seen outcome.0
-begun_by set server history request seen (Err need) = refused_by request seen need (max (clock_of history) seen + 1)
+begun_by set server history request seen (Ok outcome) =
+    begun_with set server history request seen outcome.0
+begun_by set server history request seen (Err need) =
+    refused_by request seen need (max (clock_of history) seen + 1)
 
 -- a new request
 abbrev pub answer_new : Set → ℕ → History → Request → ℕ → Option Answer → Begins
@@ -88,12 +91,14 @@ answer_new set server history request seen None =
     else begun_by set server history request seen
     (meaning set request.program 0 request.args [] (tables_of set history)))
 
--- The answer of a server with this history: the first of these whose condition holds. A request that is
--- recorded; what is wrong with it; no room; a chain that has still to return; else hop 0 runs.
+-- The answer of a server with this history: the first of these whose condition holds. A request
+-- that is recorded; what is wrong with it; no room; a chain that has still to return; else hop 0
+-- runs.
 abbrev pub answer_recorded : Set → ℕ → History → Request → ℕ → Option Entry → Begins
 answer_recorded set server history request seen (Some entry) = only (recorded_answer entry request)
 answer_recorded set server history request seen None =
     answer_new set server history request seen (request_fault set server request)
 
 abbrev pub answer : Set → ℕ → History → Request → ℕ → Begins
-answer set server history request seen = answer_recorded set server history request seen (record_of request history)
+answer set server history request seen =
+    answer_recorded set server history request seen (record_of request history)

@@ -26,7 +26,8 @@ use Rattle.lynx_set.specs.Lookups.{binds, cell_of, program_at}
 -- a key that is a parameter names a cell of the server; a literal was judged with the set's text
 abbrev pub is_key_at : Set → ℕ → List ℕ → ℕ → Key → Bool
 is_key_at set server args table (Literal key) = true
-is_key_at set server args table (Param place) = server_of set.shards table (key_of args (Param place)) == server
+is_key_at set server args table (Param place) =
+    server_of set.shards table (key_of args (Param place)) == server
 
 abbrev pub is_cell_at : Set → ℕ → List ℕ → Option (ℕ × Key) → Bool
 is_cell_at set server args (Some cell) = is_key_at set server args cell.0 cell.1
@@ -37,11 +38,13 @@ is_action_at set server args action = is_cell_at set server args (cell_of action
 
 -- each hop's cells are at the hop's server
 abbrev pub are_keys_placed : Set → List ℕ → List Hop → Bool
-are_keys_placed set args hops = list_all (λ hop. list_all (is_action_at set hop.server args) hop.actions) hops
+are_keys_placed set args hops =
+    list_all (λ hop. list_all (is_action_at set hop.server args) hop.actions) hops
 
 -- the arguments are in their ranges, and each hop's cells at the hop's server
 abbrev pub do_args_fit : Set → List ℕ → Program → Bool
-do_args_fit set args program = are_in_range program.ranges args && are_keys_placed set args program.hops
+do_args_fit set args program =
+    are_in_range program.ranges args && are_keys_placed set args program.hops
 
 -- what is wrong with a request at this server, in the order in which it is judged
 abbrev pub request_fault_in : Set → ℕ → Request → Option Program → Option Answer
@@ -54,7 +57,8 @@ request_fault_in set server request (Some program) =
     else None)))
 
 abbrev pub request_fault : Set → ℕ → Request → Option Answer
-request_fault set server request = request_fault_in set server request (program_at set request.program)
+request_fault set server request =
+    request_fault_in set server request (program_at set request.program)
 
 -- how many values a hop gives: one for each name that it binds
 abbrev pub result_count : Hop → ℕ
@@ -62,7 +66,8 @@ result_count hop = count_by binds hop.actions
 
 -- two lists of numbers that are the same
 abbrev pub same_numbers : List NumberAt → List NumberAt → Bool
-same_numbers left right = pointwise (λ a b. (a.server == b.server) && (a.number == b.number)) left right
+same_numbers left right =
+    pointwise (λ a b. (a.server == b.server) && (a.number == b.number)) left right
 
 -- an entry in which this very chain began
 abbrev pub begins : Message → Entry → Bool
@@ -83,23 +88,29 @@ fits set server message program hop servers =
     && (program.parameters == length message.args)
     && do_args_fit set message.args program
     && pointwise nat_eq (map (λ number. number.server) message.numbers) servers
-    && pointwise nat_eq (map length message.results) (map result_count (take message.hop program.hops))
+    && pointwise nat_eq (map length message.results)
+    (map result_count (take message.hop program.hops))
 
 abbrev pub fits_hop : Set → ℕ → Message → Program → Option Hop → Bool
-fits_hop set server message program (Some hop) = fits set server message program hop (visited set message.program)
+fits_hop set server message program (Some hop) =
+    fits set server message program hop (visited set message.program)
 fits_hop set server message program None = false
 
 abbrev pub fits_program : Set → ℕ → Message → Option Program → Bool
-fits_program set server message (Some program) = fits_hop set server message program (slice_get program.hops message.hop)
+fits_program set server message (Some program) =
+    fits_hop set server message program (slice_get program.hops message.hop)
 fits_program set server message None = false
 
 -- a chain of this origin began here
 abbrev pub has_begun : ℕ → History → Message → Bool
-has_begun server history message = not (message.chain.origin == server) || list_any (begins message) history
+has_begun server history message =
+    not (message.chain.origin == server) || list_any (begins message) history
 
--- A message that the set and this server's own begins allow: a later hop of a program of the set, at this server,
--- with that program's origin and count of arguments, in their ranges, keys at their servers, a number for each visited server, and
--- as many earlier results as are declared; a chain of this origin began here.
+-- A message that the set and this server's own begins allow: a later hop of a program of the set,
+-- at this server, with that program's origin and count of arguments, in their ranges, keys at their
+-- servers, a number for each visited server, and as many earlier results as are declared; a chain
+-- of this origin began here.
 abbrev pub is_well_formed : Set → ℕ → History → Message → Bool
 is_well_formed set server history message =
-    fits_program set server message (program_at set message.program) && has_begun server history message
+    fits_program set server message (program_at set message.program) && has_begun server history
+    message

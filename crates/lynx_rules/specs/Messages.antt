@@ -9,7 +9,8 @@ use Rattle.lynx_names.specs.declared.numbers.NumberAt.{NumberAt}
 use Rattle.lynx_set.specs.Lookups.{hops_of}
 
 -- what the hop after this one is sent, where there is one
-abbrev pub message_after : Set → ChainId → ℕ → ℕ → ℕ → List ℕ → List NumberAt → List (List ℕ) → Option Message
+abbrev pub message_after : Set → ChainId → ℕ → ℕ → ℕ → List ℕ → List NumberAt → List (List ℕ)
+    → Option Message
 message_after set chain program hop stamp args numbers results =
     if nat_lt (hop + 1) (length (hops_of set program))
     then Some (record {
@@ -23,11 +24,14 @@ message_after set chain program hop stamp args numbers results =
     })
     else None
 
--- The next message of an entry: the results so far with the new ones behind them. A last hop has none.
+-- The next message of an entry: the results so far with the new ones behind them. A last hop has
+-- none.
 abbrev pub next_message : Set → Entry → Option Message
 next_message set (Begun begun) =
-    message_after set begun.chain begun.request.program 0 begun.stamp begun.request.args begun.numbers (begun.results ∷ [])
+    message_after set begun.chain begun.request.program 0 begun.stamp begun.request.args
+    begun.numbers (begun.results ∷ [])
 next_message set (Refused refused) = None
 next_message set (Hop ran) =
-    message_after set ran.message.chain ran.message.program ran.message.hop ran.stamp ran.message.args ran.message.numbers
+    message_after set ran.message.chain ran.message.program ran.message.hop ran.stamp
+    ran.message.args ran.message.numbers
     (ran.message.results ++ ran.results ∷ [])

@@ -14,10 +14,12 @@ database_after (Err need) db = db
 
 -- the database after what an entry did
 abbrev pub after_entry : Set → Database → Entry → Database
-after_entry set db (Begun begun) = database_after (meaning set begun.request.program 0 begun.request.args [] db) db
+after_entry set db (Begun begun) =
+    database_after (meaning set begun.request.program 0 begun.request.args [] db) db
 after_entry set db (Refused refused) = db
 after_entry set db (Hop ran) =
-    database_after (meaning set ran.message.program ran.message.hop ran.message.args ran.message.results db) db
+    database_after
+    (meaning set ran.message.program ran.message.hop ran.message.args ran.message.results db) db
 
 -- The tables of a history: its hops one after another, from the empty database.
 abbrev pub tables_of : Set → History → Database

@@ -23,8 +23,8 @@ begins_visiting set server (Begun begun) = visits (hops_of set begun.request.pro
 begins_visiting set server (Refused refused) = false
 begins_visiting set server (Hop ran) = false
 
--- The number that a chain which begins after this history has for a server that it visits: how many chains
--- that visit this server began here before it.
+-- The number that a chain which begins after this history has for a server that it visits: how many
+-- chains that visit this server began here before it.
 abbrev pub number_for : Set → History → ℕ → ℕ
 number_for set history server = count_by (begins_visiting set server) history
 
@@ -42,8 +42,10 @@ ends_visit set server origin (Begun begun) =
     (begun.chain.origin == origin) && is_last_at set server begun.request.program 0
 ends_visit set server origin (Refused refused) = false
 ends_visit set server origin (Hop ran) =
-    (ran.message.chain.origin == origin) && is_last_at set server ran.message.program ran.message.hop
+    (ran.message.chain.origin == origin) && is_last_at set server ran.message.program
+    ran.message.hop
 
--- Whose turn it is at the server, among the chains of that origin: as many of them are through here.
+-- Whose turn it is at the server, among the chains of that origin: as many of them are through
+-- here.
 abbrev pub turn_of : Set → ℕ → History → ℕ → ℕ
 turn_of set server history origin = count_by (ends_visit set server origin) history

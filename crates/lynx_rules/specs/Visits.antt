@@ -22,11 +22,13 @@ visits hops server = list_any (λ hop. hop.server == server) hops
 
 -- for each server there is a mark, whether one of these hops is there
 abbrev pub MarksVisits : List Hop → List Bool → Type 0
-MarksVisits hops marks = (server : ℕ) → server < MAX_SERVERS → is_marked marks server ≡ visits hops server
+MarksVisits hops marks =
+    (server : ℕ) → server < MAX_SERVERS → is_marked marks server ≡ visits hops server
 
 -- the servers that a program visits, rising
 unfoldable pub visited : Set → ℕ → List ℕ
-visited set program = filter (λ server. visits (hops_of set program) server) (range_with_len 0 MAX_SERVERS)
+visited set program =
+    filter (λ server. visits (hops_of set program) server) (range_with_len 0 MAX_SERVERS)
 
 -- the first of these hops is at the server, and no later one is
 abbrev pub leaves_by_first : List Hop → ℕ → Bool

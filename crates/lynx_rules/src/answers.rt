@@ -45,8 +45,8 @@ fn clock_of(history: &[Entry]) -> Stamp
     }
 }
 
-/// The stamp of the next entry, above the clock and what it was told. None where the history has all the
-/// entries, or all the stamps, that it may have.
+/// The stamp of the next entry, above the clock and what it was told. None where the history has
+/// all the entries, or all the stamps, that it may have.
 pub fn next_stamp(history: &[Entry], told: Stamp) -> Option<Stamp>
     ensures { MatchOption result (is_full history.now told ≡ true) (λ stamp.
         (is_full history.now told ≡ false) × (stamp ≡ max (clock_of history.now) told + 1)) }

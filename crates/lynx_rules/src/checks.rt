@@ -54,8 +54,8 @@ fn do_args_fit(set: &ChainSet, args: &[u64], program: &Program) -> bool
         && are_keys_placed(set, args, program.hops.as_slice())
 }
 
-/// What is wrong with a request at this server: the first of unknown program, wrong origin, count of arguments,
-/// outside range and wrong shard.
+/// What is wrong with a request at this server: the first of unknown program, wrong origin, count
+/// of arguments, outside range and wrong shard.
 pub fn request_fault(set: &ChainSet, server: ServerId, request: &Request) -> Option<Answer>
     ensures { result ≡ request_fault set.now server request.now }
 {
@@ -127,7 +127,8 @@ pub fn begins(message: &Message, entry: &Entry) -> bool
     }
 }
 
-/// What a message of a program and one of its hops is asked, where the program visits these servers.
+/// What a message of a program and one of its hops is asked, where the program visits these
+/// servers.
 fn fits(
     set: &ChainSet,
     server: ServerId,
@@ -152,7 +153,8 @@ fn fits(
         )
 }
 
-/// The message is of a later hop of a program of the set, and is what that hop may be sent. Takes no memory.
+/// The message is of a later hop of a program of the set, and is what that hop may be sent. Takes
+/// no memory.
 pub fn fits_program(set: &ChainSet, server: ServerId, message: &Message) -> bool
     ensures { result ≡ fits_program set.now server message.now
         (program_at set.now message.now.program) }

@@ -54,8 +54,9 @@ fn after_hop(alloc: Global, set: &ChainSet, ran: &HopEntry) -> Result<Option<Mes
     }))
 }
 
-/// The message that the entry sends: same chain, program, arguments and numbers, the next hop, the entry's
-/// stamp, and the results so far with the new ones behind them. A last hop, and a refusal, send none.
+/// The message that the entry sends: same chain, program, arguments and numbers, the next hop, the
+/// entry's stamp, and the results so far with the new ones behind them. A last hop, and a refusal,
+/// send none.
 pub fn next_of(alloc: Global, set: &ChainSet, entry: &Entry) -> Result<Option<Message>, Memory>
     ensures { IfOk result (λ next. next ≡ next_message set.now entry.now) }
 {

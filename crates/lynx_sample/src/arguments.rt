@@ -7,7 +7,8 @@ use std::alloc::Global;
 /// Numbers that are tried where a parameter is no key.
 const SMALL: [u64; 13] = [0, 1, 2, 3, 4, 5, 6, 7, 8, 9, 10, 50, 100];
 
-/// An argument for each parameter of the program, none where the set hasn't it. They may fail the checks of a request.
+/// An argument for each parameter of the program, none where the set hasn't it. They may fail the
+/// checks of a request.
 pub(crate) fn random_arguments(
     alloc: Global,
     set: &ChainSet,

@@ -19,8 +19,8 @@ const DRAWS: u32 = 50;
 const CLIENTS: u64 = 4;
 
 impl Plan {
-    /// A begin of a chain whose first hop refuses nothing. False where no request for one was found, or the server was
-    /// busy.
+    /// A begin of a chain whose first hop refuses nothing. False where no request for one was
+    /// found, or the server was busy.
     pub(crate) fn begin(&mut self, alloc: Global, choices: &mut Choices) -> Result<bool, Memory> {
         let cells = cells_of(alloc, &self.world)?;
         for _ in 0..DRAWS {
@@ -31,8 +31,8 @@ impl Plan {
         Ok(false)
     }
 
-    /// A request and the server that is to begin it, None where it would fail. Of the requests to a busy server few are
-    /// given.
+    /// A request and the server that is to begin it, None where it would fail. Of the requests to a
+    /// busy server few are given.
     fn draw(
         &self,
         alloc: Global,

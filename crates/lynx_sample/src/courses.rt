@@ -29,13 +29,14 @@ impl Course {
             .any(|hop| hop.server == server)
     }
 
-    /// Whether the chain began at the server and has still to return there, so that the server is busy.
+    /// Whether the chain began at the server and has still to return there, so that the server is
+    /// busy.
     pub(crate) fn keeps_busy(&self, set: &ChainSet, server: ServerId) -> bool {
         self.chain.origin == server && self.owes_at(set, server)
     }
 
-    /// Whether it is the turn of the hop that the chain owes next: no chain that began before it at its origin owes a
-    /// hop at that hop's server.
+    /// Whether it is the turn of the hop that the chain owes next: no chain that began before it at
+    /// its origin owes a hop at that hop's server.
     pub(crate) fn is_due(&self, set: &ChainSet, courses: &[Course]) -> bool {
         let Some(server) = self.next_server(set) else {
             return false;

@@ -12,8 +12,8 @@ const STEPS: u64 = 16;
 /// Hops of a chain, at most, and as many events between them.
 const LAST_STEPS: u64 = 32;
 
-/// The text of a script in which at most so many chains begin. Mostly no chain owes a hop at its end, which is for the
-/// caller to judge.
+/// The text of a script in which at most so many chains begin. Mostly no chain owes a hop at its
+/// end, which is for the caller to judge.
 pub(crate) fn drawn_script(
     alloc: Global,
     set: &ChainSet,
@@ -43,7 +43,8 @@ pub(crate) fn drawn_script(
     Ok(script_text(alloc, set, plan.events.as_slice())?)
 }
 
-/// A chain is brought further, and now and then something goes wrong before. False where no chain owes a hop.
+/// A chain is brought further, and now and then something goes wrong before. False where no chain
+/// owes a hop.
 fn step(alloc: Global, plan: &mut Plan, choices: &mut Choices) -> Result<bool, Memory> {
     if choices.once_in(5) {
         plan.stumble(alloc, choices)?;

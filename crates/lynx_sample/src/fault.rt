@@ -6,7 +6,8 @@ use thiserror::Error;
 /// Why no script was written, or not all of it.
 #[derive(Clone, Copy, Debug, PartialEq, Eq, Error)]
 pub enum SampleFault {
-    /// The set text is faulty, memory is wanting, or the script can't be written. It is never a fault of a script's text.
+    /// The set text is faulty, memory is wanting, or the script can't be written. It is never a
+    /// fault of a script's text.
     #[error("{0}")]
     Run(RunFault),
     /// A cycle was asked for, and no run that was tried ended with one.

@@ -1,4 +1,5 @@
-//! Random scripts: events over a set, drawn by a seed, in a text that is judged before it is written.
+//! Random scripts: events over a set, drawn by a seed, in a text that is judged before it is
+//! written.
 #![tactic(auto)]
 
 pub use fault::SampleFault;

@@ -8,14 +8,15 @@ use lynx_set::{Action, ChainSet, Hop, Key};
 use lynx_world::{World, empty_keepers};
 use std::alloc::Global;
 
-/// Events that were drawn, and what is to be known for drawing more. The script is judged anew, from its text, so nothing
-/// is proved of it here.
+/// Events that were drawn, and what is to be known for drawing more. The script is judged anew,
+/// from its text, so nothing is proved of it here.
 #[derive(Drop)]
 pub(crate) struct Plan {
     pub(crate) world: World,
     pub(crate) events: Vec<Event>,
     pub(crate) courses: Vec<Course>,
-    /// Numbers at which chains can meet: the keys that the set's programs name, and the arguments of chains that began.
+    /// Numbers at which chains can meet: the keys that the set's programs name, and the arguments
+    /// of chains that began.
     pub(crate) meeting: Vec<u64>,
     /// How many requests were made.
     pub(crate) requests: u64,

@@ -28,10 +28,11 @@ pub struct SampleOptions {
     pub cycle: bool,
 }
 
-/// Writes a random script over the set that a text spells: begins that pass their checks, and among them deliveries,
-/// repeats, losses, wakings and restarts, so that at the end no chain owes a hop. Where of [`TRIES`] runs none comes to
-/// its end, and no cycle is asked for, it is the script without events. All of the text is made and judged before any of
-/// it is written. A try takes about the time of two runs of its script.
+/// Writes a random script over the set that a text spells: begins that pass their checks, and among
+/// them deliveries, repeats, losses, wakings and restarts, so that at the end no chain owes a hop.
+/// Where of [`TRIES`] runs none comes to its end, and no cycle is asked for, it is the script
+/// without events. All of the text is made and judged before any of it is written. A try takes
+/// about the time of two runs of its script.
 pub fn sample_text<W: Write>(
     alloc: Global,
     set: &[u8],
@@ -66,7 +67,8 @@ fn sample_over(alloc: Global, set: &ChainSet, options: SampleOptions) -> Result<
     no_sample(alloc, set, options.cycle)
 }
 
-/// What is left where no run ended as it was asked for: the script without events leaves no hop owed.
+/// What is left where no run ended as it was asked for: the script without events leaves no hop
+/// owed.
 fn no_sample(alloc: Global, set: &ChainSet, cycle: bool) -> Result<String, SampleFault>
     ensures ok { IfOk result (λ script. IsSampleOver cycle set.now (string_bytes script)) }
     ensures err { IfErr result (NotFoundFor cycle) }

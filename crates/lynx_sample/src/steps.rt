@@ -7,8 +7,8 @@ use lynx_names::{Memory, ServerId};
 use std::alloc::Global;
 
 impl Plan {
-    /// The next hop of a chain whose turn it is: its message is delivered, or where its server holds it the server is
-    /// woken. False where no chain owes a hop.
+    /// The next hop of a chain whose turn it is: its message is delivered, or where its server
+    /// holds it the server is woken. False where no chain owes a hop.
     pub(crate) fn advance(&mut self, alloc: Global, choices: &mut Choices) -> Result<bool, Memory> {
         let Some(course) = self.pick(choices, Wanted::Due) else {
             return Ok(false);

@@ -1,5 +1,5 @@
-//! The numbers of chains: a counter for each server, from which a begin draws the numbers of its chain, and then
-//! binds them or gives them back.
+//! The numbers of chains: a counter for each server, from which a begin draws the numbers of its
+//! chain, and then binds them or gives them back.
 #![tactic(auto)]
 
 pub use draw::Draw;

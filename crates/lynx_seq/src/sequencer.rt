@@ -10,8 +10,8 @@ use std::marker::Model;
 
 const SERVERS: usize = MAX_SERVERS as usize;
 
-/// A counter for each server: how many chains that visit it were given a number. Contracts see the counters, and
-/// the numbers of the draw that is out.
+/// A counter for each server: how many chains that visit it were given a number. Contracts see the
+/// counters, and the numbers of the draw that is out.
 #[derive(Debug, Drop)]
 pub struct Sequencer {
     pub(crate) counters: [u64; SERVERS],

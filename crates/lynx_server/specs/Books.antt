@@ -14,7 +14,8 @@ use Rattle.lynx_rules.specs.Tables.{tables_of}
 use Rattle.lynx_rules.specs.Checks.{begins}
 use Rattle.lynx_server.specs.History.{IsLawfulHistory}
 
--- the books of a server: all that it did, and the numbers that are drawn and neither bound nor given back
+-- the books of a server: all that it did, and the numbers that are drawn and neither bound nor
+-- given back
 pub record BooksState : Type 0 where
   pub set : Set
   pub server : ℕ
@@ -38,14 +39,20 @@ IsFoundAt history None found = found ≡ None
 IsFoundAt history (Some place) found = (place < length history) × (slice_get history place ≡ found)
 
 -- what stands beside a history is what the definitions say of it
-pub record IsBooks (set : Set) (server : ℕ) (history : History) (counters turns chains : List ℕ) (cells : Database) : Type 0 where
+pub record IsBooks (set : Set) (server : ℕ) (history : History) (counters turns chains : List ℕ)
+    (cells : Database) : Type 0 where
   pub lawful : IsLawfulHistory set server history
-  pub counters_are : (visited : ℕ) → visited < MAX_SERVERS → slice_index counters visited ≡ number_for set history visited
-  pub turns_are : (origin : ℕ) → origin < MAX_SERVERS → slice_index turns origin ≡ turn_of set server history origin
+  pub counters_are : (visited : ℕ) → visited < MAX_SERVERS
+      → slice_index counters visited ≡ number_for set history visited
+  pub turns_are : (origin : ℕ) → origin < MAX_SERVERS
+      → slice_index turns origin ≡ turn_of set server history origin
   -- each chain that began here visits this server
   pub home_is : number_for set history server ≡ begun_count history
-  pub chains_are : (index : ℕ) → IsFoundAt history (slice_get chains index) (find (begins_as index) history)
+  pub chains_are : (index : ℕ)
+      → IsFoundAt history (slice_get chains index) (find (begins_as index) history)
   pub chains_count : length chains ≡ begun_count history
   -- one entry alone began a chain
-  pub sole : (message : Message) → list_any (begins message) history ≡ begins_found message (find (begins_as message.chain.index) history)
+  pub sole : (message : Message)
+      → list_any (begins message) history
+      ≡ begins_found message (find (begins_as message.chain.index) history)
   pub cells_are : cells ≡ tables_of set history

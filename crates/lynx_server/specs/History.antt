@@ -8,7 +8,8 @@ use Rattle.lynx_rules.specs.Lawful.{IsLawful}
 -- behind these entries, each is lawful after those before it
 abbrev pub IsLawfulAfter : Set → ℕ → History → History → Type 0
 IsLawfulAfter set server before [] = Unit {0}
-IsLawfulAfter set server before (entry ∷ history) = IsLawful set server before entry × IsLawfulAfter set server (before ++ entry ∷ []) history
+IsLawfulAfter set server before (entry ∷ history) =
+    IsLawful set server before entry × IsLawfulAfter set server (before ++ entry ∷ []) history
 
 -- Each entry is lawful after those before it.
 abbrev pub IsLawfulHistory : Set → ℕ → History → Type 0

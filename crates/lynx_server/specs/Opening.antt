@@ -21,12 +21,14 @@ pub record HasOtherCells (set : Set) (server : ℕ) (kept : KeptState) (place : 
 
 -- No server of the set can have kept this: an entry at the place, or, behind them all, the cells.
 abbrev pub IsDamaged : Set → ℕ → KeptState → ℕ → Type 0
-IsDamaged set server kept place = IsFirstUnlawful set server kept.entries place ⊎ HasOtherCells set server kept place
+IsDamaged set server kept place =
+    IsFirstUnlawful set server kept.entries place ⊎ HasOtherCells set server kept place
 
 -- Reading what is kept changes nothing: a stop leaves what was kept.
 pub record IsRead {K : Type 0} (terms : Terms K) (old new : K) : Type 0 where
   pub sound_before : terms.sound new → terms.sound old
-  pub stop : terms.sound new → (kept : KeptState) → terms.keeps old kept → terms.leaves new kept kept
+  pub stop : terms.sound new → (kept : KeptState) → terms.keeps old kept
+      → terms.leaves new kept kept
   pub counts : terms.counted old ≤ terms.counted new
 
 -- this was read: it is kept, and all that was kept
@@ -36,7 +38,8 @@ pub record Finds {K : Type 0} (terms : Terms K) (old new : K) (found : KeptState
   pub all : terms.sound new → (kept : KeptState) → terms.keeps old kept → kept ≡ found
 
 -- what was found is damaged
-pub record FindsDamage {K : Type 0} (terms : Terms K) (set : Set) (server : ℕ) (old new : K) (place : ℕ) : Type 0 where
+pub record FindsDamage {K : Type 0} (terms : Terms K) (set : Set) (server : ℕ) (old new : K)
+    (place : ℕ) : Type 0 where
   pub found : KeptState
   pub finds : Finds terms old new found
   pub damaged : IsDamaged set server found place
@@ -58,7 +61,8 @@ IsUnopened terms set server old new Store = FindsFault terms old new
 IsUnopened terms set server old new Memory = FindsNoRoom terms old new
 
 -- the history is what the keeper kept, which is lawful and has its tables; nothing is held
-pub record IsOpened {K : Type 0} (terms : Terms K) (set : Set) (server : ℕ) (keeper : K) (opened : Serving K) : Type 0 where
+pub record IsOpened {K : Type 0} (terms : Terms K) (set : Set) (server : ℕ) (keeper : K)
+    (opened : Serving K) : Type 0 where
   pub finds : Finds terms keeper opened.keeper (kept_of set opened.history)
   pub set_is : opened.set ≡ set
   pub server_is : opened.server ≡ server
@@ -71,7 +75,8 @@ pub record IsOpened {K : Type 0} (terms : Terms K) (set : Set) (server : ℕ) (k
 -- An opening: what is kept is a server's; or not, and then this is left of the keeper.
 abbrev pub Opens : {K : Type 0} → Terms K → Set → ℕ → K → Result (Serving K) OpenFault → Type 0
 Opens terms set server keeper (Ok opened) = IsOpened terms set server keeper opened
-Opens {K} terms set server keeper (Err fault) = (left : K) × IsUnopened terms set server keeper left fault
+Opens {K} terms set server keeper (Err fault) =
+    (left : K) × IsUnopened terms set server keeper left fault
 
 -- a keeper's fault, as that of an opening
 abbrev pub open_fault : KeepFault → OpenFault

@@ -14,11 +14,14 @@ is_acknowledged marks place = unwrap_or (slice_get marks place) false
 
 -- the place is marked, and no other
 abbrev pub HasMarked : List Bool → ℕ → List Bool → Type 0
-HasMarked old place new = (other : ℕ) → is_acknowledged new other ≡ (if other == place then true else is_acknowledged old other)
+HasMarked old place new =
+    (other : ℕ) → is_acknowledged new other
+    ≡ (if other == place then true else is_acknowledged old other)
 
 -- the next message of the entry at the place, unless it was acknowledged
 abbrev pub owed_by : {K : Type 0} → Serving K → ℕ → Entry → Option Message
-owed_by serving place entry = if is_acknowledged serving.acknowledged place then None else next_message serving.set entry
+owed_by serving place entry =
+    if is_acknowledged serving.acknowledged place then None else next_message serving.set entry
 
 -- this message is owed by the entry at the place
 pub record IsOwed {K : Type 0} (serving : Serving K) (place : ℕ) (message : Message) : Type 0 where
@@ -29,7 +32,8 @@ pub record IsOwed {K : Type 0} (serving : Serving K) (place : ℕ) (message : Me
 -- from this place on nothing is owed before that place
 abbrev pub OwesNothingBetween : {K : Type 0} → Serving K → ℕ → ℕ → Type 0
 OwesNothingBetween serving from place =
-    (other : ℕ) → from ≤ other → other < place → (message : Message) → IsOwed serving other message → ⊥
+    (other : ℕ) → from ≤ other → other < place → (message : Message) → IsOwed serving other message
+    → ⊥
 
 -- The first message that is owed from this place on, and where.
 abbrev pub IsFirstOwed : {K : Type 0} → Serving K → ℕ → Option (ℕ × Message) → Type 0

@@ -9,7 +9,8 @@ use Rattle.lynx_server.specs.History.{IsFirstUnlawful, IsLawfulHistory}
 use Rattle.lynx_server.specs.Serving.{Serving}
 
 -- it has this very history, which is lawful, and it holds nothing
-pub record IsRebuilt (set : Set) (server : ℕ) (history : History) (rebuilt : Serving KeptState) : Type 0 where
+pub record IsRebuilt (set : Set) (server : ℕ) (history : History)
+    (rebuilt : Serving KeptState) : Type 0 where
   pub set_is : rebuilt.set ≡ set
   pub server_is : rebuilt.server ≡ server
   pub history_is : rebuilt.history ≡ history
@@ -18,7 +19,8 @@ pub record IsRebuilt (set : Set) (server : ℕ) (history : History) (rebuilt : S
   pub runs : rebuilt.is_stopped ≡ false
   pub lawful : IsLawfulHistory set server history
 
--- A server made of a history, or the place of the first entry that isn't lawful after those before it.
+-- A server made of a history, or the place of the first entry that isn't lawful after those before
+-- it.
 abbrev pub Rebuilds : Set → ℕ → History → Result (Serving KeptState) OpenFault → Type 0
 Rebuilds set server history (Ok rebuilt) = IsRebuilt set server history rebuilt
 Rebuilds set server history (Err (Damaged place)) = IsFirstUnlawful set server history place

@@ -23,8 +23,9 @@ use lynx_turn::{Stand, Turns};
 use std::alloc::Global;
 use std::marker::Model;
 
-/// All that a server did, and beside it the numbers for the next chain, the turns, the cells, and where each chain
-/// began. Contracts see the set, the server, the history, and the draw that is out.
+/// All that a server did, and beside it the numbers for the next chain, the turns, the cells, and
+/// where each chain began. Contracts see the set, the server, the history, and the draw that is
+/// out.
 #[derive(Debug, Drop)]
 pub struct Books {
     pub(crate) set: ChainSet,

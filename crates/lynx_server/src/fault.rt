@@ -6,8 +6,9 @@ use thiserror::Error;
 /// Why a server wasn't opened.
 #[derive(Clone, Copy, Debug, PartialEq, Eq, Error)]
 pub enum OpenFault {
-    /// No server of the set can have kept this. The place is that of the first entry that isn't lawful after those
-    /// before it, counted from 0, or the count of entries where only the cells aren't theirs.
+    /// No server of the set can have kept this. The place is that of the first entry that isn't
+    /// lawful after those before it, counted from 0, or the count of entries where only the cells
+    /// aren't theirs.
     #[error("damaged at entry {place}")]
     Damaged { place: u64 },
     /// The store failed.

@@ -16,7 +16,8 @@ use lynx_names::Memory;
 use lynx_seq::Draw;
 use std::alloc::Global;
 
-/// Room for one more entry, one more chain, and the changes. After an error some of the room may be there.
+/// Room for one more entry, one more chain, and the changes. After an error some of the room may be
+/// there.
 fn make_room(
     history: &mut Vec<Entry>,
     chains: &mut Vec<usize>,

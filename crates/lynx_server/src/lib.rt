@@ -1,5 +1,5 @@
-//! A server with its state: its history with counters, turns, tables and indexes beside it, the states of a step, which
-//! must be spent, and its keeper.
+//! A server with its state: its history with counters, turns, tables and indexes beside it, the
+//! states of a step, which must be spent, and its keeper.
 #![tactic(auto)]
 
 pub use books::Books;

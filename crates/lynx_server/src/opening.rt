@@ -14,8 +14,8 @@ use lynx_names::{Memory, ServerId, TryCopy};
 use lynx_set::ChainSet;
 use std::alloc::Global;
 
-/// The place of the first entry that isn't lawful at this server after those before it, None where each is. The
-/// entries are gone over once, and each takes the work of its hop and a few look-ups.
+/// The place of the first entry that isn't lawful at this server after those before it, None where
+/// each is. The entries are gone over once, and each takes the work of its hop and a few look-ups.
 pub fn first_unlawful(
     alloc: Global,
     set: &ChainSet,
@@ -67,9 +67,9 @@ fn read_back<K: Keeper>(
 }
 
 impl<K: Keeper> Server<K> {
-    /// A server over all that the keeper keeps. Nothing is held, and the keeper's earlier faults don't count. The
-    /// kept entries are gone over once, and each takes the work of its hop and a few look-ups. A stop at any moment
-    /// leaves what was kept.
+    /// A server over all that the keeper keeps. Nothing is held, and the keeper's earlier faults
+    /// don't count. The kept entries are gone over once, and each takes the work of its hop and a
+    /// few look-ups. A stop at any moment leaves what was kept.
     pub fn open(
         alloc: Global,
         set: &ChainSet,
@@ -84,8 +84,8 @@ impl<K: Keeper> Server<K> {
         Ok(replayed.over(keeper))
     }
 
-    /// Drops all but the keeper, and opens again over what it keeps: nothing is held, and a server that stopped
-    /// runs again.
+    /// Drops all but the keeper, and opens again over what it keeps: nothing is held, and a server
+    /// that stopped runs again.
     pub fn restart(self, alloc: Global) -> Result<Server<K>, OpenFault>
     where
         K: Drop,

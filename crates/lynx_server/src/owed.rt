@@ -11,8 +11,8 @@ use lynx_rules::next_of;
 use std::alloc::Global;
 
 impl<K: Keeper> Server<K> {
-    /// The first message that is owed by an entry at this place of the history or behind it, and the entry's
-    /// place. The work is a look at each place up to that one, and the message's copy.
+    /// The first message that is owed by an entry at this place of the history or behind it, and
+    /// the entry's place. The work is a look at each place up to that one, and the message's copy.
     pub fn messages_due(&self, alloc: Global, from: u64) -> Result<Option<(u64, Message)>, Memory>
         ensures { IfOk result (IsFirstOwed self.now from) }
     {
@@ -38,8 +38,8 @@ impl<K: Keeper> Server<K> {
         next_of(alloc, self.set(), entry)
     }
 
-    /// Notes that the hop was done, where an entry here sends it. The note isn't kept: a server that is opened
-    /// again owes the message again. Two look-ups at most; takes no memory.
+    /// Notes that the hop was done, where an entry here sends it. The note isn't kept: a server
+    /// that is opened again owes the message again. Two look-ups at most; takes no memory.
     pub fn acknowledge(&mut self, chain: ChainId, hop: u8)
         ensures { Acknowledges self.old chain hop self.new }
     {

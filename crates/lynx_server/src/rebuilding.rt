@@ -10,9 +10,9 @@ use lynx_names::ServerId;
 use lynx_set::ChainSet;
 use std::alloc::Global;
 
-/// A server that did what these entries tell, over a keeper in memory. The entries are gone over once, and each takes
-/// the work of its hop and a few look-ups. Damaged names the first that isn't lawful after those before it; the
-/// answer is never Store.
+/// A server that did what these entries tell, over a keeper in memory. The entries are gone over
+/// once, and each takes the work of its hop and a few look-ups. Damaged names the first that isn't
+/// lawful after those before it; the answer is never Store.
 pub fn rebuild(
     alloc: Global,
     set: &ChainSet,

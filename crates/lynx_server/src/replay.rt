@@ -12,7 +12,8 @@ use lynx_names::{Memory, ServerId, Stamp, TryCopy};
 use lynx_set::ChainSet;
 use std::alloc::Global;
 
-/// Keeps nothing: what is repeated over it stands in a store already. Nothing is said of what it gives back.
+/// Keeps nothing: what is repeated over it stands in a store already. Nothing is said of what it
+/// gives back.
 #[derive(Debug, Drop)]
 pub struct Unkept;
 
@@ -102,7 +103,8 @@ pub enum Replayed {
     Differs(usize),
 }
 
-/// A server that does what these entries did, one after another. Each takes the work of its hop, and a few look-ups.
+/// A server that does what these entries did, one after another. Each takes the work of its hop,
+/// and a few look-ups.
 pub(crate) fn replay(
     alloc: Global,
     set: &ChainSet,

@@ -27,9 +27,10 @@ use lynx_turn::HeldBuffer;
 use std::alloc::Global;
 use std::marker::Model;
 
-/// One server: its history with all that stands beside it, the messages that it holds, and its keeper, which has
-/// each entry before it is answered. Contracts see the set, the server, the history, the held messages, whether it
-/// stopped, how often its keeper had failed when it was opened, what was acknowledged, and the keeper.
+/// One server: its history with all that stands beside it, the messages that it holds, and its
+/// keeper, which has each entry before it is answered. Contracts see the set, the server, the
+/// history, the held messages, whether it stopped, how often its keeper had failed when it was
+/// opened, what was acknowledged, and the keeper.
 #[derive(Drop)]
 pub struct Server<K: Keeper> {
     pub(crate) register: Register,
@@ -135,15 +136,16 @@ impl<K: Keeper> Server<K> {
         self.register.books().entry(place)
     }
 
-    /// The place of the entry that keeps the answer to a request of this client and number: one look-up. Takes no
-    /// memory.
+    /// The place of the entry that keeps the answer to a request of this client and number: one
+    /// look-up. Takes no memory.
     pub fn record_place(&self, request: &Request) -> Option<usize>
         ensures { IsFoundAt self.now.history result (record_of request.now self.now.history) }
     {
         self.register.record_place(request)
     }
 
-    /// The place of the entry of that hop of the chain, if it ran here: two look-ups at most. Takes no memory.
+    /// The place of the entry of that hop of the chain, if it ran here: two look-ups at most. Takes
+    /// no memory.
     pub fn place_of(&self, chain: ChainId, hop: u8) -> Option<usize>
         ensures { IsFoundAt self.now.history result (act_of chain hop self.now.history) }
     {
@@ -157,7 +159,8 @@ impl<K: Keeper> Server<K> {
         self.register.entry_of(chain, hop)
     }
 
-    /// The stamp and the results of that hop of the chain, if it ran here: two look-ups at most. Takes no memory.
+    /// The stamp and the results of that hop of the chain, if it ran here: two look-ups at most.
+    /// Takes no memory.
     pub fn results(&self, chain: ChainId, hop: u8) -> Option<(Stamp, &[u64])>
         ensures { GivesResults (act_of chain hop self.now.history) result }
     {
@@ -191,7 +194,8 @@ impl<K: Keeper> Server<K> {
         &self.keeper
     }
 
-    /// Whether the keeper failed. Then the server answers Stopped to everything until it is opened again.
+    /// Whether the keeper failed. Then the server answers Stopped to everything until it is opened
+    /// again.
     pub fn is_stopped(&self) -> bool
         ensures { result ≡ self.now.is_stopped }
     {
@@ -222,7 +226,8 @@ impl<K: Keeper> Server<K> {
     where
         K: Drop,
         requires runs { self.is_stopped ≡ false }
-        requires kept { L.terms.sound keeper → L.terms.keeps keeper (kept_of self.set self.history) }
+        requires kept { L.terms.sound keeper
+            → L.terms.keeps keeper (kept_of self.set self.history) }
         ensures { result ≡ record {
           set = self.set;
           server = self.server;
@@ -284,9 +289,9 @@ impl<K: Keeper> Server<K> {
         }
     }
 
-    /// Begins a chain, or answers from the record. In this order: a server that stopped; a request that is recorded;
-    /// what is wrong with it; no room; a chain that has still to return here; else hop 0 runs. The work is that of
-    /// the hop, and a few look-ups in the indexes.
+    /// Begins a chain, or answers from the record. In this order: a server that stopped; a request
+    /// that is recorded; what is wrong with it; no room; a chain that has still to return here;
+    /// else hop 0 runs. The work is that of the hop, and a few look-ups in the indexes.
     pub fn begin(&mut self, alloc: Global, request: Request, seen: Stamp) -> Answer
         ensures stopped { self.old.is_stopped ≡ true → (result ≡ Answer.Stopped)
             × (self.new ≡ self.old) }
@@ -357,9 +362,10 @@ impl<K: Keeper> Server<K> {
         }
     }
 
-    /// Delivers a message. In this order: a server that stopped; one that nobody can have sent; a hop that ran; a hop
-    /// whose turn it is not, which may wait; no room; else the hop runs. The work is that of the hop, a few look-ups in
-    /// the indexes, and for one that comes early a walk over the held messages.
+    /// Delivers a message. In this order: a server that stopped; one that nobody can have sent; a
+    /// hop that ran; a hop whose turn it is not, which may wait; no room; else the hop runs. The
+    /// work is that of the hop, a few look-ups in the indexes, and for one that comes early a walk
+    /// over the held messages.
     pub fn deliver(&mut self, alloc: Global, message: Message) -> Delivered
         ensures stopped { self.old.is_stopped ≡ true → (result ≡ Delivered.Stopped)
             × (self.new ≡ self.old) }
@@ -380,10 +386,10 @@ impl<K: Keeper> Server<K> {
 }
 
 impl<K: Keeper> Server<K> {
-    /// Delivers the held message whose turn it is now, the least by origin, index and hop. None where none's turn
-    /// it is. Where there is no room for its entry, or no memory, or the server stopped, it is held as before. A
-    /// server that stopped tells the message, and delivers nothing. The work is that of a delivery, and a walk over
-    /// the held messages.
+    /// Delivers the held message whose turn it is now, the least by origin, index and hop. None
+    /// where none's turn it is. Where there is no room for its entry, or no memory, or the server
+    /// stopped, it is held as before. A server that stopped tells the message, and delivers
+    /// nothing. The work is that of a delivery, and a walk over the held messages.
     pub fn wake(&mut self, alloc: Global) -> Option<Woken>
         ensures stopped { self.old.is_stopped ≡ true → (result ≡ told_stopped (woken_of self.old))
             × (self.new ≡ self.old) }

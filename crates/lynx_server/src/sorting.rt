@@ -84,8 +84,8 @@ impl Register {
         }
     }
 
-    /// What is to become of a message, where these are held. In this order: a message that nobody can have sent; a
-    /// hop that ran; a hop whose turn it is not; no room; else the hop runs.
+    /// What is to become of a message, where these are held. In this order: a message that nobody
+    /// can have sent; a hop that ran; a hop whose turn it is not; no room; else the hop runs.
     pub(crate) fn sort(
         &self,
         alloc: Global,

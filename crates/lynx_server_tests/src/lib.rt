@@ -1,4 +1,5 @@
-//! Tests of a server with its state, with ample memory: a body that always answers want of memory meets any contract.
+//! Tests of a server with its state, with ample memory: a body that always answers want of memory
+//! meets any contract.
 #![tactic(auto)]
 
 #[cfg(test)]

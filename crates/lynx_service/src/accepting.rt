@@ -13,9 +13,9 @@ use std::thread;
 use std::thread::Threads;
 use std::time::{Clock, Duration};
 
-/// Serves clients at the listener until one asks for the end and all have gone, and gives their sessions back. Each has a
-/// thread of its own. One for which there is no thread is hung up on, and so is each beyond
-/// [`MAX_CLIENTS`](crate::limits::MAX_CLIENTS).
+/// Serves clients at the listener until one asks for the end and all have gone, and gives their
+/// sessions back. Each has a thread of its own. One for which there is no thread is hung up on, and
+/// so is each beyond [`MAX_CLIENTS`](crate::limits::MAX_CLIENTS).
 pub(crate) fn serve_clients<
     R: Threads + Wait + Clock + Sync + Net<Listener = TcpListener, Stream = TcpStream>,
     K: Keeper + Send + Drop,

@@ -48,8 +48,8 @@ impl Hall {
         self.is_shut.store(true, Ordering::SeqCst);
     }
 
-    /// Lets one more client in, with room for its session when it goes. False where as many are in as may be, or for
-    /// want of memory.
+    /// Lets one more client in, with room for its session when it goes. False where as many are in
+    /// as may be, or for want of memory.
     pub(crate) fn enter<R: Wait>(&self, rt: &R) -> bool {
         let mut clients = self.clients.lock(rt);
         let count = clients.count;

@@ -1,6 +1,6 @@
-//! Serving clients over TCP: the stores of a set are opened, a cluster runs over them, each client that comes gets a
-//! thread and a session of its own, and once one of them asks for it the cluster is closed, which audits what all were
-//! told.
+//! Serving clients over TCP: the stores of a set are opened, a cluster runs over them, each client
+//! that comes gets a thread and a session of its own, and once one of them asks for it the cluster
+//! is closed, which audits what all were told.
 #![tactic(auto)]
 
 pub use desk::ClientDesk;

@@ -3,7 +3,8 @@
 /// Connections that are open at a time, at most. A further one is closed at once.
 pub const MAX_CLIENTS: u64 = 64;
 
-/// Seconds for which a client may be silent, at most: after them its connection ends, as if its input had.
+/// Seconds for which a client may be silent, at most: after them its connection ends, as if its
+/// input had.
 pub const MAX_IDLE_SECONDS: u64 = 600;
 
 /// Seconds for which a client may be silent once a client asked for the end.
@@ -15,5 +16,6 @@ pub const MAX_WRITE_SECONDS: u64 = 10;
 /// Milliseconds after which a read that waits looks whether it has to end.
 pub(crate) const TICK_MILLIS: u64 = 250;
 
-/// Milliseconds that go by after a connection could not be taken, for want of file handles say, before the next is.
+/// Milliseconds that go by after a connection could not be taken, for want of file handles say,
+/// before the next is.
 pub(crate) const RETRY_MILLIS: u64 = 20;

@@ -10,8 +10,8 @@ const IDLE_TICKS: u64 = MAX_IDLE_SECONDS * 1000 / TICK_MILLIS;
 /// The same, once the service is to end.
 const SHUT_TICKS: u64 = MAX_SHUT_SECONDS * 1000 / TICK_MILLIS;
 
-/// What a client sends over a stream whose reads end after [`TICK_MILLIS`]. Where the client is silent for too long, its
-/// input has ended.
+/// What a client sends over a stream whose reads end after [`TICK_MILLIS`]. Where the client is
+/// silent for too long, its input has ended.
 #[derive(Drop)]
 pub(crate) struct Patient<'a> {
     stream: &'a TcpStream,

@@ -3,8 +3,8 @@ use lynx_names::ServerId;
 use std::io::IsTerminal;
 use std::rt::HostRuntime;
 
-/// Tells on standard error what is under way, where that is a terminal, in one line that is written over and in the end
-/// wiped away.
+/// Tells on standard error what is under way, where that is a terminal, in one line that is written
+/// over and in the end wiped away.
 #[derive(Drop)]
 pub struct Progress<'a> {
     rt: &'a HostRuntime,

@@ -13,8 +13,8 @@ use std::sync::Wait;
 use std::sync::atomic::AtomicBool;
 use std::time::Duration;
 
-/// Reads that are made of a client that has been told goodbye, at most, so that what it sent beyond doesn't cost it the
-/// answers that it hasn't read yet.
+/// Reads that are made of a client that has been told goodbye, at most, so that what it sent beyond
+/// doesn't cost it the answers that it hasn't read yet.
 const LAST_READS: u32 = 16;
 
 /// Has reads of the stream end after a tick, and writes after some seconds. Whether it can be done.
@@ -84,8 +84,8 @@ fn serve_by<R: Wait, K: Keeper + Drop, G: Gate + Drop>(
     (session, shuts)
 }
 
-/// Serves one client to its end. Where it asks for the end of the service, it knocks at the port once, so that who
-/// accepts sees the flag. A client for which there is no session is hung up on.
+/// Serves one client to its end. Where it asks for the end of the service, it knocks at the port
+/// once, so that who accepts sees the flag. A client for which there is no session is hung up on.
 pub(crate) fn talk<
     R: Wait + Net<Listener = TcpListener, Stream = TcpStream>,
     K: Keeper + Drop,

@@ -16,11 +16,14 @@ holds interval number = nat_le interval.low number && nat_le number interval.hig
 abbrev pub meets : Interval → Interval → Bool
 meets left right = nat_le left.low right.high && nat_le right.low left.high
 
--- the interval in which a parameter's arguments lie: that of its first range, none where they may be any number
+-- the interval in which a parameter's arguments lie: that of its first range, none where they may
+-- be any number
 abbrev pub range_of : List ParameterRange → ℕ → Option Interval
 range_of [] parameter = None
-range_of (range ∷ ranges) parameter = if range.parameter == parameter then Some range.interval else range_of ranges parameter
+range_of (range ∷ ranges) parameter =
+    if range.parameter == parameter then Some range.interval else range_of ranges parameter
 
 -- each argument of which there is a range lies in it
 abbrev pub are_in_range : List ParameterRange → List ℕ → Bool
-are_in_range ranges args = list_all (λ range. holds range.interval (slice_index args range.parameter)) ranges
+are_in_range ranges args =
+    list_all (λ range. holds range.interval (slice_index args range.parameter)) ranges

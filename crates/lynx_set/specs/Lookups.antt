@@ -22,11 +22,13 @@ hops_of set program = unwrap_or (option_map (λ found. found.hops) (program_at s
 
 -- the hop of that number, counted from 0
 abbrev pub hop_at : Set → ℕ → ℕ → Option Hop
-hop_at set program hop = option_and_then (λ found. slice_get found.hops hop) (program_at set program)
+hop_at set program hop =
+    option_and_then (λ found. slice_get found.hops hop) (program_at set program)
 
 -- its actions, none where there is no such hop
 abbrev pub actions_at : Set → ℕ → ℕ → List Action
-actions_at set program hop = unwrap_or (option_map (λ found. found.actions) (hop_at set program hop)) []
+actions_at set program hop =
+    unwrap_or (option_map (λ found. found.actions) (hop_at set program hop)) []
 
 -- its server
 abbrev pub server_at : Set → ℕ → ℕ → Option ℕ
@@ -56,7 +58,8 @@ program_names set = map (λ named. named.0) set.programs
 
 -- the name of a program, and of a table
 abbrev pub program_name : Set → ℕ → List ℕ
-program_name set program = unwrap_or (option_map (λ named. named.0) (slice_get set.programs program)) []
+program_name set program =
+    unwrap_or (option_map (λ named. named.0) (slice_get set.programs program)) []
 
 abbrev pub table_name : Set → ℕ → List ℕ
 table_name set table = unwrap_or (slice_get set.tables table) []

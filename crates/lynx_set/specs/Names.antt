@@ -9,4 +9,5 @@ place_of names name = position (λ known. bytes_eq known name) names
 
 -- the place of a name among the first
 abbrev pub place_below : ℕ → List (List ℕ) → List ℕ → Option ℕ
-place_below limit names name = place_of names name >>= λ place. if nat_lt place limit then Some place else None
+place_below limit names name =
+    place_of names name >>= λ place. if nat_lt place limit then Some place else None

@@ -4,7 +4,8 @@ use Rattle.lynx_shards.specs.declared.shard.Shard.{Shard}
 use Rattle.lynx_set.specs.declared.program.Program.{Program}
 use Rattle.lynx_set.specs.declared.version.Version.{Version}
 
--- a set: its version, its servers, its tables and their shards, and its programs under their names, as declared
+-- a set: its version, its servers, its tables and their shards, and its programs under their names,
+-- as declared
 pub record Set : Type 0 where
   pub version : Version
   pub servers : ℕ

@@ -61,10 +61,15 @@ update_word Max = codes "max"
 
 -- the words of an action, which binds the name at that place if it binds one
 abbrev pub action_words : List (List ℕ) → List (List ℕ) → ℕ → Action → List (List ℕ)
-action_words tables names place (Get table key) = codes "get" ∷ name_at names place ∷ name_at tables table ∷ key_word names key ∷ []
-action_words tables names place (Update update table key value) = update_word update ∷ name_at tables table ∷ key_word names key ∷ operand_word names value ∷ []
-action_words tables names place (Let left operator right) = codes "let" ∷ name_at names place ∷ operand_word names left ∷ operator_word operator ∷ operand_word names right ∷ []
-action_words tables names place (Need left relation right) = codes "need" ∷ operand_word names left ∷ relation_word relation ∷ operand_word names right ∷ []
+action_words tables names place (Get table key) =
+    codes "get" ∷ name_at names place ∷ name_at tables table ∷ key_word names key ∷ []
+action_words tables names place (Update update table key value) =
+    update_word update ∷ name_at tables table ∷ key_word names key ∷ operand_word names value ∷ []
+action_words tables names place (Let left operator right) =
+    codes "let" ∷ name_at names place ∷ operand_word names left ∷ operator_word operator
+    ∷ operand_word names right ∷ []
+action_words tables names place (Need left relation right) =
+    codes "need" ∷ operand_word names left ∷ relation_word relation ∷ operand_word names right ∷ []
 
 -- how many names an action binds
 abbrev pub bound_names : Action → ℕ
@@ -77,7 +82,8 @@ bound_names (Need left relation right) = 0
 abbrev pub action_lines : List (List ℕ) → List (List ℕ) → ℕ → List Action → List (List (List ℕ))
 action_lines tables names place [] = []
 action_lines tables names place (action ∷ actions) =
-    action_words tables names place action ∷ action_lines tables names (place + bound_names action) actions
+    action_words tables names place action
+    ∷ action_lines tables names (place + bound_names action) actions
 
 -- how many names actions bind
 abbrev pub bound_in : List Action → ℕ
@@ -86,7 +92,8 @@ bound_in (action ∷ actions) = bound_names action + bound_in actions
 
 -- the lines of a hop
 abbrev pub hop_lines : List (List ℕ) → List (List ℕ) → ℕ → Hop → List (List (List ℕ))
-hop_lines tables names place hop = (codes "hop" ∷ decimal hop.server ∷ []) ∷ action_lines tables names place hop.actions
+hop_lines tables names place hop =
+    (codes "hop" ∷ decimal hop.server ∷ []) ∷ action_lines tables names place hop.actions
 
 -- the lines of hops
 abbrev pub hops_lines : List (List ℕ) → List (List ℕ) → ℕ → List Hop → List (List (List ℕ))
@@ -104,20 +111,25 @@ interval_word interval = decimal interval.low ++ codes ".." ++ decimal interval.
 
 -- the words of a range, where the program has these names
 abbrev pub range_words : List (List ℕ) → ParameterRange → List (List ℕ)
-range_words names range = codes "range" ∷ name_at names range.parameter ∷ interval_word range.interval ∷ []
+range_words names range =
+    codes "range" ∷ name_at names range.parameter ∷ interval_word range.interval ∷ []
 
 -- the lines of a program under its name
 abbrev pub program_lines : List (List ℕ) → List ℕ × Program → List (List (List ℕ))
 program_lines tables (name, program) =
-    program_words name program ∷ map (range_words program.names) program.ranges ++ hops_lines tables program.names program.parameters program.hops ++ (codes "end" ∷ []) ∷ []
+    program_words name program ∷ map (range_words program.names) program.ranges
+    ++ hops_lines tables program.names program.parameters program.hops ++ (codes "end" ∷ [])
+    ∷ []
 
 -- the lines of programs
 abbrev pub programs_lines : List (List ℕ) → List (List ℕ × Program) → List (List (List ℕ))
 programs_lines tables [] = []
-programs_lines tables (program ∷ programs) = program_lines tables program ++ programs_lines tables programs
+programs_lines tables (program ∷ programs) =
+    program_lines tables program ++ programs_lines tables programs
 
 abbrev pub shard_words : Shard → List (List ℕ)
-shard_words shard = codes "shard" ∷ decimal shard.low ∷ decimal shard.high ∷ decimal shard.server ∷ []
+shard_words shard =
+    codes "shard" ∷ decimal shard.low ∷ decimal shard.high ∷ decimal shard.server ∷ []
 
 -- the lines of a table and its shards
 abbrev pub table_lines : List ℕ → List Shard → List (List (List ℕ))
@@ -142,7 +154,9 @@ head_lines version servers = version_words version ∷ (codes "servers" ∷ deci
 
 -- the lines of a set
 abbrev pub set_lines : ChainSet → List (List (List ℕ))
-set_lines set = head_lines set.version set.servers ++ tables_lines set.tables set.shards ++ programs_lines set.tables set.programs
+set_lines set =
+    head_lines set.version set.servers ++ tables_lines set.tables set.shards
+    ++ programs_lines set.tables set.programs
 
 -- the text of a set
 abbrev pub text_of : ChainSet → List ℕ

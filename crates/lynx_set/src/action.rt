@@ -11,7 +11,8 @@ pub enum Key {
     Param(u8),
 }
 
-/// A value: a number, or a name of the program, by its place: parameters first, then bound names in order.
+/// A value: a number, or a name of the program, by its place: parameters first, then bound names in
+/// order.
 #[derive(Clone, Copy, Debug, PartialEq, Eq)]
 pub enum Operand {
     Number(u64),
@@ -36,8 +37,8 @@ pub enum Relation {
     Above,
 }
 
-/// What changes a cell: `set` to the value, `add` and `sub` by it, modulo 2^64, `max` to the value where that is
-/// greater. `max` is of version 2.
+/// What changes a cell: `set` to the value, `add` and `sub` by it, modulo 2^64, `max` to the value
+/// where that is greater. `max` is of version 2.
 #[derive(Clone, Copy, Debug, PartialEq, Eq)]
 pub enum Update {
     Set,

@@ -33,10 +33,12 @@ abbrev pub last_key : Option ℕ → List Shard → Option ℕ
 last_key before [] = before
 last_key before (shard ∷ shards) = last_key (Some shard.high) shards
 
--- the shards cut the keys from low on, and below end, into ranges, each beginning where the one before it ended
+-- the shards cut the keys from low on, and below end, into ranges, each beginning where the one
+-- before it ended
 abbrev pub Cuts : ℕ → List Shard → ℕ → Type 0
 Cuts low [] end = low ≡ end
-Cuts low (shard ∷ shards) end = (shard.low ≡ low) × (low ≤ shard.high) × Cuts (shard.high + 1) shards end
+Cuts low (shard ∷ shards) end =
+    (shard.low ≡ low) × (low ≤ shard.high) × Cuts (shard.high + 1) shards end
 
 -- the shards cover all keys, none of them twice
 abbrev pub Covers : List Shard → Type 0
@@ -55,16 +57,19 @@ Judges fault (Err Gap) = fault ≡ Some Gap
 Judges fault (Err Overlap) = fault ≡ Some Overlap
 Judges fault (Err BadServer) = fault ≡ Some BadServer
 
--- the first fault of a table's ranges that follow one that ended at before; past the last one there may be a gap
+-- the first fault of a table's ranges that follow one that ended at before; past the last one there
+-- may be a gap
 abbrev pub table_fault : ℕ → Option ℕ → List Range → Option ShardFault
 table_fault servers before [] = if nat_eq (next_key before) (2 ^ 64) then None else Some Gap
 table_fault servers before (range ∷ ranges) =
-    first_fault (range_fault servers before range.low range.high range.server) (table_fault servers (Some range.high) ranges)
+    first_fault (range_fault servers before range.low range.high range.server)
+    (table_fault servers (Some range.high) ranges)
 
 -- the first fault of the ranges of all tables
 abbrev pub tables_fault : ℕ → List (List Range) → Option ShardFault
 tables_fault servers [] = None
-tables_fault servers (ranges ∷ tables) = first_fault (table_fault servers None ranges) (tables_fault servers tables)
+tables_fault servers (ranges ∷ tables) =
+    first_fault (table_fault servers None ranges) (tables_fault servers tables)
 
 -- the lists in vectors
 abbrev pub lists : List (Vec Range) → List (List Range)

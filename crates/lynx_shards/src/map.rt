@@ -41,8 +41,8 @@ impl ShardMap {
         }
     }
 
-    /// The map of these tables. The fault is the first one, of a table whose ranges end too early or that has
-    /// none a gap.
+    /// The map of these tables. The fault is the first one, of a table whose ranges end too early
+    /// or that has none a gap.
     pub fn from_ranges(
         alloc: Global,
         servers: u8,

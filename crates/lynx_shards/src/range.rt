@@ -11,8 +11,8 @@ pub struct Range {
     pub server: u64,
 }
 
-/// What is wrong with a range that follows the one that ended at `before`, which is None for the first range
-/// of a table. Never [`ShardFault::Memory`].
+/// What is wrong with a range that follows the one that ended at `before`, which is None for the
+/// first range of a table. Never [`ShardFault::Memory`].
 pub fn range_fault(
     servers: u8,
     before: Option<u64>,

@@ -18,7 +18,9 @@ pub record StoredAct : Type 0 where
 
 -- what the query shows of a hop
 abbrev pub shown_act : Acted → Row
-shown_act act = Int (pos act.origin) ∷ Blob (to_be_bytes w64 act.index) ∷ Int (pos act.hop) ∷ Int (pos act.place) ∷ []
+shown_act act =
+    Int (pos act.origin) ∷ Blob (to_be_bytes w64 act.index) ∷ Int (pos act.hop)
+    ∷ Int (pos act.place) ∷ []
 
 abbrev pub act_row : StoredAct → Row
 act_row s = Int s.id ∷ shown_act s.act
@@ -69,7 +71,8 @@ noted One act = []
 noted Two None = []
 noted Two (Some act) = act ∷ []
 
--- each hop is of a later entry than the one before it, all are of so many entries, and each index is a number of 64 bits
+-- each hop is of a later entry than the one before it, all are of so many entries, and each index
+-- is a number of 64 bits
 pub record ArePlaced (acts : List Acted) (places : ℕ) : Type 0 where
   pub rise : IsAscending (λ act later. act.place < later.place) acts
   pub low : AllByRecursion (λ act. act.place < places) acts

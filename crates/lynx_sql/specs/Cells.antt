@@ -18,7 +18,9 @@ pub record Stored : Type 0 where
   pub value : ℕ
 
 abbrev pub cell_row : Stored → Row
-cell_row s = Int s.id ∷ Int (pos s.table) ∷ Blob (to_be_bytes w64 s.key) ∷ Blob (to_be_bytes w64 s.value) ∷ []
+cell_row s =
+    Int s.id ∷ Int (pos s.table) ∷ Blob (to_be_bytes w64 s.key) ∷ Blob (to_be_bytes w64 s.value)
+    ∷ []
 
 abbrev pub cell_of : Stored → ℕ × ℕ
 cell_of s = (s.table, s.key)
@@ -26,7 +28,8 @@ cell_of s = (s.table, s.key)
 -- what is stored for a cell
 abbrev pub find_stored : List Stored → ℕ × ℕ → Option ℕ
 find_stored [] cell = None
-find_stored (s ∷ more) cell = if eq_by_cmp cell_cmp cell (cell_of s) then Some s.value else find_stored more cell
+find_stored (s ∷ more) cell =
+    if eq_by_cmp cell_cmp cell (cell_of s) then Some s.value else find_stored more cell
 
 pub record Fits (s : Stored) : Type 0 where
   pub key : s.key < 2 ^ 64
@@ -47,7 +50,8 @@ pub record HoldsCells (rows : List Row) (db : Database) : Type 0 where
 
 -- what the query shows of a cell
 abbrev pub shown_cell : Stored → Row
-shown_cell s = Int (pos s.table) ∷ Blob (to_be_bytes w64 s.key) ∷ Blob (to_be_bytes w64 s.value) ∷ []
+shown_cell s =
+    Int (pos s.table) ∷ Blob (to_be_bytes w64 s.key) ∷ Blob (to_be_bytes w64 s.value) ∷ []
 
 -- the rows show these cells, in some order
 pub record ShowsCells (rows : List Row) (db : Database) : Type 0 where

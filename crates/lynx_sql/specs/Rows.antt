@@ -4,7 +4,8 @@ use Rattle.sqlite.specs.declared.types.Value.TheVariants.{Null, Int, Text, Blob}
 use Rattle.sqlite.specs.Order.{Row}
 use Rattle.lynx_sql.specs.Contents.{Title}
 
--- a row of `meta`, as it is stored: its number, and then its columns, of which the number reads as NULL
+-- a row of `meta`, as it is stored: its number, and then its columns, of which the number reads as
+-- NULL
 abbrev pub meta_row : ℕ → List ℕ → Row
 meta_row id text = Int (pos id) ∷ Null ∷ Text text ∷ []
 
@@ -31,4 +32,5 @@ entry_rows place (body ∷ bodies) = entry_row place body ∷ entry_rows (place 
 -- what the query shows of them
 abbrev pub shown_entries : ℕ → List (List ℕ) → List Row
 shown_entries place [] = []
-shown_entries place (body ∷ bodies) = (Int (pos place) ∷ Blob body ∷ []) ∷ shown_entries (place + 1) bodies
+shown_entries place (body ∷ bodies) =
+    (Int (pos place) ∷ Blob body ∷ []) ∷ shown_entries (place + 1) bodies

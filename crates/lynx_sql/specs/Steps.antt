@@ -51,7 +51,8 @@ pub record WritesCells (old new : State) (change : Database → Database) : Type
   pub on : GoesOn old new
   pub meta : new.now.trees 0 ≡ old.now.trees 0
   pub entries : new.now.trees 1 ≡ old.now.trees 1
-  pub cells : (db : Database) → HoldsCells (old.now.trees 2) db → HoldsCells (new.now.trees 2) (change db)
+  pub cells : (db : Database) → HoldsCells (old.now.trees 2) db
+      → HoldsCells (new.now.trees 2) (change db)
   pub acted : new.now.trees 4 ≡ old.now.trees 4
 
 -- `acted` holds what it held and these hops after it, and the other tables are as they were
@@ -60,7 +61,8 @@ pub record AddsActs (old new : State) (acts : List Acted) : Type 0 where
   pub meta : new.now.trees 0 ≡ old.now.trees 0
   pub entries : new.now.trees 1 ≡ old.now.trees 1
   pub cells : new.now.trees 2 ≡ old.now.trees 2
-  pub acted : (before : List Acted) → HoldsActs (old.now.trees 4) before → HoldsActs (new.now.trees 4) (before ++ acts)
+  pub acted : (before : List Acted) → HoldsActs (old.now.trees 4) before
+      → HoldsActs (new.now.trees 4) (before ++ acts)
   pub fit : AllByRecursion (λ act. act.index < 2 ^ 64) acts
 
 abbrev pub AddsAct : State → State → Acted → Type 0
@@ -72,14 +74,16 @@ pub record NotesActed (old new : State) (version : StoreVersion) (act : Option A
   pub meta : new.now.trees 0 ≡ old.now.trees 0
   pub entries : new.now.trees 1 ≡ old.now.trees 1
   pub cells : new.now.trees 2 ≡ old.now.trees 2
-  pub acted : (before : Option (List Acted)) → version_of before ≡ version → HoldsActed (old.now.trees 4) before
+  pub acted : (before : Option (List Acted)) → version_of before ≡ version
+      → HoldsActed (old.now.trees 4) before
       → HoldsActed (new.now.trees 4) (with_acted before act)
   pub fit : AllByRecursion (λ act. act.index < 2 ^ 64) (noted version act)
 
 -- `meta` has another text under a number
 pub record SetsText (old new : State) (id : ℕ) (text : List ℕ) : Type 0 where
   pub on : GoesOn old new
-  pub meta : (title : Title) → old.now.trees 0 ≡ meta_rows title → new.now.trees 0 ≡ meta_rows (with_text title id text)
+  pub meta : (title : Title) → old.now.trees 0 ≡ meta_rows title
+      → new.now.trees 0 ≡ meta_rows (with_text title id text)
   pub entries : new.now.trees 1 ≡ old.now.trees 1
   pub cells : new.now.trees 2 ≡ old.now.trees 2
   pub acted : new.now.trees 4 ≡ old.now.trees 4
@@ -87,7 +91,8 @@ pub record SetsText (old new : State) (id : ℕ) (text : List ℕ) : Type 0 wher
 -- `meta` has two other texts
 pub record Retitles (old new : State) (version set : List ℕ) : Type 0 where
   pub on : GoesOn old new
-  pub meta : (title : Title) → old.now.trees 0 ≡ meta_rows title → new.now.trees 0 ≡ meta_rows (title_of version title.server set)
+  pub meta : (title : Title) → old.now.trees 0 ≡ meta_rows title
+      → new.now.trees 0 ≡ meta_rows (title_of version title.server set)
   pub entries : new.now.trees 1 ≡ old.now.trees 1
   pub cells : new.now.trees 2 ≡ old.now.trees 2
   pub acted : new.now.trees 4 ≡ old.now.trees 4

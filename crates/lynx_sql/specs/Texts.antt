@@ -11,7 +11,8 @@ abbrev pub insert_text : List ℕ
 insert_text = codes "INSERT INTO entry VALUES(?1, ?2)"
 
 abbrev pub put_text : List ℕ
-put_text = codes "INSERT INTO cell VALUES(?1, ?2, ?3) ON CONFLICT(tab, k) DO UPDATE SET v = excluded.v"
+put_text = codes
+    "INSERT INTO cell VALUES(?1, ?2, ?3) ON CONFLICT(tab, k) DO UPDATE SET v = excluded.v"
 
 abbrev pub delete_text : List ℕ
 delete_text = codes "DELETE FROM cell WHERE tab = ?1 AND k = ?2"

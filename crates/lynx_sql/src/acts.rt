@@ -36,7 +36,8 @@ fn insert_row<S: Alter>(
         → (state S.Store tx.old.conn.now).now.schema ≡ store_schema StoreVersion.Two
         → OnOk result (AddsAct (state S.Store tx.old.conn.now) (state S.Store tx.new.conn.now)
         (record { origin = origin; index = index; hop = hop; place = place })) }
-    ensures survives { Survives (state S.Store tx.old.conn.now) (state S.Store tx.new.conn.now) (λ _. ⊥) }
+    ensures survives { Survives (state S.Store tx.old.conn.now) (state S.Store tx.new.conn.now)
+        (λ _. ⊥) }
 {
     let index = index.to_be_bytes();
     tx.execute(
@@ -51,8 +52,10 @@ pub fn insert_act<S: Alter>(tx: &mut Transaction<'_, S>, act: &Acted) -> Result<
     ensures ok { HasCleanDisk (state S.Store tx.new.conn.now)
         → IsTrue (state S.Store tx.old.conn.now).in_transaction
         → (state S.Store tx.old.conn.now).now.schema ≡ store_schema StoreVersion.Two
-        → OnOk result (AddsAct (state S.Store tx.old.conn.now) (state S.Store tx.new.conn.now) act.now) }
-    ensures survives { Survives (state S.Store tx.old.conn.now) (state S.Store tx.new.conn.now) (λ _. ⊥) }
+        → OnOk result
+        (AddsAct (state S.Store tx.old.conn.now) (state S.Store tx.new.conn.now) act.now) }
+    ensures survives { Survives (state S.Store tx.old.conn.now) (state S.Store tx.new.conn.now)
+        (λ _. ⊥) }
 {
     insert_row(tx, act.origin, act.index, act.hop, act.place)
 }
@@ -64,8 +67,10 @@ pub fn insert_acts<S: Alter>(tx: &mut Transaction<'_, S>, acts: &[Acted]) -> Res
         → IsTrue (state S.Store tx.old.conn.now).is_open
         → IsTrue (state S.Store tx.old.conn.now).in_transaction
         → (state S.Store tx.old.conn.now).now.schema ≡ store_schema StoreVersion.Two
-        → OnOk result (AddsActs (state S.Store tx.old.conn.now) (state S.Store tx.new.conn.now) acts.now) }
-    ensures survives { Survives (state S.Store tx.old.conn.now) (state S.Store tx.new.conn.now) (λ _. ⊥) }
+        → OnOk result
+        (AddsActs (state S.Store tx.old.conn.now) (state S.Store tx.new.conn.now) acts.now) }
+    ensures survives { Survives (state S.Store tx.old.conn.now) (state S.Store tx.new.conn.now)
+        (λ _. ⊥) }
 {
     for act in acts {
         insert_act(tx, act)?;
@@ -73,7 +78,8 @@ pub fn insert_acts<S: Alter>(tx: &mut Transaction<'_, S>, acts: &[Acted]) -> Res
     Ok(())
 }
 
-/// Writes the row of the hop of an entry, if there is one, into a store of version 2. One of version 1 has no such row.
+/// Writes the row of the hop of an entry, if there is one, into a store of version 2. One of
+/// version 1 has no such row.
 pub fn note_acted<S: Alter>(
     tx: &mut Transaction<'_, S>,
     version: StoreVersion,
@@ -84,8 +90,10 @@ pub fn note_acted<S: Alter>(
         → IsTrue (state S.Store tx.old.conn.now).is_open
         → IsTrue (state S.Store tx.old.conn.now).in_transaction
         → (state S.Store tx.old.conn.now).now.schema ≡ store_schema version
-        → OnOk result (NotesActed (state S.Store tx.old.conn.now) (state S.Store tx.new.conn.now) version acted) }
-    ensures survives { Survives (state S.Store tx.old.conn.now) (state S.Store tx.new.conn.now) (λ _. ⊥) }
+        → OnOk result
+        (NotesActed (state S.Store tx.old.conn.now) (state S.Store tx.new.conn.now) version acted) }
+    ensures survives { Survives (state S.Store tx.old.conn.now) (state S.Store tx.new.conn.now)
+        (λ _. ⊥) }
 {
     let Some(act) = acted else {
         return Ok(());

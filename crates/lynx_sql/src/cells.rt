@@ -20,9 +20,14 @@ pub fn put_cell<S: Alter>(
 ) -> Result<usize, Error>
     requires { value ≢ 0 }
     ensures same_reference { tx.new.conn.ghost_name ≡ tx.old.conn.ghost_name }
-    ensures ok { HasCleanDisk (state S.Store tx.new.conn.now) → IsTrue (state S.Store tx.old.conn.now).in_transaction → (version : StoreVersion) → (state S.Store tx.old.conn.now).now.schema ≡ store_schema version
-        → OnOk result (WritesCells (state S.Store tx.old.conn.now) (state S.Store tx.new.conn.now) (λ db. with_value db table key value)) }
-    ensures survives { Survives (state S.Store tx.old.conn.now) (state S.Store tx.new.conn.now) (λ _. ⊥) }
+    ensures ok { HasCleanDisk (state S.Store tx.new.conn.now)
+        → IsTrue (state S.Store tx.old.conn.now).in_transaction → (version : StoreVersion)
+        → (state S.Store tx.old.conn.now).now.schema ≡ store_schema version
+        → OnOk result
+        (WritesCells (state S.Store tx.old.conn.now) (state S.Store tx.new.conn.now)
+        (λ db. with_value db table key value)) }
+    ensures survives { Survives (state S.Store tx.old.conn.now) (state S.Store tx.new.conn.now)
+        (λ _. ⊥) }
 {
     let key = key.to_be_bytes();
     let value = value.to_be_bytes();
@@ -39,9 +44,14 @@ pub fn delete_cell<S: Alter>(
     key: u64,
 ) -> Result<usize, Error>
     ensures same_reference { tx.new.conn.ghost_name ≡ tx.old.conn.ghost_name }
-    ensures ok { HasCleanDisk (state S.Store tx.new.conn.now) → IsTrue (state S.Store tx.old.conn.now).in_transaction → (version : StoreVersion) → (state S.Store tx.old.conn.now).now.schema ≡ store_schema version
-        → OnOk result (WritesCells (state S.Store tx.old.conn.now) (state S.Store tx.new.conn.now) (λ db. with_value db table key 0)) }
-    ensures survives { Survives (state S.Store tx.old.conn.now) (state S.Store tx.new.conn.now) (λ _. ⊥) }
+    ensures ok { HasCleanDisk (state S.Store tx.new.conn.now)
+        → IsTrue (state S.Store tx.old.conn.now).in_transaction → (version : StoreVersion)
+        → (state S.Store tx.old.conn.now).now.schema ≡ store_schema version
+        → OnOk result
+        (WritesCells (state S.Store tx.old.conn.now) (state S.Store tx.new.conn.now)
+        (λ db. with_value db table key 0)) }
+    ensures survives { Survives (state S.Store tx.old.conn.now) (state S.Store tx.new.conn.now)
+        (λ _. ⊥) }
 {
     let key = key.to_be_bytes();
     tx.execute(
@@ -58,9 +68,14 @@ pub fn write_cell<S: Alter>(
     value: u64,
 ) -> Result<usize, Error>
     ensures same_reference { tx.new.conn.ghost_name ≡ tx.old.conn.ghost_name }
-    ensures ok { HasCleanDisk (state S.Store tx.new.conn.now) → IsTrue (state S.Store tx.old.conn.now).in_transaction → (version : StoreVersion) → (state S.Store tx.old.conn.now).now.schema ≡ store_schema version
-        → OnOk result (WritesCells (state S.Store tx.old.conn.now) (state S.Store tx.new.conn.now) (λ db. with_value db table key value)) }
-    ensures survives { Survives (state S.Store tx.old.conn.now) (state S.Store tx.new.conn.now) (λ _. ⊥) }
+    ensures ok { HasCleanDisk (state S.Store tx.new.conn.now)
+        → IsTrue (state S.Store tx.old.conn.now).in_transaction → (version : StoreVersion)
+        → (state S.Store tx.old.conn.now).now.schema ≡ store_schema version
+        → OnOk result
+        (WritesCells (state S.Store tx.old.conn.now) (state S.Store tx.new.conn.now)
+        (λ db. with_value db table key value)) }
+    ensures survives { Survives (state S.Store tx.old.conn.now) (state S.Store tx.new.conn.now)
+        (λ _. ⊥) }
 {
     if value == 0 {
         delete_cell(tx, table, key)
@@ -75,9 +90,15 @@ pub fn write_cells<S: Alter>(
     changes: &[(TableId, u64, u64)],
 ) -> Result<(), Error>
     ensures same_reference { tx.new.conn.ghost_name ≡ tx.old.conn.ghost_name }
-    ensures ok { HasCleanDisk (state S.Store tx.new.conn.now) → IsTrue (state S.Store tx.old.conn.now).is_open → IsTrue (state S.Store tx.old.conn.now).in_transaction → (version : StoreVersion) → (state S.Store tx.old.conn.now).now.schema ≡ store_schema version
-        → OnOk result (WritesCells (state S.Store tx.old.conn.now) (state S.Store tx.new.conn.now) (written (entries_of changes.now))) }
-    ensures survives { Survives (state S.Store tx.old.conn.now) (state S.Store tx.new.conn.now) (λ _. ⊥) }
+    ensures ok { HasCleanDisk (state S.Store tx.new.conn.now)
+        → IsTrue (state S.Store tx.old.conn.now).is_open
+        → IsTrue (state S.Store tx.old.conn.now).in_transaction → (version : StoreVersion)
+        → (state S.Store tx.old.conn.now).now.schema ≡ store_schema version
+        → OnOk result
+        (WritesCells (state S.Store tx.old.conn.now) (state S.Store tx.new.conn.now)
+        (written (entries_of changes.now))) }
+    ensures survives { Survives (state S.Store tx.old.conn.now) (state S.Store tx.new.conn.now)
+        (λ _. ⊥) }
 {
     for &(table, key, value) in changes {
         write_cell(tx, u32::from(table.number()), key, value)?;

@@ -14,8 +14,8 @@ use crate::schema::store_version;
 use lynx_cells::Changes;
 use sqlite::{Alter, Connection, Error, ErrorCode};
 
-/// Keeps the body of the next entry, the changes of its cells and the row of its hop, if one ran, all or nothing, in one
-/// transaction. A store of version 1 has no rows of hops.
+/// Keeps the body of the next entry, the changes of its cells and the row of its hop, if one ran,
+/// all or nothing, in one transaction. A store of version 1 has no rows of hops.
 pub fn write_entry<S: Alter>(
     conn: &mut Connection<S>,
     place: u32,
@@ -23,14 +23,18 @@ pub fn write_entry<S: Alter>(
     changes: &Changes,
     acted: Option<Acted>,
 ) -> Result<(), Error>
-    ensures clean { doubt (state S.Store conn.old).is_clean ≤ doubt (state S.Store conn.new).is_clean }
-    ensures ok { HasCleanDisk (state S.Store conn.new) → IfSome acted (λ act. act.place ≡ place) → OnOk result ((before : Contents)
+    ensures clean { doubt (state S.Store conn.old).is_clean
+        ≤ doubt (state S.Store conn.new).is_clean }
+    ensures ok { HasCleanDisk (state S.Store conn.new) → IfSome acted (λ act. act.place ≡ place)
+        → OnOk result ((before : Contents)
         → Keeps (state S.Store conn.old) before → place ≡ length before.bodies
         → Keeps (state S.Store conn.new) (with_body before body.now changes.now acted)) }
     // A stop leaves what it could leave before the call, or the tables with the whole entry.
-    ensures stop { HasCleanDisk (state S.Store conn.new) → IfSome acted (λ act. act.place ≡ place) → (before : Contents)
+    ensures stop { HasCleanDisk (state S.Store conn.new) → IfSome acted (λ act. act.place ≡ place)
+        → (before : Contents)
         → Keeps (state S.Store conn.old) before → place ≡ length before.bodies
-        → (db : Trees) → (state S.Store conn.new).may_leave db → (state S.Store conn.old).may_leave db
+        → (db : Trees) → (state S.Store conn.new).may_leave db
+        → (state S.Store conn.old).may_leave db
         ⊎ Holds db (with_body before body.now changes.now acted) }
 {
     if !conn.is_autocommit() {

@@ -15,9 +15,13 @@ pub fn insert_entry<S: Alter>(
     body: &[u8],
 ) -> Result<usize, Error>
     ensures same_reference { tx.new.conn.ghost_name ≡ tx.old.conn.ghost_name }
-    ensures ok { HasCleanDisk (state S.Store tx.new.conn.now) → IsTrue (state S.Store tx.old.conn.now).in_transaction → (version : StoreVersion) → (state S.Store tx.old.conn.now).now.schema ≡ store_schema version
-        → OnOk result (AddsEntry (state S.Store tx.old.conn.now) (state S.Store tx.new.conn.now) place body.now) }
-    ensures survives { Survives (state S.Store tx.old.conn.now) (state S.Store tx.new.conn.now) (λ _. ⊥) }
+    ensures ok { HasCleanDisk (state S.Store tx.new.conn.now)
+        → IsTrue (state S.Store tx.old.conn.now).in_transaction → (version : StoreVersion)
+        → (state S.Store tx.old.conn.now).now.schema ≡ store_schema version
+        → OnOk result
+        (AddsEntry (state S.Store tx.old.conn.now) (state S.Store tx.new.conn.now) place body.now) }
+    ensures survives { Survives (state S.Store tx.old.conn.now) (state S.Store tx.new.conn.now)
+        (λ _. ⊥) }
 {
     tx.execute("INSERT INTO entry VALUES(?1, ?2)", params![place, body])
 }

@@ -1,5 +1,6 @@
-//! The tables of a store, what they hold, and the statements on them: the title in `meta`, the bodies of the
-//! entries by place, the cells that are not 0, and in a store of version 2 the hops that ran.
+//! The tables of a store, what they hold, and the statements on them: the title in `meta`, the
+//! bodies of the entries by place, the cells that are not 0, and in a store of version 2 the hops
+//! that ran.
 #![tactic(auto)]
 
 pub use acts::Acted;

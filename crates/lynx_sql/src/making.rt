@@ -20,7 +20,8 @@ fn make_meta<S: Alter>(tx: &mut Transaction<'_, S>) -> Result<usize, Error>
         → (state S.Store tx.old.conn.now).now.schema ≡ no_schema
         → OnOk result (Makes (state S.Store tx.old.conn.now) (state S.Store tx.new.conn.now)
         no_schema meta_schema 0) }
-    ensures survives { Survives (state S.Store tx.old.conn.now) (state S.Store tx.new.conn.now) (λ _. ⊥) }
+    ensures survives { Survives (state S.Store tx.old.conn.now) (state S.Store tx.new.conn.now)
+        (λ _. ⊥) }
 {
     tx.execute(
         "CREATE TABLE meta(id INTEGER PRIMARY KEY, txt TEXT NOT NULL) STRICT",
@@ -35,7 +36,8 @@ fn make_entry<S: Alter>(tx: &mut Transaction<'_, S>) -> Result<usize, Error>
         → (state S.Store tx.old.conn.now).now.schema ≡ meta_schema
         → OnOk result (Makes (state S.Store tx.old.conn.now) (state S.Store tx.new.conn.now)
         meta_schema entry_schema 1) }
-    ensures survives { Survives (state S.Store tx.old.conn.now) (state S.Store tx.new.conn.now) (λ _. ⊥) }
+    ensures survives { Survives (state S.Store tx.old.conn.now) (state S.Store tx.new.conn.now)
+        (λ _. ⊥) }
 {
     tx.execute(
         "CREATE TABLE entry(place INTEGER PRIMARY KEY, body BLOB NOT NULL) STRICT",
@@ -50,7 +52,8 @@ fn make_cell<S: Alter>(tx: &mut Transaction<'_, S>) -> Result<usize, Error>
         → (state S.Store tx.old.conn.now).now.schema ≡ entry_schema
         → OnOk result (Makes (state S.Store tx.old.conn.now) (state S.Store tx.new.conn.now)
         entry_schema (store_schema StoreVersion.One) 2) }
-    ensures survives { Survives (state S.Store tx.old.conn.now) (state S.Store tx.new.conn.now) (λ _. ⊥) }
+    ensures survives { Survives (state S.Store tx.old.conn.now) (state S.Store tx.new.conn.now)
+        (λ _. ⊥) }
 {
     tx.execute(
         "CREATE TABLE cell(tab INTEGER NOT NULL, k BLOB NOT NULL, v BLOB NOT NULL, PRIMARY KEY(tab, k)) STRICT",
@@ -65,7 +68,8 @@ pub(crate) fn make_acted<S: Alter>(tx: &mut Transaction<'_, S>) -> Result<usize,
         → (state S.Store tx.old.conn.now).now.schema ≡ store_schema StoreVersion.One
         → OnOk result (Makes (state S.Store tx.old.conn.now) (state S.Store tx.new.conn.now)
         (store_schema StoreVersion.One) (store_schema StoreVersion.Two) 4) }
-    ensures survives { Survives (state S.Store tx.old.conn.now) (state S.Store tx.new.conn.now) (λ _. ⊥) }
+    ensures survives { Survives (state S.Store tx.old.conn.now) (state S.Store tx.new.conn.now)
+        (λ _. ⊥) }
 {
     tx.execute(
         "CREATE TABLE acted(origin INTEGER NOT NULL, idx BLOB NOT NULL, hop INTEGER NOT NULL, place INTEGER NOT NULL UNIQUE, PRIMARY KEY(origin, idx, hop)) STRICT",
@@ -79,8 +83,11 @@ fn make_three<S: Alter>(tx: &mut Transaction<'_, S>) -> Result<(), Error>
     ensures ok { HasCleanDisk (state S.Store tx.new.conn.now)
         → IsTrue (state S.Store tx.old.conn.now).in_transaction
         → (state S.Store tx.old.conn.now).now.schema ≡ no_schema
-        → OnOk result (MakesTables (state S.Store tx.old.conn.now) (state S.Store tx.new.conn.now) StoreVersion.One) }
-    ensures survives { Survives (state S.Store tx.old.conn.now) (state S.Store tx.new.conn.now) (λ _. ⊥) }
+        → OnOk result
+        (MakesTables (state S.Store tx.old.conn.now) (state S.Store tx.new.conn.now)
+        StoreVersion.One) }
+    ensures survives { Survives (state S.Store tx.old.conn.now) (state S.Store tx.new.conn.now)
+        (λ _. ⊥) }
 {
     make_meta(tx)?;
     make_entry(tx)?;
@@ -94,8 +101,10 @@ fn make_tables<S: Alter>(tx: &mut Transaction<'_, S>, tables: StoreVersion) -> R
     ensures ok { HasCleanDisk (state S.Store tx.new.conn.now)
         → IsTrue (state S.Store tx.old.conn.now).in_transaction
         → (state S.Store tx.old.conn.now).now.schema ≡ no_schema
-        → OnOk result (MakesTables (state S.Store tx.old.conn.now) (state S.Store tx.new.conn.now) tables) }
-    ensures survives { Survives (state S.Store tx.old.conn.now) (state S.Store tx.new.conn.now) (λ _. ⊥) }
+        → OnOk result
+        (MakesTables (state S.Store tx.old.conn.now) (state S.Store tx.new.conn.now) tables) }
+    ensures survives { Survives (state S.Store tx.old.conn.now) (state S.Store tx.new.conn.now)
+        (λ _. ⊥) }
 {
     make_three(tx)?;
     match tables {
@@ -115,13 +124,17 @@ pub fn make_store<S: Alter>(
     server: &[u8],
     set: &[u8],
 ) -> Result<(), Error>
-    ensures clean { doubt (state S.Store conn.old).is_clean ≤ doubt (state S.Store conn.new).is_clean }
-    ensures ok { HasCleanDisk (state S.Store conn.new) → (state S.Store conn.old).now.schema ≡ no_schema
+    ensures clean { doubt (state S.Store conn.old).is_clean
+        ≤ doubt (state S.Store conn.new).is_clean }
+    ensures ok { HasCleanDisk (state S.Store conn.new)
+        → (state S.Store conn.old).now.schema ≡ no_schema
         → OnOk result (Keeps (state S.Store conn.new)
         (titled tables (title_of version.now server.now set.now))) }
     // A stop leaves what it could leave before the call, or the whole new store.
-    ensures stop { HasCleanDisk (state S.Store conn.new) → (state S.Store conn.old).now.schema ≡ no_schema
-        → (db : Trees) → (state S.Store conn.new).may_leave db → (state S.Store conn.old).may_leave db
+    ensures stop { HasCleanDisk (state S.Store conn.new)
+        → (state S.Store conn.old).now.schema ≡ no_schema
+        → (db : Trees) → (state S.Store conn.new).may_leave db
+        → (state S.Store conn.old).may_leave db
         ⊎ Holds db (titled tables (title_of version.now server.now set.now)) }
 {
     if !conn.is_autocommit() {

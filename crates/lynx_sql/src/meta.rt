@@ -20,8 +20,10 @@ pub fn insert_text<S: Alter>(
     ensures ok { HasCleanDisk (state S.Store tx.new.conn.now)
         → IsTrue (state S.Store tx.old.conn.now).in_transaction
         → (tables : StoreVersion) → (state S.Store tx.old.conn.now).now.schema ≡ store_schema tables
-        → OnOk result (AddsText (state S.Store tx.old.conn.now) (state S.Store tx.new.conn.now) id text.now) }
-    ensures survives { Survives (state S.Store tx.old.conn.now) (state S.Store tx.new.conn.now) (λ _. ⊥) }
+        → OnOk result
+        (AddsText (state S.Store tx.old.conn.now) (state S.Store tx.new.conn.now) id text.now) }
+    ensures survives { Survives (state S.Store tx.old.conn.now) (state S.Store tx.new.conn.now)
+        (λ _. ⊥) }
 {
     tx.execute(
         "INSERT INTO meta VALUES(?1, ?2)",
@@ -43,7 +45,8 @@ pub fn write_title<S: Alter>(
         → (state S.Store tx.old.conn.now).now.trees 0 ≡ []
         → OnOk result (WritesTitle (state S.Store tx.old.conn.now) (state S.Store tx.new.conn.now)
         (title_of version.now server.now set.now)) }
-    ensures survives { Survives (state S.Store tx.old.conn.now) (state S.Store tx.new.conn.now) (λ _. ⊥) }
+    ensures survives { Survives (state S.Store tx.old.conn.now) (state S.Store tx.new.conn.now)
+        (λ _. ⊥) }
 {
     insert_text(tx, 1, version)?;
     insert_text(tx, 2, server)?;
@@ -57,8 +60,10 @@ pub fn set_text<S: Alter>(tx: &mut Transaction<'_, S>, id: u32, text: &[u8]) -> 
     ensures ok { HasCleanDisk (state S.Store tx.new.conn.now)
         → IsTrue (state S.Store tx.old.conn.now).in_transaction
         → (tables : StoreVersion) → (state S.Store tx.old.conn.now).now.schema ≡ store_schema tables
-        → OnOk result (SetsText (state S.Store tx.old.conn.now) (state S.Store tx.new.conn.now) id text.now) }
-    ensures survives { Survives (state S.Store tx.old.conn.now) (state S.Store tx.new.conn.now) (λ _. ⊥) }
+        → OnOk result
+        (SetsText (state S.Store tx.old.conn.now) (state S.Store tx.new.conn.now) id text.now) }
+    ensures survives { Survives (state S.Store tx.old.conn.now) (state S.Store tx.new.conn.now)
+        (λ _. ⊥) }
 {
     tx.execute(
         "UPDATE meta SET txt = ?2 WHERE id = ?1",

@@ -21,13 +21,15 @@ use sqlite::{Connection, Error, ErrorCode, Row};
 
 /// The texts of `meta` by number: each a number and a text.
 fn read_title<S: Rising>(conn: &mut Connection<S>) -> Result<Vec<Row>, Error>
-    ensures clean { doubt (state S.Store conn.old).is_clean ≤ doubt (state S.Store conn.new).is_clean }
+    ensures clean { doubt (state S.Store conn.old).is_clean
+        ≤ doubt (state S.Store conn.new).is_clean }
     ensures ok { HasCleanDisk (state S.Store conn.new) → IfOk result (λ rows. (contents : Contents)
         → Keeps (state S.Store conn.old) contents → rows.items ≡ shown_meta contents.title) }
     ensures back { HasCleanDisk (state S.Store conn.new) → IfOk result (λ rows. (title : Title)
         → rows.items ≡ shown_meta title
         → (state S.Store conn.new).committed.trees 0 ≡ meta_rows title) }
-    ensures store { HasCleanDisk (state S.Store conn.new) → OnOk result (IsStore (state S.Store conn.new)) }
+    ensures store { HasCleanDisk (state S.Store conn.new)
+        → OnOk result (IsStore (state S.Store conn.new)) }
     ensures same { HasCleanDisk (state S.Store conn.new)
         → OnOk result (SameTables (state S.Store conn.old) (state S.Store conn.new)) }
     ensures stop { HasCleanDisk (state S.Store conn.new) → (db : Trees)
@@ -41,13 +43,16 @@ fn read_title<S: Rising>(conn: &mut Connection<S>) -> Result<Vec<Row>, Error>
 
 /// The entries by place: each a place and a body.
 fn read_entries<S: Rising>(conn: &mut Connection<S>) -> Result<Vec<Row>, Error>
-    ensures clean { doubt (state S.Store conn.old).is_clean ≤ doubt (state S.Store conn.new).is_clean }
+    ensures clean { doubt (state S.Store conn.old).is_clean
+        ≤ doubt (state S.Store conn.new).is_clean }
     ensures ok { HasCleanDisk (state S.Store conn.new) → IfOk result (λ rows. (contents : Contents)
         → Keeps (state S.Store conn.old) contents → rows.items ≡ shown_entries 0 contents.bodies) }
-    ensures back { HasCleanDisk (state S.Store conn.new) → IfOk result (λ rows. (bodies : List (List ℕ))
+    ensures back { HasCleanDisk (state S.Store conn.new)
+        → IfOk result (λ rows. (bodies : List (List ℕ))
         → rows.items ≡ shown_entries 0 bodies
         → (state S.Store conn.new).committed.trees 1 ≡ entry_rows 0 bodies) }
-    ensures store { HasCleanDisk (state S.Store conn.new) → OnOk result (IsStore (state S.Store conn.new)) }
+    ensures store { HasCleanDisk (state S.Store conn.new)
+        → OnOk result (IsStore (state S.Store conn.new)) }
     ensures same { HasCleanDisk (state S.Store conn.new)
         → OnOk result (SameTables (state S.Store conn.old) (state S.Store conn.new)) }
     ensures stop { HasCleanDisk (state S.Store conn.new) → (db : Trees)
@@ -61,12 +66,14 @@ fn read_entries<S: Rising>(conn: &mut Connection<S>) -> Result<Vec<Row>, Error>
 
 /// The cells by table, then key: each a table, a key and a value.
 fn read_cells<S: Rising>(conn: &mut Connection<S>) -> Result<Vec<Row>, Error>
-    ensures clean { doubt (state S.Store conn.old).is_clean ≤ doubt (state S.Store conn.new).is_clean }
+    ensures clean { doubt (state S.Store conn.old).is_clean
+        ≤ doubt (state S.Store conn.new).is_clean }
     ensures ok { HasCleanDisk (state S.Store conn.new) → IfOk result (λ rows. (contents : Contents)
         → Keeps (state S.Store conn.old) contents → cells_in rows.items ≡ contents.cells) }
     ensures back { HasCleanDisk (state S.Store conn.new) → IfOk result (λ rows. AreCells rows.items
         → HoldsCells ((state S.Store conn.new).committed.trees 2) (cells_in rows.items)) }
-    ensures store { HasCleanDisk (state S.Store conn.new) → OnOk result (IsStore (state S.Store conn.new)) }
+    ensures store { HasCleanDisk (state S.Store conn.new)
+        → OnOk result (IsStore (state S.Store conn.new)) }
     ensures same { HasCleanDisk (state S.Store conn.new)
         → OnOk result (SameTables (state S.Store conn.old) (state S.Store conn.new)) }
     ensures stop { HasCleanDisk (state S.Store conn.new) → (db : Trees)
@@ -80,12 +87,16 @@ fn read_cells<S: Rising>(conn: &mut Connection<S>) -> Result<Vec<Row>, Error>
 
 /// The hops by place, in a store of version 2: each an origin, an index, a hop and a place.
 fn read_places<S: Rising>(conn: &mut Connection<S>) -> Result<Vec<Row>, Error>
-    ensures clean { doubt (state S.Store conn.old).is_clean ≤ doubt (state S.Store conn.new).is_clean }
-    ensures version { HasCleanDisk (state S.Store conn.new) → OnOk result (((state S.Store conn.old).now.schema ≡ store_schema StoreVersion.Two)
+    ensures clean { doubt (state S.Store conn.old).is_clean
+        ≤ doubt (state S.Store conn.new).is_clean }
+    ensures version { HasCleanDisk (state S.Store conn.new)
+        → OnOk result (((state S.Store conn.old).now.schema ≡ store_schema StoreVersion.Two)
         × ((state S.Store conn.new).now.schema ≡ store_schema StoreVersion.Two)) }
     ensures ok { HasCleanDisk (state S.Store conn.new) → IfOk result (λ rows. (contents : Contents)
-        → Keeps (state S.Store conn.old) contents → rows.items ≡ map shown_act (acts_in contents.acted)) }
-    ensures back { HasCleanDisk (state S.Store conn.new) → IfOk result (λ rows. (acts : List Acted) (places : ℕ)
+        → Keeps (state S.Store conn.old) contents
+        → rows.items ≡ map shown_act (acts_in contents.acted)) }
+    ensures back { HasCleanDisk (state S.Store conn.new)
+        → IfOk result (λ rows. (acts : List Acted) (places : ℕ)
         → ArePlaced acts places → rows.items ≡ map shown_act acts
         → HoldsActs ((state S.Store conn.new).committed.trees 4) acts) }
     ensures kept { HasCleanDisk (state S.Store conn.new) → OnOk result ((contents : Contents)
@@ -105,10 +116,12 @@ fn read_places<S: Rising>(conn: &mut Connection<S>) -> Result<Vec<Row>, Error>
 /// The hops by place, None in a store of version 1, which has no such rows.
 #[tactic(auto, using(crate::proofs::KeptBack::first_shown, crate::proofs::KeptBack::first_back, crate::proofs::KeptBack::second_shown, crate::proofs::KeptBack::second_back))]
 fn read_acted<S: Rising>(conn: &mut Connection<S>) -> Result<Option<Vec<Row>>, Error>
-    ensures clean { doubt (state S.Store conn.old).is_clean ≤ doubt (state S.Store conn.new).is_clean }
+    ensures clean { doubt (state S.Store conn.old).is_clean
+        ≤ doubt (state S.Store conn.new).is_clean }
     ensures ok { HasCleanDisk (state S.Store conn.new) → IfOk result (λ rows. (contents : Contents)
         → Keeps (state S.Store conn.old) contents → ShowActed rows contents.acted) }
-    ensures back { HasCleanDisk (state S.Store conn.new) → IfOk result (λ rows. (acted : Option (List Acted)) (places : ℕ)
+    ensures back { HasCleanDisk (state S.Store conn.new)
+        → IfOk result (λ rows. (acted : Option (List Acted)) (places : ℕ)
         → ArePlaced (acts_in acted) places → ShowActed rows acted
         → HoldsActed ((state S.Store conn.new).committed.trees 4) acted
         × ((state S.Store conn.new).now.schema ≡ store_schema (version_of acted))) }
@@ -136,13 +149,16 @@ pub struct StoredRows {
 
 /// Reads all rows of a store. An error where the database has not its tables, or fails.
 pub fn read_rows<S: Rising>(conn: &mut Connection<S>) -> Result<StoredRows, Error>
-    ensures clean { doubt (state S.Store conn.old).is_clean ≤ doubt (state S.Store conn.new).is_clean }
+    ensures clean { doubt (state S.Store conn.old).is_clean
+        ≤ doubt (state S.Store conn.new).is_clean }
     // The rows show what is kept.
     ensures ok { HasCleanDisk (state S.Store conn.new) → IfOk result (λ rows. (contents : Contents)
         → Keeps (state S.Store conn.old) contents → ShowRows rows contents) }
     // What the rows show is kept.
-    ensures back { HasCleanDisk (state S.Store conn.new) → IfOk result (λ rows. (contents : Contents)
-        → AreCells rows.cells.items → ArePlaced (acts_in contents.acted) (length contents.bodies) → ShowRows rows contents
+    ensures back { HasCleanDisk (state S.Store conn.new)
+        → IfOk result (λ rows. (contents : Contents)
+        → AreCells rows.cells.items → ArePlaced (acts_in contents.acted) (length contents.bodies)
+        → ShowRows rows contents
         → Keeps (state S.Store conn.new) contents) }
     ensures kept { HasCleanDisk (state S.Store conn.new) → OnOk result ((contents : Contents)
         → Keeps (state S.Store conn.old) contents → Keeps (state S.Store conn.new) contents) }

@@ -3,8 +3,9 @@ use sqlite::{Alter, FileStore};
 use sqlite_disk::Disk;
 use sqlite_trees::memory::MemStore;
 
-/// A store of which it is known, as long as it is open, that each table's rows rise by their numbers in what the last
-/// commit left. Without that the rows that a query shows would not tell the rows that are stored.
+/// A store of which it is known, as long as it is open, that each table's rows rise by their
+/// numbers in what the last commit left. Without that the rows that a query shows would not tell
+/// the rows that are stored.
 pub trait Rising: Alter {
     ghost use Rattle.std.specs.Prelude.{IsTrue};
     ghost use Rattle.lynx_sql.specs.Rising.{IsRising};

@@ -247,7 +247,8 @@ fn is_acted(table: &Table) -> bool
 
 /// Whether an index is one of the hops, with that tree and that name.
 fn is_acted_index(index: &Index, tree: u32, name: &[u8]) -> bool
-    ensures { IsTrue result → (index.now.name ≡ name.now) × (index.now.tree ≡ tree) × (index.now.table ≡ 4)
+    ensures { IsTrue result
+        → (index.now.name ≡ name.now) × (index.now.tree ≡ tree) × (index.now.table ≡ 4)
         × (index.now.order ≡ plain) × (index.now.is_unique ≡ true) }
 {
     index.tree == tree

@@ -21,8 +21,10 @@ fn add_acted<S: Alter>(tx: &mut Transaction<'_, S>, acts: &[Acted]) -> Result<()
     ensures ok { HasCleanDisk (state S.Store tx.new.conn.now)
         → IsTrue (state S.Store tx.old.conn.now).in_transaction
         → (state S.Store tx.old.conn.now).now.schema ≡ store_schema StoreVersion.One
-        → OnOk result (AddsTable (state S.Store tx.old.conn.now) (state S.Store tx.new.conn.now) acts.now) }
-    ensures survives { Survives (state S.Store tx.old.conn.now) (state S.Store tx.new.conn.now) (λ _. ⊥) }
+        → OnOk result
+        (AddsTable (state S.Store tx.old.conn.now) (state S.Store tx.new.conn.now) acts.now) }
+    ensures survives { Survives (state S.Store tx.old.conn.now) (state S.Store tx.new.conn.now)
+        (λ _. ⊥) }
 {
     make_acted(tx)?;
     insert_acts(tx, acts)
@@ -34,30 +36,37 @@ fn retitle<S: Alter>(tx: &mut Transaction<'_, S>, version: &[u8], set: &[u8]) ->
     ensures ok { HasCleanDisk (state S.Store tx.new.conn.now)
         → IsTrue (state S.Store tx.old.conn.now).in_transaction
         → (tables : StoreVersion) → (state S.Store tx.old.conn.now).now.schema ≡ store_schema tables
-        → OnOk result (Retitles (state S.Store tx.old.conn.now) (state S.Store tx.new.conn.now) version.now set.now) }
-    ensures survives { Survives (state S.Store tx.old.conn.now) (state S.Store tx.new.conn.now) (λ _. ⊥) }
+        → OnOk result
+        (Retitles (state S.Store tx.old.conn.now) (state S.Store tx.new.conn.now) version.now
+        set.now) }
+    ensures survives { Survives (state S.Store tx.old.conn.now) (state S.Store tx.new.conn.now)
+        (λ _. ⊥) }
 {
     set_text(tx, 1, version)?;
     set_text(tx, 3, set)?;
     Ok(())
 }
 
-/// Makes a store of version 1 one of version 2, whole or not at all: it has these hops, and the texts of its version and
-/// its set are these.
+/// Makes a store of version 1 one of version 2, whole or not at all: it has these hops, and the
+/// texts of its version and its set are these.
 pub fn upgrade_tables<S: Alter>(
     conn: &mut Connection<S>,
     version: &[u8],
     set: &[u8],
     acts: &[Acted],
 ) -> Result<(), Error>
-    ensures clean { doubt (state S.Store conn.old).is_clean ≤ doubt (state S.Store conn.new).is_clean }
+    ensures clean { doubt (state S.Store conn.old).is_clean
+        ≤ doubt (state S.Store conn.new).is_clean }
     ensures ok { HasCleanDisk (state S.Store conn.new) → OnOk result ((before : Contents)
-        → Keeps (state S.Store conn.old) before → before.acted ≡ None → ArePlaced acts.now (length before.bodies)
+        → Keeps (state S.Store conn.old) before → before.acted ≡ None
+        → ArePlaced acts.now (length before.bodies)
         → Keeps (state S.Store conn.new) (upgraded before version.now set.now acts.now)) }
     // A stop leaves what it could leave before the call, or the whole store of version 2.
     ensures stop { HasCleanDisk (state S.Store conn.new) → (before : Contents)
-        → Keeps (state S.Store conn.old) before → before.acted ≡ None → ArePlaced acts.now (length before.bodies)
-        → (db : Trees) → (state S.Store conn.new).may_leave db → (state S.Store conn.old).may_leave db
+        → Keeps (state S.Store conn.old) before → before.acted ≡ None
+        → ArePlaced acts.now (length before.bodies)
+        → (db : Trees) → (state S.Store conn.new).may_leave db
+        → (state S.Store conn.old).may_leave db
         ⊎ Holds db (upgraded before version.now set.now acts.now) }
 {
     if !conn.is_autocommit() {

@@ -45,7 +45,8 @@ title_for owner = title_of (version_text owner.version) owner.server owner.set
 
 -- a server of a set owns its store
 abbrev pub owner_for : ℕ → Set → Owner
-owner_for server chains = record { version = version_for chains.version; server = decimal server; set = text_of chains }
+owner_for server chains =
+    record { version = version_for chains.version; server = decimal server; set = text_of chains }
 
 -- the forms of entries, a body each
 abbrev pub bodies_of : History → List (List ℕ)
@@ -70,7 +71,8 @@ pub record IsKept (s : State) (owner : Owner) (count : ℕ) (kept : KeptState) :
 -- whatever a stop leaves stands for one or the other
 abbrev pub LeavesOneOf : (Trees → Type 0) → Owner → KeptState → KeptState → Type 0
 LeavesOneOf may_leave owner one other =
-    (db : Trees) → may_leave db → Holds db (contents_of owner one) ⊎ Holds db (contents_of owner other)
+    (db : Trees) → may_leave db
+    → Holds db (contents_of owner one) ⊎ Holds db (contents_of owner other)
 
 -- the fault says that the store is another's
 abbrev pub IsOther : StoreFault → Type 0

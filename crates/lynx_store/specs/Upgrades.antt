@@ -14,15 +14,22 @@ second_of chains = record chains { version = Two }
 
 -- whatever a server of a set kept is kept, and its set was of version 1 and is of version 2
 abbrev pub Upgrades : State → State → ℕ → Type 0
-Upgrades old new count = (server : ℕ) (chains : Set) (before : ℕ) (kept : KeptState) → IsKept old (owner_for server chains) before kept
+Upgrades old new count =
+    (server : ℕ) (chains : Set) (before : ℕ) (kept : KeptState)
+    → IsKept old (owner_for server chains) before kept
     → (chains.version ≡ One) × IsKept new (owner_for server (second_of chains)) count kept
 
 -- it is a store of version 2, of so many entries
 abbrev pub IsSecond : State → ℕ → Type 0
-IsSecond s count = (server : ℕ) × (chains : Set) × (kept : KeptState) × IsKept s (owner_for server (second_of chains)) count kept
+IsSecond s count =
+    (server : ℕ) × (chains : Set) × (kept : KeptState)
+    × IsKept s (owner_for server (second_of chains)) count kept
 
--- a stop leaves what a server of a set kept, as it was, or where its set was of version 1 the whole store of version 2
+-- a stop leaves what a server of a set kept, as it was, or where its set was of version 1 the whole
+-- store of version 2
 abbrev pub LeavesUpgraded : State → State → Type 0
-LeavesUpgraded old new = (server : ℕ) (chains : Set) (before : ℕ) (kept : KeptState) → IsKept old (owner_for server chains) before kept
+LeavesUpgraded old new =
+    (server : ℕ) (chains : Set) (before : ℕ) (kept : KeptState)
+    → IsKept old (owner_for server chains) before kept
     → (db : Trees) → new.may_leave db → Holds db (contents_of (owner_for server chains) kept)
     ⊎ ((chains.version ≡ One) × Holds db (contents_of (owner_for server (second_of chains)) kept))

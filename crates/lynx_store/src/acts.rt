@@ -113,7 +113,8 @@ pub(crate) fn are_acts_shown(
     entries: &[Entry],
     rows: &Option<Vec<Row>>,
 ) -> Result<bool, Memory>
-    ensures { IfOk result (λ shown. IsTrue shown → ShowActed rows.now (acted_of version entries.now)) }
+    ensures { IfOk result
+        (λ shown. IsTrue shown → ShowActed rows.now (acted_of version entries.now)) }
 {
     let Some(rows) = rows else {
         return Ok(version == StoreVersion::One);

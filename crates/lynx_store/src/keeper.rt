@@ -19,11 +19,11 @@ use lynx_sql::{Rising, StoredRows, read_rows};
 use sqlite::Connection;
 use std::alloc::Global;
 
-/// Keeps a server's entries and cells in a database, and in a store of version 2 the hops that its entries are of. Each commit
-/// is one transaction.
+/// Keeps a server's entries and cells in a database, and in a store of version 2 the hops that its
+/// entries are of. Each commit is one transaction.
 ///
-/// What it says of what is kept rests on a premise: nobody else writes the file, and the disk has given back what was
-/// written to it, so far.
+/// What it says of what is kept rests on a premise: nobody else writes the file, and the disk has
+/// given back what was written to it, so far.
 #[derive(Drop)]
 pub struct SqlKeeper<S: Rising> {
     conn: Connection<S>,
@@ -62,13 +62,18 @@ fn read<S: Rising>(
     conn: &mut Connection<S>,
     heading: &Heading,
 ) -> Result<Loaded, KeepFault>
-    ensures clean { doubt (state S.Store conn.old).is_clean ≤ doubt (state S.Store conn.new).is_clean }
+    ensures clean { doubt (state S.Store conn.old).is_clean
+        ≤ doubt (state S.Store conn.new).is_clean }
     ensures ok { IsUndisturbed (state S.Store conn.new) → IfOk result (λ loaded.
-        IsKept (state S.Store conn.new) (owner_in heading.now) (length loaded.entries.items) (kept_in loaded)) }
-    ensures all { IsUndisturbed (state S.Store conn.new) → IfOk result (λ loaded. (count : ℕ) (kept : KeptState)
-        → IsKept (state S.Store conn.old) (owner_in heading.now) count kept → kept ≡ kept_in loaded) }
+        IsKept (state S.Store conn.new) (owner_in heading.now) (length loaded.entries.items)
+        (kept_in loaded)) }
+    ensures all { IsUndisturbed (state S.Store conn.new)
+        → IfOk result (λ loaded. (count : ℕ) (kept : KeptState)
+        → IsKept (state S.Store conn.old) (owner_in heading.now) count kept
+        → kept ≡ kept_in loaded) }
     ensures memory { IsUndisturbed (state S.Store conn.new) → IsErrOf result KeepFault.Memory
-        → (count : ℕ) (kept : KeptState) → IsKept (state S.Store conn.old) (owner_in heading.now) count kept
+        → (count : ℕ) (kept : KeptState)
+        → IsKept (state S.Store conn.old) (owner_in heading.now) count kept
         → IsKept (state S.Store conn.new) (owner_in heading.now) count kept }
     ensures stop { IsUndisturbed (state S.Store conn.new) → (db : Trees)
         → (state S.Store conn.new).may_leave db → (state S.Store conn.old).may_leave db }
@@ -109,8 +114,10 @@ impl<S: Rising> Keeper for SqlKeeper<S> {
 
     ghost terms = { record {
       sound = λ keeper. IsUndisturbed (state S.Store keeper.conn);
-      keeps = λ keeper kept. IsKept (state S.Store keeper.conn) (owner_in keeper.heading) keeper.count kept;
-      leaves = λ keeper one other. LeavesOneOf (state S.Store keeper.conn).may_leave (owner_in keeper.heading) one other;
+      keeps = λ keeper kept. IsKept (state S.Store keeper.conn) (owner_in keeper.heading)
+          keeper.count kept;
+      leaves = λ keeper one other. LeavesOneOf (state S.Store keeper.conn).may_leave
+          (owner_in keeper.heading) one other;
       counted = λ keeper. keeper.faults;
     } };
 
@@ -157,7 +164,8 @@ impl<S: Rising> Keeper for SqlKeeper<S> {
 
     ghost settled = { λ keeper kept sound keeps. leaves_kept (S.Store.recovers keeper.conn.store)
         (S.Store.view keeper.conn.store).committed (owner_in keeper.heading) kept kept
-        (λ db may. S.Store.settled keeper.conn.store db keeps.tables.is_open may) keeps.tables.tables };
+        (λ db may. S.Store.settled keeper.conn.store db keeps.tables.is_open may)
+        keeps.tables.tables };
 
     ghost weaker = { λ keeper kept other left. leaves_either (S.Store.recovers keeper.conn.store)
         (owner_in keeper.heading) kept other left };

@@ -34,7 +34,8 @@ fn entry_at(alloc: Global, row: &Row, place: u32) -> Result<Option<Entry>, Memor
 /// The entries of the rows, None where a row isn't that of its place.
 pub fn entries_of(alloc: Global, rows: &[Row]) -> Result<Option<Vec<Entry>>, Memory>
     ensures { IfOk result (λ found. IfSome found (λ entries.
-        (rows.now ≡ shown_entries 0 (bodies_of entries.items)) × AllByRecursion HasForm entries.items)) }
+        (rows.now ≡ shown_entries 0 (bodies_of entries.items))
+        × AllByRecursion HasForm entries.items)) }
 {
     let mut entries = Vec::new(alloc);
     let mut place = 0u32;

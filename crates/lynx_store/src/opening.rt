@@ -26,7 +26,8 @@ use std::alloc::Global;
 /// What is wrong with the rows of `meta`, if they are not those of the heading.
 fn heading_fault(heading: &Heading, rows: &[Row]) -> Option<StoreFault>
     ensures none { IfNone result (rows.now ≡ shown_meta (title_for (owner_in heading.now))) }
-    ensures some { IfSome result (λ fault. rows.now ≢ shown_meta (title_for (owner_in heading.now))) }
+    ensures some { IfSome result
+        (λ fault. rows.now ≢ shown_meta (title_for (owner_in heading.now))) }
 {
     let [version, server, set] = rows else {
         return Some(StoreFault::Damaged);
@@ -50,13 +51,16 @@ fn count_kept<S: Rising>(
     conn: &mut Connection<S>,
     heading: &Heading,
 ) -> Result<u32, StoreFault>
-    ensures clean { doubt (state S.Store conn.old).is_clean ≤ doubt (state S.Store conn.new).is_clean }
+    ensures clean { doubt (state S.Store conn.old).is_clean
+        ≤ doubt (state S.Store conn.new).is_clean }
     ensures kept { IsUndisturbed (state S.Store conn.new) → IfOk result (λ count. (kept : KeptState)
         × IsKept (state S.Store conn.new) (owner_in heading.now) count kept) }
-    ensures same { IsUndisturbed (state S.Store conn.new) → IfOk result (λ count. (before : ℕ) (kept : KeptState)
+    ensures same { IsUndisturbed (state S.Store conn.new)
+        → IfOk result (λ count. (before : ℕ) (kept : KeptState)
         → IsKept (state S.Store conn.old) (owner_in heading.now) before kept
         → IsKept (state S.Store conn.new) (owner_in heading.now) count kept) }
-    ensures other { IsUndisturbed (state S.Store conn.new) → IfErr result (λ fault. IsOther fault → (before : ℕ) (kept : KeptState)
+    ensures other { IsUndisturbed (state S.Store conn.new)
+        → IfErr result (λ fault. IsOther fault → (before : ℕ) (kept : KeptState)
         → IsKept (state S.Store conn.old) (owner_in heading.now) before kept → ⊥) }
     ensures stop { IsUndisturbed (state S.Store conn.new) → (db : Trees)
         → (state S.Store conn.new).may_leave db → (state S.Store conn.old).may_leave db }
@@ -83,8 +87,8 @@ fn count_kept<S: Rising>(
 }
 
 impl<S: Rising> SqlKeeper<S> {
-    /// A keeper over the store of a server of a set; an empty database is made a new store, whole or not at all. A store of
-    /// the other version is answered OtherVersion.
+    /// A keeper over the store of a server of a set; an empty database is made a new store, whole
+    /// or not at all. A store of the other version is answered OtherVersion.
     pub fn open(
         alloc: Global,
         mut conn: Connection<S>,
@@ -93,24 +97,31 @@ impl<S: Rising> SqlKeeper<S> {
     ) -> Result<SqlKeeper<S>, (StoreFault, Connection<S>)>
         ensures owner { IfOk result (λ keeper. owner_in keeper.heading ≡ owner_for server set.now) }
         // The tables stand for something, whatever the database held.
-        ensures kept { IfOk result (λ keeper. IsUndisturbed (state S.Store keeper.conn) → (kept : KeptState)
+        ensures kept { IfOk result
+            (λ keeper. IsUndisturbed (state S.Store keeper.conn) → (kept : KeptState)
             × IsKept (state S.Store keeper.conn) (owner_in keeper.heading) keeper.count kept) }
         // A new store keeps nothing.
         ensures new { IfOk result (λ keeper. IsUndisturbed (state S.Store keeper.conn)
             → (state S.Store conn).now.schema ≡ no_schema
-            → IsKept (state S.Store keeper.conn) (owner_in keeper.heading) keeper.count nothing_kept) }
+            → IsKept (state S.Store keeper.conn) (owner_in keeper.heading) keeper.count
+            nothing_kept) }
         // Another keeps what its tables hold.
-        ensures same { IfOk result (λ keeper. IsUndisturbed (state S.Store keeper.conn) → (count : ℕ) (kept : KeptState)
+        ensures same { IfOk result
+            (λ keeper. IsUndisturbed (state S.Store keeper.conn) → (count : ℕ) (kept : KeptState)
             → IsKept (state S.Store conn) (owner_in keeper.heading) count kept
             → IsKept (state S.Store keeper.conn) (owner_in keeper.heading) keeper.count kept) }
         // A store of this set, server and version is called no other.
-        ensures other { IfErr result (λ failed. IsUndisturbed (state S.Store failed.1) → IsOther failed.0 → (count : ℕ) (kept : KeptState)
+        ensures other { IfErr result
+            (λ failed. IsUndisturbed (state S.Store failed.1) → IsOther failed.0
+            → (count : ℕ) (kept : KeptState)
             → IsKept (state S.Store conn) (owner_for server set.now) count kept → ⊥) }
         // A stop leaves what was there, or of an empty database the whole new store.
         ensures stop { IfOk result (λ keeper. IsUndisturbed (state S.Store keeper.conn)
-            → LeavesOpened (state S.Store conn) (state S.Store keeper.conn) (owner_for server set.now)) }
+            → LeavesOpened (state S.Store conn) (state S.Store keeper.conn)
+            (owner_for server set.now)) }
         ensures stop_err { IfErr result (λ failed. IsUndisturbed (state S.Store failed.1)
-            → LeavesOpened (state S.Store conn) (state S.Store failed.1) (owner_for server set.now)) }
+            → LeavesOpened (state S.Store conn) (state S.Store failed.1)
+            (owner_for server set.now)) }
     {
         let Ok(heading) = Heading::new(alloc, set, server) else {
             return Err((StoreFault::Memory, conn));

@@ -31,8 +31,10 @@ struct Added {
 fn added_to(alloc: Global, held: &Inspected) -> Result<Added, StoreFault>
     ensures first { OnOk result (held.now.set.version ≡ Version.One) }
     ensures set { IfOk result (λ added. added.set.items ≡ text_of (second_of held.now.set)) }
-    ensures acts { IfOk result (λ added. added.acts.items ≡ acts_from 0 held.now.loaded.entries.items) }
-    ensures other { IfErr result (λ fault. fault ≡ StoreFault.OtherVersion → held.now.set.version ≡ Version.Two) }
+    ensures acts { IfOk result
+        (λ added. added.acts.items ≡ acts_from 0 held.now.loaded.entries.items) }
+    ensures other { IfErr result
+        (λ fault. fault ≡ StoreFault.OtherVersion → held.now.set.version ≡ Version.Two) }
 {
     match held.set.version() {
         Version::One => {}
@@ -48,27 +50,34 @@ fn added_to(alloc: Global, held: &Inspected) -> Result<Added, StoreFault>
     })
 }
 
-/// Makes a store of version 1 one of version 2, in one transaction: it keeps the same entries and cells, under the text
-/// of its set at version 2, and the hops that its entries are of. Gives the count of its entries. No server may have the
-/// store open. OtherVersion where it is of version 2 already, or of one that isn't known. After Store it is as it was or
-/// of version 2, whole; after every other fault as it was. Takes the memory of all that it holds.
+/// Makes a store of version 1 one of version 2, in one transaction: it keeps the same entries and
+/// cells, under the text of its set at version 2, and the hops that its entries are of. Gives the
+/// count of its entries. No server may have the store open. OtherVersion where it is of version 2
+/// already, or of one that isn't known. After Store it is as it was or of version 2, whole; after
+/// every other fault as it was. Takes the memory of all that it holds.
 pub fn upgrade_store<S: Rising>(
     alloc: Global,
     conn: &mut Connection<S>,
 ) -> Result<usize, StoreFault>
-    ensures clean { doubt (state S.Store conn.old).is_clean ≤ doubt (state S.Store conn.new).is_clean }
+    ensures clean { doubt (state S.Store conn.old).is_clean
+        ≤ doubt (state S.Store conn.new).is_clean }
     // Entries and cells are what they were, of the same server, and of the same set at version 2.
     ensures ok { IsUndisturbed (state S.Store conn.new) → IfOk result (λ count.
         Upgrades (state S.Store conn.old) (state S.Store conn.new) count) }
     // A store of version 2 is there, whatever the database held.
-    ensures second { IsUndisturbed (state S.Store conn.new) → IfOk result (λ count. IsSecond (state S.Store conn.new) count) }
+    ensures second { IsUndisturbed (state S.Store conn.new)
+        → IfOk result (λ count. IsSecond (state S.Store conn.new) count) }
     // A fault but that of the database leaves what was kept.
-    ensures same { IsUndisturbed (state S.Store conn.new) → IfErr result (λ fault. fault ≢ StoreFault.Store
-        → (owner : Owner) (count : ℕ) (kept : KeptState) → IsKept (state S.Store conn.old) owner count kept
+    ensures same { IsUndisturbed (state S.Store conn.new)
+        → IfErr result (λ fault. fault ≢ StoreFault.Store
+        → (owner : Owner) (count : ℕ) (kept : KeptState)
+        → IsKept (state S.Store conn.old) owner count kept
         → IsKept (state S.Store conn.new) owner count kept) }
     // A store of version 1 is called of no other.
-    ensures other { IsUndisturbed (state S.Store conn.new) → IfErr result (λ fault. fault ≡ StoreFault.OtherVersion
-        → (owner : Owner) (count : ℕ) (kept : KeptState) → IsKept (state S.Store conn.old) owner count kept
+    ensures other { IsUndisturbed (state S.Store conn.new)
+        → IfErr result (λ fault. fault ≡ StoreFault.OtherVersion
+        → (owner : Owner) (count : ℕ) (kept : KeptState)
+        → IsKept (state S.Store conn.old) owner count kept
         → owner.version ≡ StoreVersion.Two) }
     // A stop leaves the store as it was, or the whole store of version 2.
     ensures stop { IsUndisturbed (state S.Store conn.new)

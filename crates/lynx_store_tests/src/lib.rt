@@ -1,4 +1,5 @@
-//! Tests of stores, with ample memory: made, kept, opened again, upgraded, damaged by hand, and stopped.
+//! Tests of stores, with ample memory: made, kept, opened again, upgraded, damaged by hand, and
+//! stopped.
 #![tactic(auto)]
 
 #[cfg(test)]

@@ -76,7 +76,8 @@ fn stores_are_listed(rt: HostRuntime) {
     assert!(rt; refusal_is_listed(rt.alloc()) == Ok(true));
 }
 
-/// What a listing answers after this was done to the store of the worked payment, where so many writes are taken.
+/// What a listing answers after this was done to the store of the worked payment, where so many
+/// writes are taken.
 fn answer_after(
     alloc: Global,
     statements: &str,

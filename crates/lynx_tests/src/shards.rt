@@ -37,7 +37,8 @@ const WHOLE: &[Shard] = &[(0, 99, 1), (100, LAST, 2)];
 
 const PAST_THE_LAST: &[Shard] = &[(0, LAST, 0), (0, 1, 0)];
 
-/// A range that begins too late, too early, and behind its end; at a server that there isn't; and one that ends early.
+/// A range that begins too late, too early, and behind its end; at a server that there isn't; and
+/// one that ends early.
 const GAP: &[Shard] = &[(0, 99, 1), (101, LAST, 3)];
 
 const OVERLAP: &[Shard] = &[(0, 99, 1), (99, LAST, 3)];

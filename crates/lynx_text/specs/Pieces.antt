@@ -39,7 +39,9 @@ begins (line ∷ lines) word = bytes_eq (until line 32) word
 
 -- the version that a line tells
 abbrev pub version_of : List ℕ → Option Version
-version_of line = if bytes_eq line (codes "lynx 1") then Some One else (if bytes_eq line (codes "lynx 2") then Some Two else None)
+version_of line =
+    if bytes_eq line (codes "lynx 1") then Some One
+    else (if bytes_eq line (codes "lynx 2") then Some Two else None)
 
 -- the version that the first line tells
 abbrev pub version_told : List (List ℕ) → Option Version

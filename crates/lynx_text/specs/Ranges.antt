@@ -28,7 +28,8 @@ with_first byte ends = (byte ∷ ends.0, ends.1)
 abbrev pub cut_at_dots : List ℕ → Option (List ℕ × List ℕ)
 cut_at_dots [] = None
 cut_at_dots (byte ∷ rest) =
-    if begins_with_dots (byte ∷ rest) then Some ([], behind_first rest) else option_map (with_first byte) (cut_at_dots rest)
+    if begins_with_dots (byte ∷ rest) then Some ([], behind_first rest) else option_map
+    (with_first byte) (cut_at_dots rest)
 
 -- what stands on both sides of a word's two dots, which stand there once
 abbrev pub ends_of : List ℕ → Option (List ℕ × List ℕ)
@@ -49,7 +50,8 @@ range_line names first (word ∷ parameter ∷ interval ∷ []) = do
   behind ← only_if {X = Unit {0}} (nat_le first place) tt
   low ← read_number ends.0
   high ← read_number ends.1
-  only_if (nat_le low high) (record { parameter = place; interval = record { low = low; high = high } })
+  only_if (nat_le low high)
+      (record { parameter = place; interval = record { low = low; high = high } })
 range_line names first words = None
 
 -- one more range

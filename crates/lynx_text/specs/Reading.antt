@@ -47,10 +47,14 @@ read_key names parameters word =
 
 -- a number, or a name
 abbrev pub operand_of : List (List ℕ) → List ℕ → Option Operand
-operand_of names word = if begins_with_digit word then option_map Number (read_number word) else option_map Name (known_name names word)
+operand_of names word =
+    if begins_with_digit word then option_map Number (read_number word) else option_map Name
+    (known_name names word)
 
 unfoldable pub operator_of : List ℕ → Option Operator
-operator_of word = if bytes_eq word (codes "+") then Some Plus else (if bytes_eq word (codes "-") then Some Minus else None)
+operator_of word =
+    if bytes_eq word (codes "+") then Some Plus
+    else (if bytes_eq word (codes "-") then Some Minus else None)
 
 unfoldable pub relation_of : List ℕ → Option Relation
 relation_of word =

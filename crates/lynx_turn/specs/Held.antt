@@ -20,8 +20,10 @@ same_hop left right = same_chain left.chain right.chain && (left.hop == right.ho
 -- by origin, then index, then hop
 abbrev pub is_before : Message → Message → Bool
 is_before left right =
-    if not (left.chain.origin == right.chain.origin) then nat_lt left.chain.origin right.chain.origin
-    else (if not (left.chain.index == right.chain.index) then nat_lt left.chain.index right.chain.index
+    if not (left.chain.origin == right.chain.origin) then nat_lt left.chain.origin
+    right.chain.origin
+    else (if not (left.chain.index == right.chain.index) then nat_lt left.chain.index
+    right.chain.index
     else nat_lt left.hop right.hop)
 
 -- the lesser of a message and the least so far

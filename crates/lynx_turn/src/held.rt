@@ -8,8 +8,8 @@ use lynx_names::{ChainId, Memory};
 use std::alloc::Global;
 use std::marker::Model;
 
-/// Messages that are held, each put behind those that are before it by origin, index and hop. There is room for
-/// [`MAX_HELD`] of them from the making on.
+/// Messages that are held, each put behind those that are before it by origin, index and hop. There
+/// is room for [`MAX_HELD`] of them from the making on.
 #[derive(Debug, Drop)]
 pub struct HeldBuffer {
     messages: Vec<Message>,

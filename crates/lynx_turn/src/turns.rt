@@ -19,7 +19,8 @@ pub enum Stand {
     Past,
 }
 
-/// Whose turn it is at a server: for each origin, how many of its chains are through. Contracts see the counts.
+/// Whose turn it is at a server: for each origin, how many of its chains are through. Contracts see
+/// the counts.
 #[derive(Debug, Drop)]
 pub struct Turns {
     counts: [u64; SERVERS],

@@ -8,8 +8,8 @@ use std::alloc::Global;
 /// More levels than this add no mark: each adds one of four for each hop.
 const MAX_LEVELS: usize = 2_048;
 
-/// Arrivals that close the walk with no further visit: at a hop of the start's program, from abroad, and at another hop
-/// than the start unless some visit crossed.
+/// Arrivals that close the walk with no further visit: at a hop of the start's program, from
+/// abroad, and at another hop than the start unless some visit crossed.
 fn goals(map: &Map, start: &Stop, place: usize) -> Marks {
     let mut goals = Marks::none();
     let home = map.hops_of(start.program);
@@ -42,7 +42,8 @@ fn leaving(map: &Map, arrivals: &Marks) -> Marks {
     leaving
 }
 
-/// Arrivals after which the program that was entered may be left by this hop, which is marked in this way.
+/// Arrivals after which the program that was entered may be left by this hop, which is marked in
+/// this way.
 fn add_arrivals(
     map: &Map,
     start: &Stop,
@@ -84,9 +85,9 @@ fn arrivals(map: &Map, start: &Stop, leaving: &Marks) -> Marks {
     arrivals
 }
 
-/// The arrivals from which a walk that leaves at the start can be closed with no further visit, with at most one, and so
-/// on, up to the first level that has a hop with which the start may conflict. None where no level has, or none up to the
-/// limit.
+/// The arrivals from which a walk that leaves at the start can be closed with no further visit,
+/// with at most one, and so on, up to the first level that has a hop with which the start may
+/// conflict. None where no level has, or none up to the limit.
 pub(crate) fn levels_of(
     alloc: Global,
     map: &Map,

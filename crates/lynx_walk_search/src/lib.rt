@@ -1,5 +1,6 @@
-//! A search for a closed walk that offends, through the hops of a set as rows of bits, and the parts of the graph that
-//! they make. What it finds is a guess: nothing is promised of it, and who asks looks whether it holds.
+//! A search for a closed walk that offends, through the hops of a set as rows of bits, and the
+//! parts of the graph that they make. What it finds is a guess: nothing is promised of it, and who
+//! asks looks whether it holds.
 #![tactic(auto)]
 
 pub use map::Map;

@@ -30,7 +30,8 @@ impl Map {
         }
     }
 
-    /// Adds the next hop: its program, the server of the program's first hop, and the hops with which it may conflict.
+    /// Adds the next hop: its program, the server of the program's first hop, and the hops with
+    /// which it may conflict.
     pub fn add(
         &mut self,
         program: ProgramId,

@@ -1,8 +1,8 @@
 //! Hops marked for what the visits of a walk so far did.
 use crate::row::Row;
 
-/// Rows of hops: whether some visit was left by another hop than it was entered at, and whether some visit was of a
-/// program of another origin.
+/// Rows of hops: whether some visit was left by another hop than it was entered at, and whether
+/// some visit was of a program of another origin.
 #[derive(Clone, Copy, Debug)]
 pub(crate) struct Marks {
     neither: Row,

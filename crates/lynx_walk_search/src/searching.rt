@@ -12,10 +12,12 @@ pub struct Step {
     pub left: usize,
 }
 
-/// The walk with the fewest visits of all that offend; of those the one whose list of conflict edges (program, hop left,
-/// next program, hop entered) is the least, beginning with the visit whose leaving edge stands first in that list.
+/// The walk with the fewest visits of all that offend; of those the one whose list of conflict
+/// edges (program, hop left, next program, hop entered) is the least, beginning with the visit
+/// whose leaving edge stands first in that list.
 ///
-/// For each of at most 512 hops it goes once through at most 2,048 marks, each with a row of 512 bits.
+/// For each of at most 512 hops it goes once through at most 2,048 marks, each with a row of 512
+/// bits.
 pub fn least_walk(alloc: Global, map: &Map) -> Result<Option<Items<Step>>, Memory> {
     let mut best: Option<Items<Step>> = None;
     for (place, start) in map.stops.as_slice().iter().enumerate() {

@@ -46,7 +46,8 @@ fn step_from(map: &Map, start: &Stop, level: &Marks, arrival: &Arrival) -> Optio
     None
 }
 
-/// Reads the walk off the levels, of which the last is the first that has a hop with which the start may conflict.
+/// Reads the walk off the levels, of which the last is the first that has a hop with which the
+/// start may conflict.
 pub(crate) fn read_walk(
     alloc: Global,
     map: &Map,

@@ -9,7 +9,8 @@ use Rattle.lynx_world.specs.Worlds.{history_of}
 
 -- the entry at that place of that server's history
 abbrev pub entry_in : List History → ℕ → ℕ → Option Entry
-entry_in histories server place = option_and_then (λ history. slice_get history place) (slice_get histories server)
+entry_in histories server place =
+    option_and_then (λ history. slice_get history place) (slice_get histories server)
 
 -- by stamp, then server
 abbrev pub ComesBefore : Placed → Placed → Type 0
@@ -23,7 +24,8 @@ IsInOrder list =
     (place later : ℕ) (one other : Placed) → place < later → slice_get list place ≡ Some one →
     slice_get list later ≡ Some other → ComesBefore one other
 
--- A legal list of all entries of these histories, one for each server, in order of stamp, then server.
+-- A legal list of all entries of these histories, one for each server, in order of stamp, then
+-- server.
 pub record IsListOf (set : Set) (histories : List History) (list : List Placed) : Type 0 where
   pub legal : IsLegal set list
   pub in_order : IsInOrder list

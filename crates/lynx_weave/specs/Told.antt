@@ -20,7 +20,8 @@ use Rattle.lynx_weave.specs.declared.told.ToldItem.TheVariants.{Answered, Seen}
 -- the same request of one client
 abbrev pub same_request : Request → Request → Bool
 same_request left right =
-    (left.client == right.client) && (left.number == right.number) && (left.program == right.program)
+    (left.client == right.client) && (left.number == right.number) &&
+    (left.program == right.program)
     && pointwise nat_eq left.args right.args
 
 -- the entry in which that request began that chain, with that stamp and these results
@@ -41,7 +42,8 @@ is_refused_as request need stamp (Hop ran) = false
 -- a request of the same client and number with another program or other arguments
 abbrev pub is_other_call : Request → Request → Bool
 is_other_call other request =
-    (other.client == request.client) && (other.number == request.number) && not (same_call other request)
+    (other.client == request.client) && (other.number == request.number) && not
+    (same_call other request)
 
 -- the entry keeps the answer to such a request
 abbrev pub is_clash_of : Request → Entry → Bool
@@ -52,7 +54,8 @@ is_clash_of request (Hop ran) = false
 -- the entry of that hop of the chain, with that stamp and these results
 abbrev pub is_look_at : ChainId → ℕ → ℕ → List ℕ → Entry → Bool
 is_look_at chain hop stamp results (Begun begun) =
-    same_chain begun.chain chain && (hop == 0) && (begun.stamp == stamp) && pointwise nat_eq begun.results results
+    same_chain begun.chain chain && (hop == 0) && (begun.stamp == stamp) && pointwise nat_eq
+    begun.results results
 is_look_at chain hop stamp results (Refused refused) = false
 is_look_at chain hop stamp results (Hop ran) =
     same_chain ran.message.chain chain && (ran.message.hop == hop) && (ran.stamp == stamp)
@@ -60,7 +63,8 @@ is_look_at chain hop stamp results (Hop ran) =
 
 -- the entry bears out the answer to that request
 abbrev pub bears_answer : Request → Answer → Entry → Bool
-bears_answer request (BegunAnswer chain stamp results again) entry = is_begun_as request chain stamp results entry
+bears_answer request (BegunAnswer chain stamp results again) entry =
+    is_begun_as request chain stamp results entry
 bears_answer request (RefusedAnswer need stamp again) entry = is_refused_as request need stamp entry
 bears_answer request Clash entry = is_clash_of request entry
 bears_answer request answer entry = false
@@ -95,11 +99,14 @@ is_topmost entry = stamp_of entry + 1 == STAMP_LIMIT
 -- the server has all the entries, or the list all the stamps, that there may be
 abbrev pub is_full_in : ℕ → List Placed → Bool
 is_full_in server list =
-    not (nat_lt (length (history_of server list)) MAX_ENTRIES) || list_any (λ placed. is_topmost placed.entry) list
+    not (nat_lt (length (history_of server list)) MAX_ENTRIES) || list_any
+    (λ placed. is_topmost placed.entry) list
 
--- What was told stands in a list of entries: an entry agrees with it, or it tells that a server is full which is.
+-- What was told stands in a list of entries: an entry agrees with it, or it tells that a server is
+-- full which is.
 abbrev pub stands : List Placed → ToldItem → Bool
-stands list item = list_any (agrees item) list || (tells_full item && is_full_in (server_told item) list)
+stands list item =
+    list_any (agrees item) list || (tells_full item && is_full_in (server_told item) list)
 
 -- the answer tells of what was done for it, and not of a record
 abbrev pub is_fresh_answer : Answer → Bool

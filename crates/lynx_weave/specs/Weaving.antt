@@ -27,7 +27,8 @@ abbrev pub all_told : List (List ToldItem) → List ToldItem
 all_told told = flat_map (λ items. items) told
 
 -- A world of these histories, in which all that was told stands.
-pub record IsWoven (set : Set) (histories : List History) (told : List (List ToldItem)) (world : WorldState) : Type 0 where
+pub record IsWoven (set : Set) (histories : List History) (told : List (List ToldItem))
+    (world : WorldState) : Type 0 where
   pub set_is : world.set ≡ set
   pub list_is : IsListOf set histories world.list
   pub nothing_held : world.held ≡ replicate set.servers []
@@ -53,26 +54,30 @@ pub record IsUnsentAt (set : Set) (histories : List History) (server place : ℕ
 
 -- the entry can't stand in a world of these histories
 abbrev pub IsMismatch : Set → List History → ℕ → ℕ → Type 0
-IsMismatch set histories server place = IsUnlawfulAt set histories server place ⊎ IsUnsentAt set histories server place
+IsMismatch set histories server place =
+    IsUnlawfulAt set histories server place ⊎ IsUnsentAt set histories server place
 
 -- an item told before is fresh by the same entry
-pub record IsToldAgain (list : List Placed) (before : List ToldItem) (item : ToldItem) : Type 0 where
+pub record IsToldAgain (list : List Placed) (before : List ToldItem) (item : ToldItem) : Type
+    0 where
   pub at : ℕ
   pub placed : Placed
   pub there : slice_get list at ≡ Some placed
   pub is_by : is_fresh_by placed item ≡ true
   pub again : 1 ≤ count_by (is_fresh_by placed) before
 
--- The item at that place doesn't stand in the list, or is fresh and comes too late, or is fresh by an entry by which an
--- item of an earlier session or place is.
-abbrev pub IsFalselyTold : List Placed → List (List ToldItem) → ℕ → List ToldItem → ℕ → ToldItem → Type 0
+-- The item at that place doesn't stand in the list, or is fresh and comes too late, or is fresh by
+-- an entry by which an item of an earlier session or place is.
+abbrev pub IsFalselyTold : List Placed → List (List ToldItem) → ℕ → List ToldItem → ℕ → ToldItem
+    → Type 0
 IsFalselyTold list told session items place item =
     (stands list item ≡ false)
     ⊎ (((is_fresh item ≡ true) × (stamp_told item ≤ greatest_told (take place items)))
     ⊎ IsToldAgain list (all_told (take session told) ++ take place items) item)
 
 -- in the one list of these histories the item at that place of that session is falsely told
-pub record IsToldFault (set : Set) (histories : List History) (told : List (List ToldItem)) (session place : ℕ) : Type 0 where
+pub record IsToldFault (set : Set) (histories : List History) (told : List (List ToldItem))
+    (session place : ℕ) : Type 0 where
   pub list : List Placed
   pub list_is : IsListOf set histories list
   pub items : List ToldItem
@@ -82,7 +87,8 @@ pub record IsToldFault (set : Set) (histories : List History) (told : List (List
   pub falsely : IsFalselyTold list told session items place item
 
 -- A world of the histories, or where one of them or what was told is wrong.
-abbrev pub Weaves : Set → List History → List (List ToldItem) → Result WorldState WeaveFault → Type 0
+abbrev pub Weaves : Set → List History → List (List ToldItem) → Result WorldState WeaveFault
+    → Type 0
 Weaves set histories told (Ok world) = IsWoven set histories told world
 Weaves set histories told (Err (Mismatch server place)) = IsMismatch set histories server place
 Weaves set histories told (Err (Told session place)) = IsToldFault set histories told session place

@@ -66,7 +66,8 @@ fn is_other_call(other: &Request, request: &Request) -> bool
         && !(other.program == request.program && other.args == request.args)
 }
 
-/// The entry keeps the answer to a request of that client and number with another program or other arguments.
+/// The entry keeps the answer to a request of that client and number with another program or other
+/// arguments.
 fn is_clash_of(request: &Request, entry: &Entry) -> bool
     ensures { result ≡ is_clash_of request.now entry.now }
 {

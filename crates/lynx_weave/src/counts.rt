@@ -13,7 +13,8 @@ use lynx_names::Memory;
 use lynx_server::Server;
 use std::alloc::Global;
 
-/// How many answers of one server sessions were told as fresh, and how many it gave since they began.
+/// How many answers of one server sessions were told as fresh, and how many it gave since they
+/// began.
 #[derive(Clone, Copy, Debug, PartialEq, Eq)]
 pub struct ServerCounts {
     /// The items of all sessions that are fresh and tell of the server.
@@ -36,7 +37,8 @@ fn begins_of(entries: &[Entry]) -> usize
     entries.iter().filter(|entry| answers_begin(entry)).count()
 }
 
-/// How many entries from that place on answer a begin: none where the history is shorter. Only those are gone over.
+/// How many entries from that place on answer a begin: none where the history is shorter. Only
+/// those are gone over.
 fn begins_since(history: &[Entry], start: u64) -> u64
     ensures { result ≡ count_by answers_begin (drop start history.now) }
 {
@@ -76,7 +78,8 @@ fn fresh_of(alloc: Global, servers: usize, told: &[Vec<ToldItem>]) -> Result<Vec
     Ok(fresh)
 }
 
-/// The counts of each server. The items are gone over once, and so is each history from its start on.
+/// The counts of each server. The items are gone over once, and so is each history from its start
+/// on.
 pub(crate) fn counts_of(
     alloc: Global,
     servers: &[Server<MemoryKeeper>],

@@ -85,8 +85,8 @@ fn is_from_before(starts: &[u64], server: ServerId, place: usize) -> bool
     }
 }
 
-/// Judges one item by the greatest stamp that its session was told before, by the entries by which items told before
-/// are fresh, and by those that are from before.
+/// Judges one item by the greatest stamp that its session was told before, by the entries by which
+/// items told before are fresh, and by those that are from before.
 fn judge_item(
     servers: &[Server<MemoryKeeper>],
     starts: &[u64],

@@ -42,8 +42,8 @@ fn with_next(
     }
 }
 
-/// The server whose next entry has the least stamp, the first of those that have it; as many entries of each are
-/// through. None where all are.
+/// The server whose next entry has the least stamp, the first of those that have it; as many
+/// entries of each are through. None where all are.
 fn least_next(servers: &[Server<MemoryKeeper>], places: &[usize]) -> Option<usize>
     requires { length places.now ≡ length servers.now }
     ensures { IsNextAt (histories_of servers.now) places.now result }
@@ -58,8 +58,8 @@ fn least_next(servers: &[Server<MemoryKeeper>], places: &[usize]) -> Option<usiz
     }
 }
 
-/// All entries of the servers, in order of stamp, then server. Each takes a walk over the servers, of which there are
-/// at most 16.
+/// All entries of the servers, in order of stamp, then server. Each takes a walk over the servers,
+/// of which there are at most 16.
 pub(crate) fn order_of(
     alloc: Global,
     set: &ChainSet,

@@ -35,7 +35,8 @@ fn add(servers: &mut Vec<Server<MemoryKeeper>>, rebuilt: Server<MemoryKeeper>) -
     Ok(())
 }
 
-/// A server of each history. The entries are gone over once, and each takes the work of its hop and a few look-ups.
+/// A server of each history. The entries are gone over once, and each takes the work of its hop and
+/// a few look-ups.
 pub(crate) fn rebuild_all(
     alloc: Global,
     set: &ChainSet,

@@ -86,7 +86,8 @@ fn first_unsent(
     Ok(None)
 }
 
-/// The message of each later hop's entry is looked up where it must have been sent: one look-up an entry.
+/// The message of each later hop's entry is looked up where it must have been sent: one look-up an
+/// entry.
 pub(crate) fn check_senders(
     alloc: Global,
     set: &ChainSet,

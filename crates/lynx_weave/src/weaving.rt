@@ -17,7 +17,8 @@ use lynx_set::ChainSet;
 use lynx_world::World;
 use std::alloc::Global;
 
-/// A world, and for each server in order how many of its answers sessions were told as fresh, and how many it gave.
+/// A world, and for each server in order how many of its answers sessions were told as fresh, and
+/// how many it gave.
 #[derive(Drop)]
 pub struct Woven {
     pub world: World,
@@ -31,10 +32,10 @@ fn no_starts(alloc: Global, set: &ChainSet) -> Result<Vec<u64>, Memory>
     Ok(vec![in alloc; 0; usize::from(set.servers())]?)
 }
 
-/// The world of these histories, one for each server of the set, in which all that sessions were told stands. Its list
-/// is in order of stamp, then server, and nothing is held. Mismatch names an entry that no world has, Told an item;
-/// histories are judged first. An entry takes the work of its hop, a few look-ups and a walk over the servers, and an
-/// item a few look-ups.
+/// The world of these histories, one for each server of the set, in which all that sessions were
+/// told stands. Its list is in order of stamp, then server, and nothing is held. Mismatch names an
+/// entry that no world has, Told an item; histories are judged first. An entry takes the work of
+/// its hop, a few look-ups and a walk over the servers, and an item a few look-ups.
 pub fn weave(
     alloc: Global,
     set: &ChainSet,
@@ -49,10 +50,10 @@ pub fn weave(
     Ok(woven.world)
 }
 
-/// The world of these histories, as [`weave`] makes it, where sessions began when each server's history was as long as
-/// its start: Told names also an item that is fresh by an entry below a start. With it come the counts of each server,
-/// in order, for which the items, and the entries from each start on, are gone over once more. Memory can come at any
-/// point.
+/// The world of these histories, as [`weave`] makes it, where sessions began when each server's
+/// history was as long as its start: Told names also an item that is fresh by an entry below a
+/// start. With it come the counts of each server, in order, for which the items, and the entries
+/// from each start on, are gone over once more. Memory can come at any point.
 pub fn weave_since(
     alloc: Global,
     set: &ChainSet,
@@ -62,7 +63,8 @@ pub fn weave_since(
 ) -> Result<Woven, WeaveFault>
     requires histories { length histories.items ≡ set.now.servers }
     requires starts { length starts.now ≡ set.now.servers }
-    ensures { WeavesSince set.now (histories_in histories.items) starts.now (told_in told.now) result }
+    ensures { WeavesSince set.now (histories_in histories.items) starts.now (told_in told.now)
+        result }
 {
     let servers = rebuild_all(alloc, set, histories)?;
     let lent = servers.as_slice();

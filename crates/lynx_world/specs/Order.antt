@@ -19,7 +19,8 @@ done_hops chain list = filter_map (λ placed. hop_in chain placed.entry) list
 
 -- The hops of each chain stand in the list as 0, 1, .., n - 1.
 abbrev pub IsOnceAndInOrder : List Placed → Type 0
-IsOnceAndInOrder list = (chain : ChainId) → done_hops chain list ≡ range_with_len 0 (length (done_hops chain list))
+IsOnceAndInOrder list =
+    (chain : ChainId) → done_hops chain list ≡ range_with_len 0 (length (done_hops chain list))
 
 -- a hop of the chain stands at that place of the list, at the server
 pub record StandsAt (list : List Placed) (chain : ChainId) (server place : ℕ) : Type 0 where
@@ -29,8 +30,10 @@ pub record StandsAt (list : List Placed) (chain : ChainId) (server place : ℕ) 
   pub hop : ℕ
   pub is : hop_in chain placed.entry ≡ Some hop
 
--- Of two chains of one origin the one with the lower index began first. At each server each hop of it stands before
--- each hop of the other.
+-- Of two chains of one origin the one with the lower index began first. At each server each hop of
+-- it stands before each hop of the other.
 abbrev pub IsInOriginOrder : List Placed → Type 0
-IsInOriginOrder list = (earlier later : ChainId) → earlier.origin ≡ later.origin → earlier.index < later.index →
-    (server place other : ℕ) → StandsAt list earlier server place → StandsAt list later server other → place < other
+IsInOriginOrder list =
+    (earlier later : ChainId) → earlier.origin ≡ later.origin → earlier.index < later.index →
+    (server place other : ℕ) → StandsAt list earlier server place → StandsAt list later server other
+    → place < other

@@ -16,7 +16,9 @@ cells_after set history = triples_of (entries (tables_of set history))
 
 -- the nonzero cells of each server's tables
 abbrev pub cells_of : WorldState → List (ℕ × ℕ × ℕ)
-cells_of world = flat_map (λ server. cells_after world.set (history_of server world.list)) (range_with_len 0 world.set.servers)
+cells_of world =
+    flat_map (λ server. cells_after world.set (history_of server world.list))
+    (range_with_len 0 world.set.servers)
 
 -- by table, then key
 abbrev pub triple_cmp : ℕ × ℕ × ℕ → ℕ × ℕ × ℕ → Ordering

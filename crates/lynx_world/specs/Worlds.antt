@@ -8,7 +8,8 @@ use Rattle.lynx_entry.specs.Entry.{History}
 use Rattle.lynx_rules.specs.Messages.{next_message}
 use Rattle.lynx_world.specs.Placed.{Placed}
 
--- A set, the entries of all its servers in one list, and what each server holds: one list of messages for each.
+-- A set, the entries of all its servers in one list, and what each server holds: one list of
+-- messages for each.
 pub record WorldState : Type 0 where
   pub set : Set
   pub list : List Placed

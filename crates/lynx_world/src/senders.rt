@@ -1,4 +1,5 @@
-//! The entries of hops, where they must have run: a chain's begin stands at its origin, and tells the program.
+//! The entries of hops, where they must have run: a chain's begin stands at its origin, and tells
+//! the program.
 ghost use Rattle.std.specs.Prelude.{◌≡◌, option_copied};
 ghost use Rattle.lynx_world.specs.inner.Senders.{act_at, act_found, home_of};
 

@@ -103,8 +103,8 @@ pub(crate) fn waking(server: ServerId, woken: Option<Woken>) -> Outcome
     }
 }
 
-/// Opens the server again over a copy of what it keeps. The new server is opened beside the old one, so want of
-/// memory leaves that as it was.
+/// Opens the server again over a copy of what it keeps. The new server is opened beside the old
+/// one, so want of memory leaves that as it was.
 pub(crate) fn restart_at(alloc: Global, here: &mut Server<MemoryKeeper>) -> Result<(), Memory>
     requires runs { here.old.is_stopped ≡ false }
     requires unmarked { here.old.acknowledged ≡ [] }

@@ -17,8 +17,9 @@ use lynx_set::ChainSet;
 use std::alloc::Global;
 use std::marker::Model;
 
-/// Servers that run one set of chain programs, each over what it keeps in memory, and the order in which they added
-/// their entries. Contracts see the set, the one list of all that the servers did, and what each holds.
+/// Servers that run one set of chain programs, each over what it keeps in memory, and the order in
+/// which they added their entries. Contracts see the set, the one list of all that the servers did,
+/// and what each holds.
 #[derive(Drop)]
 pub struct World {
     set: ChainSet,
@@ -52,7 +53,8 @@ impl World {
     ghost use Rattle.lynx_world.specs.Tables.{cells_of, triple_cmp};
     ghost use Rattle.lynx_world.specs.Steps.{HasGrown, step, is_server, sent_message, destination_of, held_at};
 
-    /// A world in which nothing happened yet, over keepers that keep nothing, one for each server of the set.
+    /// A world in which nothing happened yet, over keepers that keep nothing, one for each server
+    /// of the set.
     pub fn new(alloc: Global, set: ChainSet, keepers: Vec<MemoryKeeper>) -> Result<World, Memory>
         requires { keepers.items ≡ replicate set.servers nothing_kept }
         ensures { IfOk result (λ world. world ≡ new_world set) }
@@ -65,7 +67,8 @@ impl World {
         })
     }
 
-    /// A world of servers that ran already, with the order in which they added their entries. Takes no memory.
+    /// A world of servers that ran already, with the order in which they added their entries. Takes
+    /// no memory.
     pub fn over(set: ChainSet, servers: Vec<Server<MemoryKeeper>>, order: Vec<Added>) -> World
         requires { AreServers set servers.items order.items }
         ensures { result ≡ record {
@@ -291,8 +294,9 @@ impl World {
         }
     }
 
-    /// One event. A begin, a delivery and a waking take the work of their hop and a few look-ups, whatever the number of servers; a
-    /// restart goes over all that its server keeps. Want of memory is an outcome of its own, and changes nothing.
+    /// One event. A begin, a delivery and a waking take the work of their hop and a few look-ups,
+    /// whatever the number of servers; a restart goes over all that its server keeps. Want of
+    /// memory is an outcome of its own, and changes nothing.
     pub fn apply(&mut self, alloc: Global, event: Event) -> Outcome
         ensures step { ((result ≡ Outcome.Memory) × (self.new ≡ self.old))
             ⊎ (record { outcome = result; world = self.new } ≡ step MAX_HELD self.old event) }

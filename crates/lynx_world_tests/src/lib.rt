@@ -1,4 +1,5 @@
-//! Tests of worlds, and of weaving: histories that weave and that don't, and what sessions were told.
+//! Tests of worlds, and of weaving: histories that weave and that don't, and what sessions were
+//! told.
 #![tactic(auto)]
 
 #[cfg(test)]

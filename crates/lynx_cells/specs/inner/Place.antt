@@ -16,4 +16,5 @@ pub record IsPlaceOf (triples : List (ℕ × ℕ × ℕ)) (cell : ℕ × ℕ) (p
 pub record IsGapFor (triples : List (ℕ × ℕ × ℕ)) (cell : ℕ × ℕ) (place : ℕ) : Type 0 where
   pub in_range : place ≤ length triples
   pub less_before : (k : ℕ) → k < place → cell_cmp (cell_at triples k) cell ≡ Less
-  pub greater_from : (k : ℕ) → place ≤ k → k < length triples → cell_cmp (cell_at triples k) cell ≡ Greater
+  pub greater_from : (k : ℕ) → place ≤ k → k < length triples
+      → cell_cmp (cell_at triples k) cell ≡ Greater

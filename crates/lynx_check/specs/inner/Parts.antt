@@ -16,7 +16,8 @@ is_same_part parts left right = are_one (slice_get parts left) (slice_get parts 
 
 -- some hop with which the hop may conflict is in another part
 abbrev pub meets_other_part : List ℕ → ℕ → Node → Bool
-meets_other_part parts place node = list_any (λ next. not (is_same_part parts place next)) node.neighbours
+meets_other_part parts place node =
+    list_any (λ next. not (is_same_part parts place next)) node.neighbours
 
 -- some hop of its program is
 abbrev pub is_split : List ℕ → ℕ → Node → Bool
@@ -31,19 +32,24 @@ has_neighbours nodes node = option_map_or (λ node. is_met node) (slice_get node
 
 -- some other hop of the program may conflict with one
 abbrev pub has_other_exit : List Node → Node → Bool
-has_other_exit nodes node = list_any (λ exit. not (exit.hop == node.place.hop) && has_neighbours nodes exit.node) node.exits
+has_other_exit nodes node =
+    list_any (λ exit. not (exit.hop == node.place.hop) && has_neighbours nodes exit.node) node.exits
 
 -- the part of the hop has a program of another origin
 abbrev pub has_abroad : List Node → List ℕ → ℕ → Node → Bool
 has_abroad nodes parts place node =
-    list_any (λ numbered. not (same_server numbered.1.origin node.origin) && is_same_part parts place numbered.0) (enumerate_from 0 nodes)
+    list_any (λ numbered. not (same_server numbered.1.origin node.origin) && is_same_part parts
+    place numbered.0) (enumerate_from 0 nodes)
 
--- the hop has an edge to another part, or a walk may enter its program here and leave it by another hop, while a program
--- of another origin is in the part
+-- the hop has an edge to another part, or a walk may enter its program here and leave it by another
+-- hop, while a program of another origin is in the part
 abbrev pub part_offends : List Node → List ℕ → ℕ → Node → Bool
 part_offends nodes parts place node =
-    meets_other_part parts place node || (is_split parts place node || (is_met node && (has_other_exit nodes node && has_abroad nodes parts place node)))
+    meets_other_part parts place node ||
+    (is_split parts place node ||
+    (is_met node && (has_other_exit nodes node && has_abroad nodes parts place node)))
 
 -- these are no parts, or some part offends
 abbrev pub some_part_offends : List Node → List ℕ → Bool
-some_part_offends nodes parts = list_any (λ numbered. part_offends nodes parts numbered.0 numbered.1) (enumerate_from 0 nodes)
+some_part_offends nodes parts =
+    list_any (λ numbered. part_offends nodes parts numbered.0 numbered.1) (enumerate_from 0 nodes)

@@ -9,7 +9,8 @@ use Rattle.lynx_check.specs.inner.Tracing.{IsSound}
 
 -- no walk leaves at the start, of whatever length
 abbrev pub ClosesNone : List Node → Node → Type 0
-ClosesNone nodes start = (further : ℕ) → leaves (table_within nodes start further) start false false ≡ false
+ClosesNone nodes start =
+    (further : ℕ) → leaves (table_within nodes start further) start false false ≡ false
 
 -- no walk at all
 abbrev pub HasNone : List Node → Type 0

@@ -8,4 +8,5 @@ is_marked marks number = unwrap_or (slice_get marks number) true
 -- the number of each session is marked
 abbrev pub AreMarked : List SessionState → List Bool → Type 0
 AreMarked sessions marks =
-    (place : ℕ) (session : SessionState) → slice_get sessions place ≡ Some session → is_marked marks session.number ≡ true
+    (place : ℕ) (session : SessionState) → slice_get sessions place ≡ Some session
+    → is_marked marks session.number ≡ true

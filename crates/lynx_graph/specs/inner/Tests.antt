@@ -19,7 +19,8 @@ joins_next set visit next = joins set (exit_of visit) (entrance_of next)
 
 abbrev pub joins_around : Set → Visit → Visit → List Visit → Bool
 joins_around set first visit [] = joins_next set visit first
-joins_around set first visit (next ∷ rest) = joins_next set visit next && joins_around set first next rest
+joins_around set first visit (next ∷ rest) =
+    joins_next set visit next && joins_around set first next rest
 
 abbrev pub is_closed : Set → List Visit → Bool
 is_closed set [] = false

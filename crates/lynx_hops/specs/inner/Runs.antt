@@ -12,4 +12,5 @@ here running = applied running.changes running.cells.now.database
 -- what has come out, and what the rest of the actions come to
 abbrev pub outcome_of : Running → List Action → HopOutcome
 outcome_of running rest =
-    after_results running.results (run running.args.now running.needs rest running.names (here running))
+    after_results running.results
+    (run running.args.now running.needs rest running.names (here running))

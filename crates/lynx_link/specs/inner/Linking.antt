@@ -15,7 +15,8 @@ pub record Connects (old new : List EndLists) (sender receiver : ℕ) : Type 0 w
   pub sending : Sending
   pub receiving : Receiving
   pub is_new : IsNewRing sending receiving
-  pub added : new ≡ changed_at (with_receiver receiving) (changed_at (with_sender sending) old sender) receiver
+  pub added : new
+      ≡ changed_at (with_receiver receiving) (changed_at (with_sender sending) old sender) receiver
 
 -- the rings of each server before this one, and its own rings to each server before that one
 pub record AreSoFar (servers sender receiver : ℕ) (ends : List EndLists) : Type 0 where
@@ -24,6 +25,8 @@ pub record AreSoFar (servers sender receiver : ℕ) (ends : List EndLists) : Typ
   pub to_here : length (to_of ends sender) ≡ receiver
   pub to_after : (server : ℕ) → sender < server → length (to_of ends server) ≡ 0
   pub from_before : (server : ℕ) → server < receiver → length (from_of ends server) ≡ sender + 1
-  pub from_after : (server : ℕ) → receiver ≤ server → server < servers → length (from_of ends server) ≡ sender
-  pub linked_before : (server other : ℕ) → server < sender → other < servers → IsLinked ends server other
+  pub from_after : (server : ℕ) → receiver ≤ server → server < servers
+      → length (from_of ends server) ≡ sender
+  pub linked_before : (server other : ℕ) → server < sender → other < servers
+      → IsLinked ends server other
   pub linked_here : (other : ℕ) → other < receiver → IsLinked ends sender other

@@ -18,12 +18,15 @@ touches_of_placed set chain None = []
 abbrev pub chain_of : List ChainId → Link → ChainId
 chain_of chains link = chain_at chains link.chain
 
--- the chain of the link at that place precedes that of the next link; behind the last one comes the first
+-- the chain of the link at that place precedes that of the next link; behind the last one comes the
+-- first
 abbrev pub PrecedesNext : Set → List Placed → List ChainId → Link → List Link → ℕ → Type 0
 PrecedesNext set list chains first links place =
     (link : Link) → slice_get links place ≡ Some link →
-    Precedes set list (chain_of chains link) (chain_of chains (unwrap_or (slice_get links (suc place)) first))
+    Precedes set list (chain_of chains link)
+    (chain_of chains (unwrap_or (slice_get links (suc place)) first))
 
 -- each chain precedes the next
 abbrev pub EachPrecedes : Set → List Placed → List ChainId → Link → List Link → Type 0
-EachPrecedes set list chains first links = (place : ℕ) → PrecedesNext set list chains first links place
+EachPrecedes set list chains first links =
+    (place : ℕ) → PrecedesNext set list chains first links place

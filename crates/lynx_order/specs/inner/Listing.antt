@@ -14,4 +14,5 @@ chain_in (Hop ran) = Some ran.message.chain
 
 -- these touches, as those of the chain with that number, whose entry stands at that place
 abbrev pub chain_touches : ℕ → ℕ → List Touch → List ChainTouch
-chain_touches chain place touches = map (λ touch. record { touch = touch; chain = chain; place = place }) touches
+chain_touches chain place touches =
+    map (λ touch. record { touch = touch; chain = chain; place = place }) touches

@@ -16,7 +16,8 @@ ComesBefore table one other = IsMarked (slice_index_or table other []) one
 
 -- as many columns as rows
 abbrev pub IsSquare : List (List Bool) → Type 0
-IsSquare table = (place : ℕ) → place < length table → length (slice_index_or table place []) ≡ length table
+IsSquare table =
+    (place : ℕ) → place < length table → length (slice_index_or table place []) ≡ length table
 
 -- a chain that is left, which no other one that is left precedes
 pub record IsFree (table : List (List Bool)) (left : List Bool) (place : ℕ) : Type 0 where
@@ -32,12 +33,14 @@ pub record LeftBefore (table : List (List Bool)) (left : List Bool) (one place :
 
 -- each chain that is left has one before it that is left
 abbrev pub NoneFree : List (List Bool) → List Bool → Type 0
-NoneFree table left = (place : ℕ) → IsMarked left place → (one : ℕ) × LeftBefore table left one place
+NoneFree table left =
+    (place : ℕ) → IsMarked left place → (one : ℕ) × LeftBefore table left one place
 
 -- below a chain's hint none that is left precedes it
 pub record AreHints (table : List (List Bool)) (left : List Bool) (hints : List ℕ) : Type 0 where
   pub whole : length hints ≡ length table
-  pub none_below : (place : ℕ) → place < length table → NoneCommon (slice_index_or table place []) left (slice_index_or hints place 0)
+  pub none_below : (place : ℕ) → place < length table
+      → NoneCommon (slice_index_or table place []) left (slice_index_or hints place 0)
 
 -- these chains are picked, each behind all that precede it, and the others are left
 pub record ArePicked (table : List (List Bool)) (picked : List ℕ) (left : List Bool) : Type 0 where
@@ -46,7 +49,8 @@ pub record ArePicked (table : List (List Bool)) (picked : List ℕ) (left : List
   pub within : (place : ℕ) → IsIn place picked → place < length table
   pub either : (place : ℕ) → place < length table → IsIn place picked ⊎ IsMarked left place
   pub apart : (place : ℕ) → IsIn place picked → ¬ IsMarked left place
-  pub in_order : (one other : ℕ) → one < length table → IsIn other picked → ComesBefore table one other → StandsBefore one other picked
+  pub in_order : (one other : ℕ) → one < length table → IsIn other picked
+      → ComesBefore table one other → StandsBefore one other picked
 
 -- the first comes before the next, and so on
 abbrev pub AreLinked : {X : Type 0} → (X → X → Type 0) → List X → Type 0
@@ -63,8 +67,10 @@ pub record IsRound (table : List (List Bool)) (places : List ℕ) : Type 0 where
   pub within : (place : ℕ) → IsIn place places → place < length table
   pub linked : AreLinked (ComesBefore table) (places ++ first ∷ [])
 
--- a walk back from chain to chain, the newest first, which has come to this one; those that it has not met are fresh
-pub record IsTrail (table : List (List Bool)) (left fresh : List Bool) (path : List ℕ) (current : ℕ) : Type 0 where
+-- a walk back from chain to chain, the newest first, which has come to this one; those that it has
+-- not met are fresh
+pub record IsTrail (table : List (List Bool)) (left fresh : List Bool) (path : List ℕ)
+    (current : ℕ) : Type 0 where
   pub whole : length fresh ≡ length table
   pub is_left : IsMarked left current
   pub all_left : (place : ℕ) → IsIn place path → IsMarked left place
@@ -74,7 +80,8 @@ pub record IsTrail (table : List (List Bool)) (left fresh : List Bool) (path : L
   pub linked : AreLinked (ComesBefore table) (current ∷ path)
 
 -- the walk came to a chain that it had met
-pub record IsClosed (table : List (List Bool)) (left : List Bool) (path : List ℕ) (current : ℕ) : Type 0 where
+pub record IsClosed (table : List (List Bool)) (left : List Bool) (path : List ℕ)
+    (current : ℕ) : Type 0 where
   pub met : IsIn current path
   pub all_left : (place : ℕ) → IsIn place path → IsMarked left place
   pub once : AreDifferent path

@@ -48,7 +48,8 @@ abbrev pub WritesReply : {D : Type 0} → Answering D → D → D → Option (Li
 WritesReply replies first last unwritten wrote frame =
     (bytes : List ℕ) × IsReply replies first last frame bytes × Appends unwritten wrote bytes
 
--- A talk that goes on: of the bytes that were read these are left behind the frames that were answered.
+-- A talk that goes on: of the bytes that were read these are left behind the frames that were
+-- answered.
 pub record Going {D : Type 0} (replies : Answering D) (first last : D)
     (unread read unwritten wrote : Option (List ℕ)) (left : List ℕ) (count : ℕ) : Type 0 where
   pub bytes : List ℕ

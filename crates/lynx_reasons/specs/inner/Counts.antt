@@ -18,7 +18,9 @@ abbrev pub lines_to_hop : Program → ℕ → ℕ
 lines_to_hop program hop = 1 + length program.ranges + sum_by lines_of_hop (take hop program.hops)
 
 abbrev pub lines_of_program_at : Set → ℕ → ℕ
-lines_of_program_at set program = option_map_or (λ found. lines_of_program found) (program_at set program) 0
+lines_of_program_at set program =
+    option_map_or (λ found. lines_of_program found) (program_at set program) 0
 
 abbrev pub lines_to_hop_of : Set → Place → ℕ
-lines_to_hop_of set place = option_map_or (λ found. lines_to_hop found place.hop) (program_at set place.program) 0
+lines_to_hop_of set place =
+    option_map_or (λ found. lines_to_hop found place.hop) (program_at set place.program) 0

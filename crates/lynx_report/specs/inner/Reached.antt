@@ -16,7 +16,8 @@ use Rattle.lynx_report.specs.declared.reached.Reached.{Reached}
 abbrev pub reached_in : Entry → Option (ChainId × Reached)
 reached_in (Begun begun) = Some (begun.chain, record { program = begun.request.program; next = 1 })
 reached_in (Refused refused) = None
-reached_in (Hop ran) = Some (ran.message.chain, record { program = ran.message.program; next = ran.message.hop + 1 })
+reached_in (Hop ran) =
+    Some (ran.message.chain, record { program = ran.message.program; next = ran.message.hop + 1 })
 
 -- the same of the entry at a place
 abbrev pub reached_at : List Placed → ℕ → Option (ChainId × Reached)
@@ -30,7 +31,8 @@ reached_for chain (Some reached) = if same_chain reached.0 chain then Some reach
 -- how far the last entry of the chain brings it
 abbrev pub reached_of : List Placed → ChainId → Option Reached
 reached_of [] chain = None
-reached_of (placed ∷ list) chain = option_or (reached_of list chain) (reached_for chain (reached_in placed.entry))
+reached_of (placed ∷ list) chain =
+    option_or (reached_of list chain) (reached_for chain (reached_in placed.entry))
 
 -- the hops of a chain that are left
 abbrev pub left_of : Set → ChainId × Reached → List OwedHop

@@ -18,14 +18,16 @@ use Rattle.lynx_server.specs.Books.{BooksState}
 pub record IsDue (books : BooksState) (message : Message) (stamp : ℕ) : Type 0 where
   pub well_formed : is_well_formed books.set books.server books.history message ≡ true
   pub new : hop_entry_of message.chain message.hop books.history ≡ None
-  pub in_turn : unwrap_or (number_at message.numbers books.server) 0 ≡ turn_of books.set books.server books.history message.chain.origin
+  pub in_turn : unwrap_or (number_at message.numbers books.server) 0
+      ≡ turn_of books.set books.server books.history message.chain.origin
   pub room : is_full books.history message.stamp ≡ false
   pub stamp_is : stamp ≡ max (clock_of books.history) message.stamp + 1
 
 -- what the message's hop does
 abbrev pub outcome_of : BooksState → Message → HopOutcome
 outcome_of books message =
-    meaning books.set message.program message.hop message.args message.results (tables_of books.set books.history)
+    meaning books.set message.program message.hop message.args message.results
+    (tables_of books.set books.history)
 
 -- what comes of a message that is due, where nothing is held
 abbrev pub due_delivery : BooksState → Message → Delivers
@@ -37,7 +39,8 @@ hop_entry message stamp results = record { message = message; stamp = stamp; res
 -- its hop ran
 abbrev pub HasRun : BooksState → RanMessage → Type 0
 HasRun books step =
-    outcome_of books step.taken.message ≡ Ok (step.ran.0, applied step.ran.1 (tables_of books.set books.history))
+    outcome_of books step.taken.message
+    ≡ Ok (step.ran.0, applied step.ran.1 (tables_of books.set books.history))
 
 -- the hop ran
 pub record RanOn (books : BooksState) (taken : TakenMessage) (step : RanMessage) : Type 0 where

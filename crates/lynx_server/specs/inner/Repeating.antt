@@ -28,7 +28,8 @@ unkept_terms = record {
 -- what a server adds when it is asked for what the entry did
 abbrev pub again : {K : Type 0} → Serving K → Entry → Option Entry
 again old (Begun begun) = (answer old.set old.server old.history begun.request begun.seen).added
-again old (Refused refused) = (answer old.set old.server old.history refused.request refused.seen).added
+again old (Refused refused) =
+    (answer old.set old.server old.history refused.request refused.seen).added
 again old (Hop ran) = (delivery_of old ran.message).added
 
 -- what it holds then
@@ -44,7 +45,8 @@ pub record IsIdle {K : Type 0} (old : Serving K) : Type 0 where
   pub acknowledged_is : old.acknowledged ≡ []
 
 -- it runs on, with what was added, and holds these messages
-pub record HasAdded {K : Type 0} (old : Serving K) (added : Option Entry) (held : List Message) (new : Serving K) : Type 0 where
+pub record HasAdded {K : Type 0} (old : Serving K) (added : Option Entry) (held : List Message)
+    (new : Serving K) : Type 0 where
   pub set_is : new.set ≡ old.set
   pub server_is : new.server ≡ old.server
   pub history_is : new.history ≡ grown old.history added
@@ -53,7 +55,8 @@ pub record HasAdded {K : Type 0} (old : Serving K) (added : Option Entry) (held 
   pub runs : new.is_stopped ≡ false
 
 -- it did what the entry did, which is lawful
-pub record HasRepeated {K : Type 0} (old : Serving K) (entry : Entry) (new : Serving K) : Type 0 where
+pub record HasRepeated {K : Type 0} (old : Serving K) (entry : Entry) (new : Serving K) : Type
+    0 where
   pub lawful : IsLawful old.set old.server old.history entry
   pub set_is : new.set ≡ old.set
   pub server_is : new.server ≡ old.server
@@ -66,7 +69,8 @@ Repeats old entry new true = HasRepeated old entry new
 Repeats old entry new false = IsLawful old.set old.server old.history entry → ⊥
 
 -- it did these entries
-pub record IsReplayed {K : Type 0} (set : Set) (server : ℕ) (entries : History) (replayed : Serving K) : Type 0 where
+pub record IsReplayed {K : Type 0} (set : Set) (server : ℕ) (entries : History)
+    (replayed : Serving K) : Type 0 where
   pub set_is : replayed.set ≡ set
   pub server_is : replayed.server ≡ server
   pub history_is : replayed.history ≡ entries

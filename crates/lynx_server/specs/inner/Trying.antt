@@ -19,16 +19,19 @@ use Rattle.lynx_server.specs.inner.Keeping.{Fails, GoesTo, HasKept}
 use Rattle.lynx_server.specs.Serving.{Serving, Becomes, HasStopped, IsAnswered, IsDelivered, delivery_of}
 
 -- what such a call left of the keeper, by how it ended
-abbrev pub LeavesKeeper : {K X : Type 0} → Terms K → Serving K → Option Entry → Result X KeepFault → Serving K → Type 0
+abbrev pub LeavesKeeper : {K X : Type 0} → Terms K → Serving K → Option Entry → Result X KeepFault
+    → Serving K → Type 0
 LeavesKeeper terms old added (Ok given) new =
     HasKept terms old.keeper new.keeper (kept_of old.set old.history) (kept_of new.set new.history)
 LeavesKeeper terms old added (Err WantOfMemory) new =
     GoesTo terms old.keeper new.keeper (kept_of old.set old.history) (kept_of old.set old.history)
 LeavesKeeper terms old added (Err Failed) new =
-    Fails terms old.keeper new.keeper (kept_of old.set old.history) (kept_of old.set (grown old.history added))
+    Fails terms old.keeper new.keeper (kept_of old.set old.history)
+    (kept_of old.set (grown old.history added))
 
 -- a begin of a server that runs
-abbrev pub TriedBegin : {K : Type 0} → Terms K → Serving K → Request → ℕ → Result Answer KeepFault → Serving K → Type 0
+abbrev pub TriedBegin : {K : Type 0} → Terms K → Serving K → Request → ℕ → Result Answer KeepFault
+    → Serving K → Type 0
 TriedBegin terms old request seen (Ok given) new = IsAnswered old request seen given new
 TriedBegin terms old request seen (Err WantOfMemory) new = Becomes old None old.held new
 TriedBegin terms old request seen (Err Failed) new = HasStopped terms old new
@@ -40,22 +43,27 @@ is_done delivered = false
 
 -- nothing but its hop answers the message
 abbrev pub IsDueHere : {K : Type 0} → Serving K → Message → ℕ → Type 0
-IsDueHere old message stamp = IsDue (record { set = old.set; server = old.server; history = old.history; out = None }) message stamp
+IsDueHere old message stamp =
+    IsDue (record { set = old.set; server = old.server; history = old.history; out = None }) message
+    stamp
 
 -- what comes of its hop
 abbrev pub ran_here : {K : Type 0} → Serving K → Message → DeliveredSo
 ran_here old message =
     done_by old.set old.history old.held message
-    (meaning old.set message.program message.hop message.args message.results (tables_of old.set old.history))
+    (meaning old.set message.program message.hop message.args message.results
+    (tables_of old.set old.history))
 
 -- its hop was run
-abbrev pub RanHere : {K : Type 0} → Terms K → Serving K → Message → Result Delivered KeepFault → Serving K → Type 0
+abbrev pub RanHere : {K : Type 0} → Terms K → Serving K → Message → Result Delivered KeepFault
+    → Serving K → Type 0
 RanHere terms old message (Ok given) new = IsDelivered old (ran_here old message) given new
 RanHere terms old message (Err WantOfMemory) new = Becomes old None old.held new
 RanHere terms old message (Err Failed) new = HasStopped terms old new
 
 -- a delivery at a server that runs
-abbrev pub TriedDelivery : {K : Type 0} → Terms K → Serving K → Message → Result Delivered KeepFault → Serving K → Type 0
+abbrev pub TriedDelivery : {K : Type 0} → Terms K → Serving K → Message → Result Delivered KeepFault
+    → Serving K → Type 0
 TriedDelivery terms old message (Ok given) new = IsDelivered old (delivery_of old message) given new
 TriedDelivery terms old message (Err WantOfMemory) new = Becomes old None old.held new
 TriedDelivery terms old message (Err Failed) new = HasStopped terms old new

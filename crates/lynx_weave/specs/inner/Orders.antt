@@ -9,7 +9,8 @@ use Rattle.lynx_weave.specs.Lists.{IsInOrder, entry_in}
 
 -- the next entry of that server, where as many of each history are through
 abbrev pub next_in : List History → List ℕ → ℕ → Option Entry
-next_in histories places server = option_and_then (entry_in histories server) (slice_get places server)
+next_in histories places server =
+    option_and_then (entry_in histories server) (slice_get places server)
 
 -- the server's next entry, which none of another comes before
 pub record IsLeastNext (histories : List History) (places : List ℕ) (server : ℕ) : Type 0 where

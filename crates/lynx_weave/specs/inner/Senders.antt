@@ -21,7 +21,8 @@ sender_at set histories message before =
 -- what the entry of the hop before sends
 abbrev pub sent_before : Set → List History → Message → ℕ → Option Message
 sent_before set histories message zero = None
-sent_before set histories message (suc before) = option_and_then (next_message set) (sender_at set histories message before)
+sent_before set histories message (suc before) =
+    option_and_then (next_message set) (sender_at set histories message before)
 
 -- the message is sent by the entry of the hop before
 abbrev pub IsSentBefore : Set → List History → Message → Type 0
@@ -34,7 +35,8 @@ AreSent set histories history =
     message_of entry ≡ Some message → IsSentBefore set histories message
 
 -- the entry's message isn't
-pub record IsUnsent (set : Set) (histories : List History) (history : History) (place : ℕ) : Type 0 where
+pub record IsUnsent (set : Set) (histories : List History) (history : History) (place : ℕ) : Type
+    0 where
   pub entry : Entry
   pub there : slice_get history place ≡ Some entry
   pub message : Message
@@ -49,7 +51,8 @@ IsUnsentFirst set histories history (Some place) = IsUnsent set histories histor
 -- the same of all histories
 abbrev pub AreAllSent : Set → List History → Type 0
 AreAllSent set histories =
-    (server : ℕ) (history : History) → slice_get histories server ≡ Some history → AreSent set histories history
+    (server : ℕ) (history : History) → slice_get histories server ≡ Some history
+    → AreSent set histories history
 
 abbrev pub FindsSenders : Set → List History → Result (Unit {0}) WeaveFault → Type 0
 FindsSenders set histories (Ok done) = AreAllSent set histories

@@ -3,12 +3,10 @@
 
 use clap::error::ErrorKind;
 use clap::{ArgMatches, Error};
-use lynx_command::{CommandFault, Job, command, job_of, wants_hints};
-use lynx_files::Files;
-use lynx_jobs::{Fault, Hints, do_job};
+use lynx_cli::{CommandFault, Fault, Hints, Job, command, do_job, job_of, wants_hints};
 use lynx_keep::Keeper;
 use lynx_report::RunFault;
-use lynx_stores::Stores;
+use lynx_store_files::{Files, Stores};
 use std::io::{self, IsTerminal};
 use std::net::{Net, TcpListener, TcpStream};
 use std::process::ExitCode;
@@ -27,8 +25,8 @@ fn report<R: Eprint>(rt: &R, fault: &Fault) -> u8 {
     fault.status()
 }
 
-/// Prints what the parser says: help that was asked for on standard output, a fault on standard error. Faulty
-/// words have their status also where standard error takes nothing.
+/// Prints what the parser says: help that was asked for on standard output, a fault on standard
+/// error. Faulty words have their status also where standard error takes nothing.
 fn print_help<R: Print + Eprint>(rt: &R, said: &Error) -> u8 {
     if said.kind() == ErrorKind::OutOfMemory {
         return report(rt, &Fault::Run(RunFault::Memory));

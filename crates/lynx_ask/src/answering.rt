@@ -1,12 +1,13 @@
 //! What is answered, as lines.
 use crate::fault::AskFault;
-use lynx_entry::{Answer, Outcome};
 use lynx_codec::{DecodeFault, Feed, Item, Looked};
-use lynx_print::outcome_line;
+use lynx_entry::{Answer, Outcome};
+use lynx_lines::outcome_line;
 use std::alloc::Global;
 use std::io::{ErrorKind, Read};
 
-/// Reads that one answer may take: each of them gets a byte at least, and none asks for more than an answer has.
+/// Reads that one answer may take: each of them gets a byte at least, and none asks for more than
+/// an answer has.
 const MAX_READS: u32 = 1_000_000;
 
 /// The next item of the stream.

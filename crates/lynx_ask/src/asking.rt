@@ -3,7 +3,7 @@ use crate::answering::{line_of, next_item};
 use crate::fault::AskFault;
 use crate::reading::{Asked, item_of, read_asked};
 use lynx_codec::{Feed, encode};
-use lynx_io::write_bytes;
+use lynx_lines::write_bytes;
 use lynx_set::ChainSet;
 use std::alloc::Global;
 use std::io::{BufRead, Read, Write};
@@ -34,9 +34,10 @@ fn ask_one<S: Read + Write, W: Write>(
     }
 }
 
-/// Asks the service at the other end of the stream what each line asks, one after the other, and writes a line for each
-/// answer as it comes: those of a run for begins, `found stamp S results LIST` or `absent` for looks, `bye` for `quit`
-/// and `shut`, with which it ends. Where the lines end without these, it leaves as by `quit`, without a line for it.
+/// Asks the service at the other end of the stream what each line asks, one after the other, and
+/// writes a line for each answer as it comes: those of a run for begins,
+/// `found stamp S results LIST` or `absent` for looks, `bye` for `quit` and `shut`, with which it
+/// ends. Where the lines end without these, it leaves as by `quit`, without a line for it.
 pub fn ask<L: BufRead + Drop, S: Read + Write, W: Write>(
     alloc: Global,
     set: &ChainSet,

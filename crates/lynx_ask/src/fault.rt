@@ -1,7 +1,7 @@
 //! Why asking stopped.
-use lynx_io::WriteFailed;
-use lynx_names::Memory;
 use lynx_lex::{FaultKind, TextFault};
+use lynx_lines::WriteFailed;
+use lynx_names::Memory;
 use std::alloc::AllocError;
 use thiserror::Error;
 
@@ -14,8 +14,8 @@ pub enum AskFault {
     /// Nobody listens at the port.
     #[error("cannot connect")]
     Connect,
-    /// The connection ended, or what came over it is no answer. Whether what was asked last was done isn't known: it may
-    /// be asked again under the same number.
+    /// The connection ended, or what came over it is no answer. Whether what was asked last was
+    /// done isn't known: it may be asked again under the same number.
     #[error("connection lost")]
     Lost,
     /// The lines can't be read.

@@ -3,13 +3,13 @@ ghost use Rattle.std.specs.Prelude.{IfOk};
 ghost use Rattle.lynx_codec.specs.Ranges.{IsInRange};
 ghost use Rattle.lynx_ask.specs.Asking.{IsFromClient};
 
-use lynx_entry::{Event, Request};
 use lynx_codec::{Item, Look};
+use lynx_entry::{Event, Request};
+use lynx_lex::FaultKind;
+use lynx_lines::parse_script;
 use lynx_names::ChainId;
 use lynx_names::limits::MAX_PARAMETERS;
-use lynx_script::parse_script;
 use lynx_set::ChainSet;
-use lynx_lex::FaultKind;
 use std::alloc::Global;
 
 /// What a line asks for.
@@ -37,9 +37,9 @@ fn event_of(
     }
 }
 
-/// Reads a line, without its LF. `begin CLIENT NUMBER PROGRAM ARG..` and `look CHAIN HOP` are a script's `begin` without
-/// its server and its `deliver`, with the faults of these, and are read as these: the service knows where a program
-/// begins.
+/// Reads a line, without its LF. `begin CLIENT NUMBER PROGRAM ARG..` and `look CHAIN HOP` are a
+/// script's `begin` without its server and its `deliver`, with the faults of these, and are read as
+/// these: the service knows where a program begins.
 pub fn read_asked(alloc: Global, set: &ChainSet, line: &[u8]) -> Result<Asked, FaultKind> {
     if line == b"quit".as_slice() {
         return Ok(Asked::Quit);

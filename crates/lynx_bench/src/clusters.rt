@@ -4,7 +4,8 @@ ghost use Rattle.std.specs.Duration.{as_nanos};
 ghost use Rattle.lynx_names.specs.declared.limits.TheConstants.{MAX_SERVERS};
 
 use crate::fault::Fault;
-use lynx_load::{Load, Measured, idle, measure};
+use crate::idling::idle;
+use crate::load::{Load, Measured, measure};
 use lynx_names::limits::MAX_SERVERS;
 use std::alloc::Global;
 use std::fmt;
@@ -56,7 +57,8 @@ fn across_of(word: &str) -> Option<u8>
 }
 
 impl ClusterWork {
-    /// To carry a load of so many payments by so many threads, of which so many of a hundred go from one server to another.
+    /// To carry a load of so many payments by so many threads, of which so many of a hundred go
+    /// from one server to another.
     pub fn carry(
         servers: &str,
         threads: &str,

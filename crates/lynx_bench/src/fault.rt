@@ -1,5 +1,5 @@
 //! Why no work was done.
-use lynx_load::LoadFault;
+use crate::load_fault::LoadFault;
 use lynx_names::Memory;
 use lynx_store::StoreFault;
 use thiserror::Error;

@@ -2,9 +2,9 @@
 ghost use Rattle.std.specs.Prelude.{◌≡◌, ◌<◌, ◌∷◌, [], IfOk};
 ghost use Rattle.lynx_codec.specs.Ranges.{IsInRange, IsMessageInRange, HaveOrder};
 
-use lynx_entry::{BegunEntry, Entry, HopEntry, Message, Request, ResultLists};
 use lynx_codec::limits::MAX_FORM_BYTES;
 use lynx_codec::{DecodeFault, Feed, Item, append};
+use lynx_entry::{BegunEntry, Entry, HopEntry, Message, Request, ResultLists};
 use lynx_names::{
     ChainId, ClientId, Memory, NumberAt, Numbers, ProgramId, ServerId, Stamp, Values,
 };
@@ -176,8 +176,8 @@ fn feed_once(
     Ok(items)
 }
 
-/// How many items a feed gives that is pushed about so many bytes, in pieces of that size. The stream is pushed
-/// whole each time, so a pass begins where the one before ended.
+/// How many items a feed gives that is pushed about so many bytes, in pieces of that size. The
+/// stream is pushed whole each time, so a pass begins where the one before ended.
 pub fn feed_all(alloc: Global, piece: usize, count: u64) -> Result<u64, DecodeFault> {
     let piece = piece.max(1);
     let stream = stream(alloc, piece)?;

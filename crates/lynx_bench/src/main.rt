@@ -1,11 +1,13 @@
-//! `lynx_bench WORK COUNT`: does some work so many times, to be timed from outside. `encode` and `feed PIECE` write and
-//! read so many bytes of forms, `store FOLDER` pays so many times over two stores there (`:memory:`: in memory),
-//! `open-store FOLDER` opens the first of them so many times, `weave SHAPE` weaves so many entries of two servers (`2`), of sixteen (`16`), or of one
-//! (`adds`, `alternating`, `cells`, `cycle`), and `explain SHAPE` then explains the world.
+//! `lynx_bench WORK COUNT`: does some work so many times, to be timed from outside. `encode` and
+//! `feed PIECE` write and read so many bytes of forms, `store FOLDER` pays so many times over two
+//! stores there (`:memory:`: in memory), `open-store FOLDER` opens the first of them so many times,
+//! `weave SHAPE` weaves so many entries of two servers (`2`), of sixteen (`16`), or of one (`adds`,
+//! `alternating`, `cells`, `cycle`), and `explain SHAPE` then explains the world.
 //!
-//! Two kinds of work are of a cluster in memory, with a thread for each server: `cluster SERVERS THREADS COUNT [ACROSS]`
-//! pays so many times by so many threads, ACROSS of 100 times from one server to another (without it always), and prints
-//! how long that took, and `idle SERVERS SECONDS` has the cluster do nothing.
+//! Two kinds of work are of a cluster in memory, with a thread for each server:
+//! `cluster SERVERS THREADS COUNT [ACROSS]` pays so many times by so many threads, ACROSS of 100
+//! times from one server to another (without it always), and prints how long that took, and
+//! `idle SERVERS SECONDS` has the cluster do nothing.
 #![tactic(auto)]
 
 use std::process::ExitCode;
@@ -18,11 +20,17 @@ use std::{env, fmt};
 mod clusters;
 mod fault;
 mod forms;
+mod idling;
+mod load;
+mod load_fault;
 mod measure;
 mod memory_stores;
+mod payer;
 mod ring;
 mod shape;
+mod starting;
 mod stores;
+mod texts;
 
 use clusters::ClusterWork;
 use fault::Fault;
@@ -49,7 +57,8 @@ fn work_of(word: &str) -> Option<Work<'_>> {
     }
 }
 
-/// Feeding in pieces of that size, weaving or explaining a world of that shape, or work over stores in that folder.
+/// Feeding in pieces of that size, weaving or explaining a world of that shape, or work over stores
+/// in that folder.
 fn sized_work_of<'a>(work: &str, size: &'a str) -> Option<Work<'a>> {
     match work {
         "store" => Some(Work::Store { folder: size }),

@@ -2,7 +2,7 @@
 use lynx_names::ServerId;
 use lynx_set::ChainSet;
 use lynx_store::{SqlKeeper, StoreFault};
-use lynx_stores::Stores;
+use lynx_store_files::Stores;
 use sqlite::{Connection, MemStore};
 use std::alloc::Global;
 

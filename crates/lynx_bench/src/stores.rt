@@ -3,17 +3,16 @@ use crate::fault::Fault;
 use crate::memory_stores::MemoryStores;
 use crate::ring::{Start, last_sent, request};
 use lynx_entry::Delivered;
-use lynx_files::Files;
 use lynx_keep::Keeper;
 use lynx_names::{Memory, ServerId, Stamp};
 use lynx_server::Server;
 use lynx_set::ChainSet;
-use lynx_stores::Stores;
+use lynx_store_files::{Files, Stores};
 use lynx_text::parse;
 use std::alloc::Global;
 
-/// A program that fills an account of the first server, and one that pays from it to one of the second.
-/// tests/store_baseline.c has the same.
+/// A program that fills an account of the first server, and one that pays from it to one of the
+/// second. tests/store_baseline.c has the same.
 const SET: &str =
     "lynx 1\nservers 2\ntable acct\nshard 0 999 0\nshard 1000 18446744073709551615 1\nprogram seed n\nhop 0\nadd acct 0 n\nend\nprogram pay n\nhop 0\nget x acct 0\nneed x >= n\nsub acct 0 n\nhop 1\nadd acct 1000 n\nend\n";
 
@@ -50,7 +49,8 @@ fn served<K: Keeper + Drop, S: Stores<K>>(
     Server::open(alloc, &set, server, keeper).map_err(|_| Fault::Store)
 }
 
-/// Begins a payment at the one server, and delivers its message to the other. Whether it came there.
+/// Begins a payment at the one server, and delivers its message to the other. Whether it came
+/// there.
 fn pay<K: Keeper>(
     alloc: Global,
     payer: &mut Server<K>,
@@ -86,7 +86,8 @@ fn pay_often<K: Keeper>(
     Ok(paid)
 }
 
-/// How many of so many payments come to their end over stores in that folder, which are closed then.
+/// How many of so many payments come to their end over stores in that folder, which are closed
+/// then.
 fn pay_over<K: Keeper + Drop, S: Stores<K>>(
     alloc: Global,
     stores: &S,
@@ -128,7 +129,8 @@ fn open_often<K: Keeper + Drop, S: Stores<K>>(
     Ok(entries)
 }
 
-/// How many entries the first server has in all, where it is opened so many times over its store in that folder.
+/// How many entries the first server has in all, where it is opened so many times over its store in
+/// that folder.
 pub fn open_all(rt: &HostRuntime, folder: &str, count: u64) -> Result<u64, Fault> {
     open_often(rt.alloc(), &Files::new(*rt), folder, count)
 }

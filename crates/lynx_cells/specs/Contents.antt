@@ -14,12 +14,18 @@ pub record Contents : Type 0 where
 -- contents are stored as the pair of their fields
 abbrev pub contents_code : Coded Contents
 contents_code =
-    code_by (Database × set.FinSet cell_cmp) (coded× (map.code (coded× coded_ℕ coded_ℕ) coded_ℕ) (set.code (coded× coded_ℕ coded_ℕ)))
-    (λ contents. (contents.database, contents.staged)) (λ pair. record { database = pair.0; staged = pair.1 }) (λ _. refl)
+    code_by (Database × set.FinSet cell_cmp)
+    (coded× (map.code (coded× coded_ℕ coded_ℕ) coded_ℕ) (set.code (coded× coded_ℕ coded_ℕ)))
+    (λ contents. (contents.database, contents.staged))
+    (λ pair. record { database = pair.0; staged = pair.1 }) (λ _. refl)
 
 -- what slots hold: a slot that holds 0 is not seen in the database
 abbrev pub contents_of : List ((ℕ × ℕ) × ℕ) → Contents
-contents_of slots = record { database = applied (map.from_entries slots) empty_database; staged = set.from_list (keys_of slots) }
+contents_of slots =
+    record {
+      database = applied (map.from_entries slots) empty_database;
+      staged = set.from_list (keys_of slots);
+    }
 
 -- the changed cells
 abbrev pub changed : ChangeSet → set.FinSet cell_cmp
@@ -27,8 +33,10 @@ changed changes = set.from_list (map.keys changes)
 
 -- each changed cell has a slot
 abbrev pub IsStaged : Contents → ChangeSet → Type 0
-IsStaged contents changes = All (λ cell. IsTrue (set.contains contents.staged cell)) (map.keys changes)
+IsStaged contents changes =
+    All (λ cell. IsTrue (set.contains contents.staged cell)) (map.keys changes)
 
 -- each cell that had a slot has one
 abbrev pub KeepsStaged : Contents → Contents → Type 0
-KeepsStaged old new = (cell : ℕ × ℕ) → IsTrue (set.contains old.staged cell) → IsTrue (set.contains new.staged cell)
+KeepsStaged old new =
+    (cell : ℕ × ℕ) → IsTrue (set.contains old.staged cell) → IsTrue (set.contains new.staged cell)

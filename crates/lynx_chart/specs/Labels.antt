@@ -9,7 +9,7 @@ use Rattle.lynx_entry.specs.declared.entry.Entry.{Entry}
 use Rattle.lynx_entry.specs.declared.entry.Entry.TheVariants.{Begun, Refused, Hop}
 use Rattle.lynx_entry.specs.declared.request.Request.{Request}
 use Rattle.lynx_order.specs.declared.explained.Explained.{Explained}
-use Rattle.lynx_print.specs.Printed.{spaced, values_text}
+use Rattle.lynx_lines.specs.Printed.{spaced, values_text}
 use Rattle.lynx_chart.specs.Nodes.{node_text}
 use Rattle.lynx_chart.specs.Places.{place_colour, place_line, place_of, word_of}
 use Rattle.lynx_chart.specs.declared.node.Node.TheVariants.{Entry as EntryNode}
@@ -56,11 +56,13 @@ entry_place explained entry = option_and_then (place_of explained) (chain_in ent
 -- what it did, of which program, its results, and the place of its chain: a line each
 abbrev pub entry_label : Set → Explained → Entry → List ℕ
 entry_label set explained entry =
-    deed_text entry ++ stamp_text entry ++ program_text set entry ++ codes "\\l" ++ results_line entry
+    deed_text entry ++ stamp_text entry ++ program_text set entry ++ codes "\\l"
+    ++ results_line entry
     ++ place_line (word_of explained) (entry_place explained entry)
 
 -- the node of a server's entry
 abbrev pub entry_line : Set → Explained → ℕ → Entry → List ℕ
 entry_line set explained server entry =
-    codes "  " ++ node_text (EntryNode server (stamp_of entry)) ++ codes " [label=\"" ++ entry_label set explained entry
+    codes "  " ++ node_text (EntryNode server (stamp_of entry)) ++ codes " [label=\""
+    ++ entry_label set explained entry
     ++ codes "\", fillcolor=\"" ++ place_colour (entry_place explained entry) ++ codes "\"];\n"

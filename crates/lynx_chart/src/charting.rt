@@ -10,9 +10,9 @@ use crate::meeting::put_links;
 use crate::messages::sent_in;
 use crate::places::{chains_of, word_of};
 use lynx_entry::Outcome;
+use lynx_lines::push_chains;
 use lynx_names::Memory;
 use lynx_order::Explained;
-use lynx_print::push_chains;
 use lynx_world::World;
 use std::alloc::Global;
 
@@ -64,10 +64,10 @@ fn put_caption(alloc: Global, out: &mut Vec<u8>, explained: &Explained) -> Resul
     Ok(())
 }
 
-/// The chart of what the servers of a world did, as a text that Graphviz's `dot` reads: with the outcomes by which their
-/// messages fared, and an order or a cycle that explains them. Its cost grows with the square of the count of entries,
-/// as does that of laying it out: it is made for a run that a person can look at. The only error is that a growth was
-/// refused.
+/// The chart of what the servers of a world did, as a text that Graphviz's `dot` reads: with the
+/// outcomes by which their messages fared, and an order or a cycle that explains them. Its cost
+/// grows with the square of the count of entries, as does that of laying it out: it is made for a
+/// run that a person can look at. The only error is that a growth was refused.
 #[tactic(auto, using(crate::proofs::Links::cycle_met))]
 pub fn chart(
     alloc: Global,

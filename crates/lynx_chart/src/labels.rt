@@ -5,9 +5,9 @@ ghost use Rattle.lynx_chart.specs.Labels.{chain_in, deed_text, entry_label, entr
 use crate::node::{Node, put_node};
 use crate::places::{place_colour, place_of, put_place_line, word_of};
 use lynx_entry::{Entry, Request};
+use lynx_lines::{push_spaced, push_values};
 use lynx_names::{ChainId, Memory, ServerId};
 use lynx_order::Explained;
-use lynx_print::{push_spaced, push_values};
 use lynx_set::ChainSet;
 use std::alloc::Global;
 

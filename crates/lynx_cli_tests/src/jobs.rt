@@ -1,9 +1,10 @@
 //! Each job from sources in memory, with ample memory.
-use lynx_command::{Job, RunFlags, SampleFlags, command, job_of};
-use lynx_jobs::{check_source, draw_source, run_input, run_sources};
-use lynx_report::{CheckOptions, DrawOptions};
+use lynx_cli::{
+    Job, RunFlags, SampleFlags, check_source, command, draw_source, job_of, run_input, run_sources,
+};
 use lynx_fixtures::rows::PAYMENT;
 use lynx_fixtures::texts::{CROSSING, PAY_AND_NOTE};
+use lynx_report::{CheckOptions, DrawOptions};
 use std::alloc::Global;
 use std::test::Fail;
 
@@ -49,7 +50,8 @@ const BOTH: RunFlags = RunFlags {
     owed: true,
 };
 
-/// Whether the payment runs with these flags, and prints its lines, which are all: it owes nothing in the end.
+/// Whether the payment runs with these flags, and prints its lines, which are all: it owes nothing
+/// in the end.
 fn is_run(alloc: Global, flags: RunFlags) -> bool {
     let mut printed = Vec::new(alloc);
     let (mut set, mut script) = (PAYMENT.set.as_bytes(), PAYMENT.script.as_bytes());

@@ -1,9 +1,9 @@
 //! What is searched for holds: of random runs the search explains each by itself.
 use lynx_entry::{Event, Request};
-use lynx_names::{ChainId, ClientId, Memory, ServerId, Stamp, Values};
-use lynx_order::{Explained, explain, explain_by_search};
 use lynx_fixtures::made::{program, server};
 use lynx_fixtures::texts::read;
+use lynx_names::{ChainId, ClientId, Memory, ServerId, Stamp, Values};
+use lynx_order::{Explained, explain, explain_by_search};
 use lynx_world::{World, empty_keepers};
 use std::alloc::Global;
 

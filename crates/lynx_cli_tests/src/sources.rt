@@ -1,5 +1,5 @@
 //! Sources that are read whole: what the text cases cannot show.
-use lynx_input::{InputFault, read_all};
+use lynx_cli::{InputFault, read_all};
 use std::alloc::Global;
 use std::io;
 use std::io::Read;

@@ -1,11 +1,11 @@
 //! Writers that fail, at each line of a run and of a verdict, at a picture and at a chart.
+use lynx_fixtures::full::Full;
+use lynx_fixtures::rows::PAYMENT;
+use lynx_fixtures::texts::CROSSING;
 use lynx_report::{
     CheckOptions, DrawOptions, Ending, Finding, RunFault, RunOptions, chart_texts, check_text,
     draw_text, run_texts,
 };
-use lynx_fixtures::full::Full;
-use lynx_fixtures::rows::PAYMENT;
-use lynx_fixtures::texts::CROSSING;
 use std::alloc::Global;
 
 /// How a run ends where so many lines can be written, of six.

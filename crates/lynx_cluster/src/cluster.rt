@@ -9,8 +9,8 @@ ghost use Rattle.lynx_cluster.specs.Sessions.{told_by};
 
 use crate::gate::{Gate, Step};
 use crate::session::Session;
-use lynx_entry::{Answer, Entry, Request};
 use lynx_codec::Looked;
+use lynx_entry::{Answer, Entry, Request};
 use lynx_keep::Keeper;
 use lynx_names::{ChainId, Memory, ProgramId, ServerId};
 use lynx_server::Server;
@@ -24,8 +24,8 @@ use std::thread::JoinHandle;
 /// Sessions that one cluster makes, at most.
 pub const MAX_SESSIONS: u64 = 1_000_000;
 
-/// The servers of a set behind locks of their own, at which any thread may begin and look by a `&`. Contracts see the
-/// set, and how long each server's history was at the start.
+/// The servers of a set behind locks of their own, at which any thread may begin and look by a `&`.
+/// Contracts see the set, and how long each server's history was at the start.
 #[derive(Drop)]
 pub struct Front<K: Keeper, G: Gate> {
     pub(crate) set: ChainSet,
@@ -49,9 +49,9 @@ impl<K: Keeper, G: Gate> Model for Front<K, G> {
     } };
 }
 
-/// A running cluster: the servers behind their locks, and a worker thread for each. Other threads are lent its front.
-/// It can't be let go: [`Cluster::close`] is the one way to be rid of it, so that every worker is joined. Fallible work
-/// is done before the start or on the front.
+/// A running cluster: the servers behind their locks, and a worker thread for each. Other threads
+/// are lent its front. It can't be let go: [`Cluster::close`] is the one way to be rid of it, so
+/// that every worker is joined. Fallible work is done before the start or on the front.
 pub struct Cluster<K: Keeper, G: Gate> {
     pub(crate) front: Front<K, G>,
     pub(crate) stop: Arc<AtomicBool>,
@@ -66,7 +66,8 @@ impl<K: Keeper, G: Gate> Model for Cluster<K, G> {
     ghost view = { λ cluster. cluster.front };
 }
 
-/// The state is that of this server of this set: a walk over the set. Nothing else is known of a state behind a lock.
+/// The state is that of this server of this set: a walk over the set. Nothing else is known of a
+/// state behind a lock.
 pub(crate) fn is_of<K: Keeper>(state: &Server<K>, set: &ChainSet, server: ServerId) -> bool
     ensures { IsTrue result ↔ IsOf set.now server state.now }
 {
@@ -131,7 +132,8 @@ impl<K: Keeper, G: Gate> Front<K, G> {
         &self.set
     }
 
-    /// The server at which a request begins: the origin of its program, server 0 where the set hasn't the program.
+    /// The server at which a request begins: the origin of its program, server 0 where the set
+    /// hasn't the program.
     fn home_of(&self, request: &Request) -> ServerId
         ensures { result ≡ home_of self.now.set request.now }
     {
@@ -141,7 +143,8 @@ impl<K: Keeper, G: Gate> Front<K, G> {
         }
     }
 
-    /// A new session, which was told nothing. None once [`MAX_SESSIONS`] were made. Takes no memory.
+    /// A new session, which was told nothing. None once [`MAX_SESSIONS`] were made. Takes no
+    /// memory.
     pub fn session<R: Wait>(&self, rt: &R, alloc: Global) -> Option<Session>
         ensures { IfSome result (λ session. session.told ≡ []) }
     {
@@ -154,10 +157,11 @@ impl<K: Keeper, G: Gate> Front<K, G> {
         Some(Session::new(alloc, number))
     }
 
-    /// One begin at the origin of the request's program, under that server's lock. The session notes the answer where
-    /// it is Begun, Refused, Clash or Full, and the server takes as seen the greatest stamp that the session was told.
-    /// Stopped comes also where the lock has the state of another server. It costs a walk over the set, a copy of the
-    /// request, and [`Server::begin`]; all memory for the note is taken before the server is asked.
+    /// One begin at the origin of the request's program, under that server's lock. The session
+    /// notes the answer where it is Begun, Refused, Clash or Full, and the server takes as seen the
+    /// greatest stamp that the session was told. Stopped comes also where the lock has the state of
+    /// another server. It costs a walk over the set, a copy of the request, and [`Server::begin`];
+    /// all memory for the note is taken before the server is asked.
     pub fn begin<R: Wait>(
         &self,
         rt: &R,
@@ -187,8 +191,8 @@ impl<K: Keeper, G: Gate> Front<K, G> {
         answer
     }
 
-    /// The program of the chain, by its entry at its origin, whose lock is taken and given back. None where it hasn't
-    /// begun.
+    /// The program of the chain, by its entry at its origin, whose lock is taken and given back.
+    /// None where it hasn't begun.
     fn program_of<R: Wait>(&self, rt: &R, chain: &ChainId) -> Option<ProgramId> {
         let state = self.states.as_slice().get(chain.origin.index())?.lock(rt);
         if !is_of(&state, &self.set, chain.origin) {
@@ -200,9 +204,10 @@ impl<K: Keeper, G: Gate> Front<K, G> {
         }
     }
 
-    /// What there is of that hop of the chain. First the chain's program is read under the lock of its origin, then
-    /// the hop's entry under that of its server. Absent also where the chain hasn't begun or has no such hop. The
-    /// session notes what was found. It costs a walk over the set for each lock, and two copies of the results.
+    /// What there is of that hop of the chain. First the chain's program is read under the lock of
+    /// its origin, then the hop's entry under that of its server. Absent also where the chain
+    /// hasn't begun or has no such hop. The session notes what was found. It costs a walk over the
+    /// set for each lock, and two copies of the results.
     pub fn look<R: Wait>(
         &self,
         rt: &R,

@@ -3,10 +3,10 @@ use crate::keepers::empty;
 use crate::talk::{Asked, is_explained, talk};
 use crate::trouble::Trouble;
 use lynx_cluster::{Cluster, Front, Gate, Session, Step};
-use lynx_keep::Keeper;
-use lynx_names::{Memory, ServerId};
 use lynx_fixtures::parts::{AnswerParts, RequestParts};
 use lynx_fixtures::texts::{TRIP, set_of};
+use lynx_keep::Keeper;
+use lynx_names::{Memory, ServerId};
 use std::alloc::Global;
 use std::sync::atomic::{AtomicBool, Ordering};
 use std::sync::{Arc, Wait};
@@ -102,7 +102,8 @@ const BACK: &[Asked] = &[
     ),
 ];
 
-/// A session that asks while the first trip is away and when it is back, and whether it is told rightly.
+/// A session that asks while the first trip is away and when it is back, and whether it is told
+/// rightly.
 fn talked<R: Wait + Clock, K: Keeper, G: Gate>(
     rt: &R,
     alloc: Global,

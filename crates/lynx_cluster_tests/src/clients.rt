@@ -1,10 +1,10 @@
 //! Clients that ask whatever comes.
 use lynx_cluster::{Front, Gate, Session};
-use lynx_entry::{Answer, Request};
 use lynx_codec::Looked;
+use lynx_entry::{Answer, Request};
+use lynx_fixtures::made::{program, values};
 use lynx_keep::Keeper;
 use lynx_names::{ChainId, ClientId, Memory, Values};
-use lynx_fixtures::made::{program, values};
 use std::alloc::Global;
 use std::sync::Wait;
 use std::thread;
@@ -185,8 +185,8 @@ impl Client {
         }
     }
 
-    /// Looks at the hop until there is an entry, with a millisecond between two looks. How many more looks may be made
-    /// then; none where there is no entry.
+    /// Looks at the hop until there is an entry, with a millisecond between two looks. How many
+    /// more looks may be made then; none where there is no entry.
     fn await_hop<R: Wait + Clock, K: Keeper, G: Gate>(
         &mut self,
         rt: &R,
@@ -211,8 +211,8 @@ impl Client {
         0
     }
 
-    /// Waits until the last chain of each program came to its end, so many looks at most. By origin ordering all those
-    /// that it began before then have too.
+    /// Waits until the last chain of each program came to its end, so many looks at most. By origin
+    /// ordering all those that it began before then have too.
     pub fn await_ends<R: Wait + Clock, K: Keeper, G: Gate>(
         &mut self,
         rt: &R,

@@ -4,12 +4,12 @@ use crate::talk::{Asked, talked};
 use crate::texts::PUTS;
 use crate::trouble::Trouble;
 use lynx_cluster::{CloseFault, Cluster, Front, Gate, OpenGate, Session};
-use lynx_keep::{Keeper, MemoryKeeper, Planned};
-use lynx_names::{Memory, ServerId};
 use lynx_fixtures::made::{message, server};
 use lynx_fixtures::parts::{AnswerParts, RequestParts};
 use lynx_fixtures::payments::SENT;
 use lynx_fixtures::texts::{PAYMENT, set_of};
+use lynx_keep::{Keeper, MemoryKeeper, Planned};
+use lynx_names::{Memory, ServerId};
 use lynx_server::Server;
 use std::alloc::Global;
 use std::sync::Wait;
@@ -54,7 +54,8 @@ const PUTS_AT_A_STOP: &[Asked] = &[
     ),
 ];
 
-/// Whether a session over these keepers is told this, and why its cluster doesn't close. None where it does.
+/// Whether a session over these keepers is told this, and why its cluster doesn't close. None where
+/// it does.
 fn fault_after<
     R: Threads + Wait + Clock + Copy + Send + 'static,
     K: Keeper + Send + Drop + 'static,
@@ -150,7 +151,8 @@ fn a_session_that_is_kept_back_is_absent(rt: HostRuntime) -> Result<(), Fail> {
     Ok(())
 }
 
-/// A session of another cluster, which was told a begin, is handed in at one whose servers began nothing.
+/// A session of another cluster, which was told a begin, is handed in at one whose servers began
+/// nothing.
 fn fault_of_stranger<
     R: Threads + Wait + Clock + Copy + Send + 'static,
     K: Keeper + Send + Drop + 'static,

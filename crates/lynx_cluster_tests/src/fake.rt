@@ -1,9 +1,10 @@
-//! Servers that stand in for a worker's own: one owes messages to the other, and all is marked down.
+//! Servers that stand in for a worker's own: one owes messages to the other, and all is marked
+//! down.
 use lynx_cluster::{Arrived, Due, Owed, Receipt, Steps, Worker};
-use lynx_link::{Parcel, links};
-use lynx_names::{ChainId, Memory, ServerId};
 use lynx_fixtures::made::message;
 use lynx_fixtures::parts::MessageParts;
+use lynx_link::{Parcel, links};
+use lynx_names::{ChainId, Memory, ServerId};
 use std::alloc::Global;
 use std::collections::VecDeque;
 use std::sync::Wait;

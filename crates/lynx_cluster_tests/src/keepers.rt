@@ -1,10 +1,10 @@
 //! Keepers for tests.
 use crate::trouble::Trouble;
-use lynx_keep::{FaultKeeper, MemoryKeeper, Planned};
-use lynx_names::{Memory, ServerId, Stamp};
 use lynx_fixtures::made::request;
 use lynx_fixtures::parts::RequestParts;
 use lynx_fixtures::texts::set_of;
+use lynx_keep::{FaultKeeper, MemoryKeeper, Planned};
+use lynx_names::{Memory, ServerId, Stamp};
 use lynx_server::Server;
 use lynx_store::SqlKeeper;
 use sqlite::{Connection, MemStore};

@@ -1,4 +1,5 @@
-//! Tests of a running cluster: the worked sessions, two threads inside two servers at once, why a cluster doesn't start
+//! Tests of links and of a running cluster: full rings, the order of parcels and the rings of all
+//! pairs; the worked sessions, two threads inside two servers at once, why a cluster doesn't start
 //! or close, a worker over a server that stands in, and many begins.
 #![tactic(auto)]
 
@@ -13,11 +14,19 @@ mod crossing;
 #[cfg(test)]
 mod fake;
 #[cfg(test)]
+mod full;
+#[cfg(test)]
 mod keepers;
 #[cfg(test)]
 mod loads;
 #[cfg(test)]
 mod meetings;
+#[cfg(test)]
+mod pairs;
+#[cfg(test)]
+mod parcels;
+#[cfg(test)]
+mod rows;
 #[cfg(test)]
 mod sessions;
 #[cfg(test)]

@@ -4,11 +4,11 @@ use crate::keepers::{empty, failing};
 use crate::texts::PURSES;
 use crate::trouble::Trouble;
 use lynx_cluster::{CloseFault, Cluster, Front, Gate, OpenGate};
+use lynx_fixtures::made::server;
+use lynx_fixtures::texts::set_of;
 use lynx_keep::{Keeper, Planned};
 use lynx_names::{Memory, TableId};
 use lynx_order::{Explained, explain};
-use lynx_fixtures::made::server;
-use lynx_fixtures::texts::set_of;
 use lynx_world::World;
 use std::alloc::Global;
 use std::sync::Wait;
@@ -21,7 +21,8 @@ const THREADS: usize = 4;
 
 const SESSIONS: u32 = 16;
 
-/// How often each of the sessions begins, how often it looks at most, and how many chains must begin in all.
+/// How often each of the sessions begins, how often it looks at most, and how many chains must
+/// begin in all.
 #[derive(Clone, Copy)]
 struct Load {
     begins: u32,
@@ -93,7 +94,8 @@ fn sum(cells: &[(TableId, u64, u64)]) -> u64 {
     sum
 }
 
-/// Whether some order of all chains that began explains the world, and its cells hold what was paid in.
+/// Whether some order of all chains that began explains the world, and its cells hold what was paid
+/// in.
 fn is_whole(alloc: Global, world: &World, begun: u64, paid: u64) -> Result<bool, Memory> {
     let cells = world.cells(alloc)?;
     match explain(alloc, world)? {
@@ -104,8 +106,8 @@ fn is_whole(alloc: Global, world: &World, begun: u64, paid: u64) -> Result<bool,
     }
 }
 
-/// Whether all clients of a load are told Begun or Refused, Begun wherever a request can't be refused, and see their chains
-/// end, and the world is whole.
+/// Whether all clients of a load are told Begun or Refused, Begun wherever a request can't be
+/// refused, and see their chains end, and the world is whole.
 fn is_carried<
     R: Threads + Wait + Clock + Copy + Send + Sync + 'static,
     K: Keeper + Send + Drop + 'static,

@@ -5,12 +5,12 @@ use crate::talk::{Asked, is_explained, talk, talked};
 use crate::texts::{GO_AND_COME, PUTS};
 use crate::trouble::Trouble;
 use lynx_cluster::{Closed, Cluster, Front, Gate, Session, Step};
-use lynx_keep::{Keeper, MemoryKeeper};
-use lynx_names::Memory;
 use lynx_fixtures::cells::are_cells;
 use lynx_fixtures::made::server;
 use lynx_fixtures::parts::{AnswerParts, RequestParts};
 use lynx_fixtures::texts::set_of;
+use lynx_keep::{Keeper, MemoryKeeper};
+use lynx_names::Memory;
 use std::alloc::Global;
 use std::sync::Wait;
 use std::test::Fail;
@@ -89,7 +89,8 @@ fn both_begin<
     Ok((sessions, is_right))
 }
 
-/// Whether two begins are inside two servers at once, all is told rightly, and the cluster closes as it should.
+/// Whether two begins are inside two servers at once, all is told rightly, and the cluster closes
+/// as it should.
 fn begins_meet<
     R: Threads + Wait + Clock + Copy + Drop + Send + Sync + 'static,
     K: Keeper + Send + Drop + 'static,

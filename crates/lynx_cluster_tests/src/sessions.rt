@@ -4,10 +4,10 @@ use crate::talk::{Asked, Chain, is_explained, talked};
 use crate::texts::PUTS;
 use crate::trouble::Trouble;
 use lynx_cluster::{Cluster, OpenGate};
-use lynx_keep::Keeper;
-use lynx_names::Memory;
 use lynx_fixtures::parts::{AnswerParts, RequestParts};
 use lynx_fixtures::texts::{TRIP, set_of};
+use lynx_keep::Keeper;
+use lynx_names::Memory;
 use std::alloc::Global;
 use std::sync::Wait;
 use std::test::Fail;
@@ -136,7 +136,8 @@ const TRIPS: Row = Row {
     order: &[(0, 0), (0, 1)],
 };
 
-/// Whether a session over these keepers is told all rightly, and the cluster closes with that order.
+/// Whether a session over these keepers is told all rightly, and the cluster closes with that
+/// order.
 fn is_met<
     R: Threads + Wait + Clock + Copy + Send + Sync + 'static,
     K: Keeper + Send + Drop + 'static,

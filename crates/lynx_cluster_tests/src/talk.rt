@@ -2,11 +2,11 @@
 use crate::trouble::Trouble;
 use lynx_cluster::{Front, Gate, Session};
 use lynx_codec::Looked;
+use lynx_fixtures::made::{answer, chain, request, stamp, values};
+use lynx_fixtures::parts::{AnswerParts, RequestParts};
 use lynx_keep::Keeper;
 use lynx_names::{ChainId, Memory};
 use lynx_order::{Explained, explain};
-use lynx_fixtures::made::{answer, chain, request, stamp, values};
-use lynx_fixtures::parts::{AnswerParts, RequestParts};
 use lynx_world::World;
 use std::alloc::Global;
 use std::sync::Wait;

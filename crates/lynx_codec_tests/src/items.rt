@@ -1,8 +1,8 @@
 //! Items by their parts.
 use lynx_codec::{Item, Look, Looked};
-use lynx_names::Memory;
 use lynx_fixtures::made::{answer, boxed, chain, entry, message, request, stamp, values};
 use lynx_fixtures::parts::{AnswerParts, EntryParts, MessageParts, RequestParts};
+use lynx_names::Memory;
 use std::alloc::Global;
 
 #[derive(Clone, Copy)]

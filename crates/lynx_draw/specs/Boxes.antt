@@ -1,12 +1,13 @@
--- Large groups of programs of one origin: they stand in a box, and the conflicts among them are counted in its label.
+-- Large groups of programs of one origin: they stand in a box, and the conflicts among them are
+-- counted in its label.
 use Rattle.std.specs.Prelude.{Bool, false, ◌&&◌, ◌==◌, nat_lt, ℕ, ◌-◌, List, [], ◌++◌, length, codes, decimal, drop, filter}
 use Rattle.std.specs.List.{flat_map, list_any, zip}
 use Rattle.std.specs.Option.{option_map_or}
 use Rattle.lynx_set.specs.Set.{Set}
 use Rattle.lynx_set.specs.Lookups.{hops_of, origin_of, program_name}
-use Rattle.lynx_groups.specs.declared.edges.Edge.{Edge}
-use Rattle.lynx_groups.specs.declared.members.Member.{Member}
-use Rattle.lynx_groups.specs.Groups.{begin_at_one_server, group_of, leader_of, leaders_of}
+use Rattle.lynx_graph.specs.declared.edges.Edge.{Edge}
+use Rattle.lynx_graph.specs.declared.members.Member.{Member}
+use Rattle.lynx_graph.specs.Groups.{begin_at_one_server, group_of, leader_of, leaders_of}
 use Rattle.lynx_draw.specs.declared.boxes.Boxes.{Boxes}
 use Rattle.lynx_draw.specs.declared.boxes.TheConstants.{BEGIN, BOX, LABEL, MAX_LINED, PAIRS, ROW, UNSEEN}
 use Rattle.lynx_draw.specs.Clusters.{cluster_text}
@@ -14,27 +15,34 @@ use Rattle.lynx_draw.specs.Nodes.{spot_at}
 use Rattle.lynx_draw.specs.Spots.{spot_text}
 use Rattle.lynx_draw.specs.declared.spot.Spot.{Spot}
 
--- whether the program leads a group of more programs than lines are drawn for, which all begin at one server
+-- whether the program leads a group of more programs than lines are drawn for, which all begin at
+-- one server
 abbrev pub is_large : Set → List Member → ℕ → Bool
-is_large set members leader = nat_lt MAX_LINED (length (group_of members leader)) && begin_at_one_server set leader (group_of members leader)
+is_large set members leader =
+    nat_lt MAX_LINED (length (group_of members leader)) && begin_at_one_server set leader
+    (group_of members leader)
 
 -- these programs with their leaders, and the leaders of the large groups
 abbrev pub boxes_of : Set → List Member → Boxes
-boxes_of set members = record { members = members; leaders = filter (is_large set members) (leaders_of members) }
+boxes_of set members =
+    record { members = members; leaders = filter (is_large set members) (leaders_of members) }
 
 -- whether a program is of a large group
 abbrev pub is_boxed : Boxes → ℕ → Bool
-is_boxed boxes program = list_any (λ leader. leader == leader_of boxes.members program) boxes.leaders
+is_boxed boxes program =
+    list_any (λ leader. leader == leader_of boxes.members program) boxes.leaders
 
 -- the edges of the group that the program leads
 abbrev pub edges_in : Boxes → List Edge → ℕ → List Edge
-edges_in boxes edges leader = filter (λ edge. leader_of boxes.members edge.left.program == leader) edges
+edges_in boxes edges leader =
+    filter (λ edge. leader_of boxes.members edge.left.program == leader) edges
 
 -- where all its programs begin
 abbrev pub origin_text : Set → ℕ → List ℕ
 origin_text set leader = option_map_or decimal (origin_of set leader) []
 
--- how many programs stand in the box, where they begin, and how many pairs of their hops may conflict
+-- how many programs stand in the box, where they begin, and how many pairs of their hops may
+-- conflict
 abbrev pub box_label : Set → Boxes → List Edge → ℕ → ℕ → List ℕ
 box_label set boxes edges leader programs =
     decimal programs ++ BEGIN.now ++ origin_text set leader ++ codes ": "
@@ -42,7 +50,8 @@ box_label set boxes edges leader programs =
 
 abbrev pub box_head : Set → Boxes → List Edge → ℕ → ℕ → List ℕ
 box_head set boxes edges leader programs =
-    BOX.now ++ program_name set leader ++ LABEL.now ++ box_label set boxes edges leader programs ++ codes "\";\n"
+    BOX.now ++ program_name set leader ++ LABEL.now ++ box_label set boxes edges leader programs
+    ++ codes "\";\n"
 
 -- the programs of a box, each once
 abbrev pub boxed_programs : Set → List ℕ → List ℕ
@@ -52,10 +61,12 @@ boxed_programs set programs = flat_map (λ program. cluster_text set program fal
 abbrev pub last_spot : Set → ℕ → Spot
 last_spot set program = spot_at program (length (hops_of set program) - 1) false
 
--- one program of a box below another: no arrow is seen from its last hop to the first one of the other
+-- one program of a box below another: no arrow is seen from its last hop to the first one of the
+-- other
 abbrev pub below_line : Set → ℕ × ℕ → List ℕ
 below_line set pair =
-    codes "    " ++ spot_text set (last_spot set pair.0) ++ codes " -> " ++ spot_text set (spot_at pair.1 0 false) ++ UNSEEN.now
+    codes "    " ++ spot_text set (last_spot set pair.0) ++ codes " -> "
+    ++ spot_text set (spot_at pair.1 0 false) ++ UNSEEN.now
 
 -- each program with the one that stands a row below it
 abbrev pub rows_of : List ℕ → List (ℕ × ℕ)
@@ -67,5 +78,6 @@ rows_text set programs = flat_map (below_line set) (rows_of programs)
 -- the box of the group that the program leads
 abbrev pub box_text : Set → Boxes → List Edge → ℕ → List ℕ
 box_text set boxes edges leader =
-    box_head set boxes edges leader (length (group_of boxes.members leader)) ++ boxed_programs set (group_of boxes.members leader)
+    box_head set boxes edges leader (length (group_of boxes.members leader))
+    ++ boxed_programs set (group_of boxes.members leader)
     ++ rows_text set (group_of boxes.members leader) ++ codes "  }\n"

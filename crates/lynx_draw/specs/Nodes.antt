@@ -13,16 +13,20 @@ use Rattle.lynx_draw.specs.Colours.{colour_at}
 
 -- the line of an action, which binds the name at that place if it binds one
 abbrev pub action_text : List (List ℕ) → List (List ℕ) → ℕ → Action → List ℕ
-action_text tables names place action = joined (action_words tables names place action) ++ codes "\\l"
+action_text tables names place action =
+    joined (action_words tables names place action) ++ codes "\\l"
 
 -- the lines of actions, the first of which binds the name at that place if it binds one
 abbrev pub actions_text : List (List ℕ) → List (List ℕ) → ℕ → List Action → List ℕ
 actions_text tables names place [] = []
-actions_text tables names place (action ∷ actions) = action_text tables names place action ++ actions_text tables names (place + bound_names action) actions
+actions_text tables names place (action ∷ actions) =
+    action_text tables names place action
+    ++ actions_text tables names (place + bound_names action) actions
 
 -- which hop it is, and where
 abbrev pub hop_label : ℕ → ℕ → List ℕ
-hop_label number server = codes "hop " ++ decimal number ++ codes " at server " ++ decimal server ++ codes "\\n"
+hop_label number server =
+    codes "hop " ++ decimal number ++ codes " at server " ++ decimal server ++ codes "\\n"
 
 -- a node's name, and where its label begins
 abbrev pub node_head : Set → Spot → List ℕ
@@ -35,19 +39,26 @@ node_end server = codes "\", fillcolor=\"" ++ colour_at server ++ codes "\"];\n"
 -- the node of a hop: what it is, its actions, and its server's colour
 abbrev pub node_line : Set → List (List ℕ) → ℕ → Spot → Hop → List ℕ
 node_line set names place spot hop =
-    node_head set spot ++ hop_label spot.place.hop hop.server ++ actions_text set.tables names place hop.actions ++ node_end hop.server
+    node_head set spot ++ hop_label spot.place.hop hop.server
+    ++ actions_text set.tables names place hop.actions ++ node_end hop.server
 
 -- the hop before
 abbrev pub spot_before : Spot → Spot
-spot_before spot = record { place = record { program = spot.place.program; hop = spot.place.hop - 1 }; again = spot.again }
+spot_before spot =
+    record {
+      place = record { program = spot.place.program; hop = spot.place.hop - 1 };
+      again = spot.again;
+    }
 
 -- the arrow to a hop from the one before it, if there is one
 abbrev pub arrow_text : Set → Spot → List ℕ
 arrow_text set spot =
-    if spot.place.hop == 0 then [] else codes "    " ++ spot_text set (spot_before spot) ++ codes " -> " ++ spot_text set spot ++ codes ";\n"
+    if spot.place.hop == 0 then [] else codes "    " ++ spot_text set (spot_before spot)
+    ++ codes " -> " ++ spot_text set spot ++ codes ";\n"
 
 abbrev pub spot_at : ℕ → ℕ → Bool → Spot
-spot_at program number again = record { place = record { program = program; hop = number }; again = again }
+spot_at program number again =
+    record { place = record { program = program; hop = number }; again = again }
 
 -- the node of a hop, and the arrow to it
 abbrev pub hop_text : Set → List (List ℕ) → ℕ → Spot → Hop → List ℕ
@@ -57,8 +68,11 @@ hop_text set names place spot hop = node_line set names place spot hop ++ arrow_
 abbrev pub hops_text : Set → List (List ℕ) → ℕ → Bool → ℕ → ℕ → List Hop → List ℕ
 hops_text set names program again place number [] = []
 hops_text set names program again place number (hop ∷ hops) =
-    hop_text set names place (spot_at program number again) hop ++ hops_text set names program again (place + bound_in hop.actions) (number + 1) hops
+    hop_text set names place (spot_at program number again) hop
+    ++ hops_text set names program again (place + bound_in hop.actions) (number + 1) hops
 
 -- the hops of a program
 abbrev pub drawn_hops : Set → ℕ → Bool → List ℕ
-drawn_hops set program again = option_map_or (λ found. hops_text set found.names program again found.parameters 0 found.hops) (program_at set program) []
+drawn_hops set program again =
+    option_map_or (λ found. hops_text set found.names program again found.parameters 0 found.hops)
+    (program_at set program) []

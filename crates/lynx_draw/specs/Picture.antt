@@ -5,11 +5,11 @@ use Rattle.lynx_check.specs.declared.verdict.Verdict.{Verdict}
 use Rattle.lynx_graph.specs.declared.visit.Visit.{Visit}
 use Rattle.lynx_check.specs.declared.verdict.Verdict.TheVariants.{Accepted, Offending}
 use Rattle.lynx_draw.specs.declared.picture.TheConstants.{HEAD, ACCEPTED, EXCUSED, OFFENDING, LEGEND, CONFLICTS, EXCUSED_STEPS, STEPS}
-use Rattle.lynx_groups.specs.declared.edges.Edge.{Edge}
+use Rattle.lynx_graph.specs.declared.edges.Edge.{Edge}
 use Rattle.lynx_draw.specs.declared.steps.Step.{Step}
-use Rattle.lynx_groups.specs.Edges.{edges_of}
-use Rattle.lynx_groups.specs.Together.{AreLed}
-use Rattle.lynx_groups.specs.declared.members.Member.{Member}
+use Rattle.lynx_graph.specs.Edges.{edges_of}
+use Rattle.lynx_graph.specs.Together.{AreLed}
+use Rattle.lynx_graph.specs.declared.members.Member.{Member}
 use Rattle.lynx_draw.specs.Steps.{steps_of}
 use Rattle.lynx_draw.specs.Shown.{shown_edges, shown_programs, walk_in}
 use Rattle.lynx_draw.specs.declared.shown.Shown.{Shown}
@@ -44,14 +44,18 @@ style_of (Offending walk blocks) = STEPS.now
 -- the programs, the conflicts by which no step goes, and the steps
 abbrev pub picture_with : Shown → Set → Verdict → Boxes → List Edge → List Step → List ℕ
 picture_with shown set verdict boxes edges steps =
-    HEAD.now ++ caption verdict ++ LEGEND.now ++ programs_text set boxes edges (shown_programs shown set verdict)
+    HEAD.now ++ caption verdict ++ LEGEND.now
+    ++ programs_text set boxes edges (shown_programs shown set verdict)
     ++ CONFLICTS.now ++ conflict_lines set steps (shown_edges shown verdict boxes edges)
     ++ style_of verdict ++ step_lines set 1 steps ++ codes "}\n"
 
 -- the same where programs have these leaders
 abbrev pub picture_of : Shown → Set → Verdict → List Member → List ℕ
-picture_of shown set verdict members = picture_with shown set verdict (boxes_of set members) (edges_of set) (steps_in (edges_of set) verdict)
+picture_of shown set verdict members =
+    picture_with shown set verdict (boxes_of set members) (edges_of set)
+    (steps_in (edges_of set) verdict)
 
 -- the picture of a set and of a verdict: each program's leader is the least of its group
 abbrev pub IsPicture : Shown → Set → Verdict → List ℕ → Type 0
-IsPicture shown set verdict text = (members : List Member) × AreLed set members × (text ≡ picture_of shown set verdict members)
+IsPicture shown set verdict text =
+    (members : List Member) × AreLed set members × (text ≡ picture_of shown set verdict members)

@@ -2,8 +2,8 @@
 use Rattle.std.specs.Prelude.{false, true, ◌==◌, ℕ, List, [], ◌++◌, if◌then◌else◌}
 use Rattle.std.specs.List.{flat_map}
 use Rattle.lynx_set.specs.Set.{Set}
-use Rattle.lynx_groups.specs.declared.edges.Edge.{Edge}
-use Rattle.lynx_groups.specs.Groups.{leader_of}
+use Rattle.lynx_graph.specs.declared.edges.Edge.{Edge}
+use Rattle.lynx_graph.specs.Groups.{leader_of}
 use Rattle.lynx_draw.specs.declared.boxes.Boxes.{Boxes}
 use Rattle.lynx_draw.specs.Boxes.{box_text, is_boxed}
 use Rattle.lynx_draw.specs.Clusters.{cluster_text}
@@ -11,13 +11,16 @@ use Rattle.lynx_draw.specs.Spots.{is_drawn_twice}
 
 -- a program, and once more where it is drawn twice
 abbrev pub program_text : Set → List Edge → ℕ → List ℕ
-program_text set edges program = cluster_text set program false ++ (if is_drawn_twice edges program then cluster_text set program true else [])
+program_text set edges program =
+    cluster_text set program false
+    ++ (if is_drawn_twice edges program then cluster_text set program true else [])
 
 -- the program that leads a large group stands for its box, and the others of the group for nothing
 abbrev pub drawn_text : Set → Boxes → List Edge → ℕ → List ℕ
 drawn_text set boxes edges program =
     if is_boxed boxes program
-    then (if leader_of boxes.members program == program then box_text set boxes edges program else [])
+    then (if leader_of boxes.members program == program then box_text set boxes edges program
+    else [])
     else program_text set edges program
 
 -- these programs

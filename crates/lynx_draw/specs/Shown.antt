@@ -5,7 +5,7 @@ use Rattle.lynx_set.specs.Set.{Set}
 use Rattle.lynx_graph.specs.declared.visit.Visit.{Visit}
 use Rattle.lynx_check.specs.declared.verdict.Verdict.{Verdict}
 use Rattle.lynx_check.specs.declared.verdict.Verdict.TheVariants.{Accepted, Offending}
-use Rattle.lynx_groups.specs.declared.edges.Edge.{Edge}
+use Rattle.lynx_graph.specs.declared.edges.Edge.{Edge}
 use Rattle.lynx_draw.specs.declared.shown.Shown.{Shown}
 use Rattle.lynx_draw.specs.declared.shown.Shown.TheVariants.{All, Walk}
 use Rattle.lynx_draw.specs.declared.boxes.Boxes.{Boxes}
@@ -24,12 +24,14 @@ shows Walk verdict program = visits (walk_in verdict) program
 
 -- the programs that are drawn, in the order of the set
 abbrev pub shown_programs : Shown → Set → Verdict → List ℕ
-shown_programs shown set verdict = filter (shows shown verdict) (range_with_len 0 (length set.programs))
+shown_programs shown set verdict =
+    filter (shows shown verdict) (range_with_len 0 (length set.programs))
 
 -- whether both ends of an edge are drawn, and it isn't within a box: both ends are of one group
 abbrev pub shows_edge : Shown → Verdict → Boxes → Edge → Bool
 shows_edge shown verdict boxes edge =
-    shows shown verdict edge.left.program && shows shown verdict edge.right.program && not (is_boxed boxes edge.left.program)
+    shows shown verdict edge.left.program && shows shown verdict edge.right.program && not
+    (is_boxed boxes edge.left.program)
 
 -- the edges that are drawn
 abbrev pub shown_edges : Shown → Verdict → Boxes → List Edge → List Edge

@@ -2,7 +2,7 @@
 use Rattle.std.specs.Prelude.{Bool, false, not, ◌&&◌, ◌||◌, ◌==◌, ℕ, List, [], ◌∷◌, ◌++◌, if◌then◌else◌}
 use Rattle.std.specs.List.{list_any}
 use Rattle.lynx_graph.specs.declared.visit.Visit.{Visit}
-use Rattle.lynx_groups.specs.declared.edges.Edge.{Edge}
+use Rattle.lynx_graph.specs.declared.edges.Edge.{Edge}
 use Rattle.lynx_draw.specs.declared.spot.Spot.{Spot}
 use Rattle.lynx_draw.specs.declared.steps.Stay.{Stay}
 use Rattle.lynx_draw.specs.declared.steps.Step.{Step}
@@ -21,21 +21,30 @@ is_again edges before visit = is_drawn_twice edges visit.program && visits befor
 -- where a visit is entered and left, as it is drawn
 abbrev pub stay_of : List Edge → List Visit → Visit → Stay
 stay_of edges before visit = record {
-  entered = record { place = record { program = visit.program; hop = visit.entered }; again = is_again edges before visit };
-  left = record { place = record { program = visit.program; hop = visit.left }; again = is_again edges before visit };
+  entered = record {
+    place = record { program = visit.program; hop = visit.entered };
+    again = is_again edges before visit;
+  };
+  left = record {
+    place = record { program = visit.program; hop = visit.left };
+    again = is_again edges before visit;
+  };
 }
 
 -- the visits of a walk as they are drawn, after these
 abbrev pub stays_after : List Edge → List Visit → List Visit → List Stay
 stays_after edges before [] = []
-stays_after edges before (visit ∷ walk) = stay_of edges before visit ∷ stays_after edges (before ++ visit ∷ []) walk
+stays_after edges before (visit ∷ walk) =
+    stay_of edges before visit ∷ stays_after edges (before ++ visit ∷ []) walk
 
 abbrev pub stays_of : List Edge → List Visit → List Stay
 stays_of edges walk = stays_after edges [] walk
 
 -- the step within a visit, where it is left by another hop than it is entered at
 abbrev pub inside : Stay → List Step
-inside stay = if not (stay.entered.place.hop == stay.left.place.hop) then record { from = stay.entered; to = stay.left; way = Chain } ∷ [] else []
+inside stay =
+    if not (stay.entered.place.hop == stay.left.place.hop)
+    then record { from = stay.entered; to = stay.left; way = Chain } ∷ [] else []
 
 -- the step to the next visit, and the one within it
 abbrev pub steps_to : Stay → Stay → List Step
@@ -56,7 +65,9 @@ steps_of edges walk = steps_between (stays_of edges walk)
 
 -- whether two spots are one
 abbrev pub same_spot : Spot → Spot → Bool
-same_spot left right = left.place.program == right.place.program && left.place.hop == right.place.hop && (if left.again then right.again else not right.again)
+same_spot left right =
+    left.place.program == right.place.program && left.place.hop == right.place.hop &&
+    (if left.again then right.again else not right.again)
 
 -- whether a step is from the one to the other
 abbrev pub joins : Step → Spot → Spot → Bool

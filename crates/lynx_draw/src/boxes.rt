@@ -1,14 +1,15 @@
-//! Large groups of programs of one origin: they stand in a box, and the conflicts among them are counted in its label.
+//! Large groups of programs of one origin: they stand in a box, and the conflicts among them are
+//! counted in its label.
 
 ghost use Rattle.std.specs.Prelude.{◌≡◌, ◌++◌, IfOk, OnOk, filter, length};
 ghost use Rattle.std.specs.List.{flat_map, list_any};
-ghost use Rattle.lynx_groups.specs.Groups.{leader_of};
+ghost use Rattle.lynx_graph.specs.Groups.{leader_of};
 ghost use Rattle.lynx_draw.specs.Boxes.{below_line, box_head, box_label, box_text, boxed_programs, boxes_of, edges_in, is_boxed, is_large, last_spot, origin_text, rows_of};
 
 use crate::clusters::put_cluster;
 use crate::nodes::spot_at;
 use crate::spot::{Spot, put_spot};
-use lynx_groups::{Edge, Member, begin_at_one_server, group_of, leader_of, leaders_of};
+use lynx_graph::{Edge, Member, begin_at_one_server, group_of, leader_of, leaders_of};
 use lynx_names::{Items, Memory, ProgramId};
 use lynx_set::ChainSet;
 use lynx_text::printing::put_number;
@@ -220,7 +221,8 @@ fn put_rows(
     set: &ChainSet,
     rows: &[(ProgramId, ProgramId)],
 ) -> Result<(), Memory>
-    ensures { OnOk result (out.new.items ≡ out.old.items ++ flat_map (below_line set.now) rows.now) }
+    ensures { OnOk result
+        (out.new.items ≡ out.old.items ++ flat_map (below_line set.now) rows.now) }
 {
     for pair in rows {
         put_below(alloc, out, set, pair)?;

@@ -7,10 +7,10 @@ ghost use Rattle.lynx_draw.specs.Clusters.{cluster_label, cluster_name, cluster_
 
 use crate::nodes::put_hops;
 use lynx_graph::program_of;
+use lynx_lex::Name;
 use lynx_names::{Memory, ProgramId};
 use lynx_set::{ChainSet, Interval, ParameterRange, range_of};
 use lynx_text::printing::{put_interval, put_word};
-use lynx_lex::Name;
 use std::alloc::Global;
 
 fn put_range(alloc: Global, out: &mut Vec<u8>, range: Option<Interval>) -> Result<(), Memory>

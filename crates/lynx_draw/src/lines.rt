@@ -8,8 +8,7 @@ ghost use Rattle.lynx_draw.specs.Lines.{arrow, conflict_line, conflict_lines, me
 use crate::spot::{Spot, left_spot, put_spot, right_spot};
 use crate::steps::{Step, Way, is_walked};
 use crate::tables::put_listed;
-use lynx_graph::Place;
-use lynx_groups::{Edge, tables_met};
+use lynx_graph::{Edge, Place, tables_met};
 use lynx_names::Memory;
 use lynx_set::ChainSet;
 use lynx_text::printing::put_number;

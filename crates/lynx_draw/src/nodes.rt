@@ -8,10 +8,10 @@ ghost use Rattle.lynx_draw.specs.Nodes.{action_text, actions_text, arrow_text, d
 use crate::colours::colour_at;
 use crate::spot::{Spot, put_spot};
 use lynx_graph::Place;
+use lynx_lex::Name;
 use lynx_names::{Memory, ProgramId, ServerId};
 use lynx_set::{Action, ChainSet, Hop};
 use lynx_text::printing::{bound_names, put_action_words, put_number};
-use lynx_lex::Name;
 use std::alloc::Global;
 
 /// Writes an action on a line of its own, as the set's text has it.
@@ -31,7 +31,8 @@ fn put_action(
     Ok(())
 }
 
-/// Writes the actions, the first binding one of which binds the name at that place, and answers the next place.
+/// Writes the actions, the first binding one of which binds the name at that place, and answers the
+/// next place.
 fn put_actions(
     alloc: Global,
     out: &mut Vec<u8>,
@@ -95,7 +96,8 @@ fn put_node_end(out: &mut Vec<u8>, server: ServerId) -> Result<(), Memory>
     Ok(())
 }
 
-/// Writes the node of a hop, whose first binding action binds the name at that place, and answers the next place.
+/// Writes the node of a hop, whose first binding action binds the name at that place, and answers
+/// the next place.
 fn put_node(
     alloc: Global,
     out: &mut Vec<u8>,
@@ -141,7 +143,8 @@ fn put_arrow(alloc: Global, out: &mut Vec<u8>, set: &ChainSet, spot: &Spot) -> R
     Ok(())
 }
 
-/// Writes the node of a hop and the arrow to it, and answers the place of the next name that is bound.
+/// Writes the node of a hop and the arrow to it, and answers the place of the next name that is
+/// bound.
 fn put_hop(
     alloc: Global,
     out: &mut Vec<u8>,

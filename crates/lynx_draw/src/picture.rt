@@ -1,8 +1,8 @@
 //! The whole picture.
 
 ghost use Rattle.std.specs.Prelude.{◌≡◌, ◌++◌, IfOk, OnOk};
-ghost use Rattle.lynx_groups.specs.Edges.{edges_of};
-ghost use Rattle.lynx_groups.specs.Together.{AreLed};
+ghost use Rattle.lynx_graph.specs.Edges.{edges_of};
+ghost use Rattle.lynx_graph.specs.Together.{AreLed};
 ghost use Rattle.lynx_draw.specs.Boxes.{boxes_of};
 ghost use Rattle.lynx_draw.specs.Lines.{conflict_lines};
 ghost use Rattle.lynx_draw.specs.Picture.{IsPicture, caption, picture_with, steps_in, style_of};
@@ -14,10 +14,10 @@ use crate::lines::{put_conflicts, put_steps};
 use crate::programs::put_programs;
 use crate::shown::{Shown, shown_edges, shown_programs, walk_in};
 use crate::steps::{Step, steps_of};
-use lynx_groups::{Edge, conflict_edges, members_of};
+use lynx_check::Verdict;
+use lynx_graph::{Edge, conflict_edges, members_of};
 use lynx_names::{Items, Memory};
 use lynx_set::ChainSet;
-use lynx_check::Verdict;
 use std::alloc::Global;
 
 /// How all of it is drawn.
@@ -89,7 +89,8 @@ fn put_shown_programs(
     shown: Shown,
     edges: &[Edge],
 ) -> Result<(), Memory>
-    ensures { OnOk result (out.new.items ≡ out.old.items ++ programs_text set.now boxes.now edges.now
+    ensures { OnOk result
+        (out.new.items ≡ out.old.items ++ programs_text set.now boxes.now edges.now
         (shown_programs shown set.now verdict.now)) }
 {
     let programs = shown_programs(alloc, set, verdict, shown)?;
@@ -124,8 +125,9 @@ fn boxes_in(alloc: Global, set: &ChainSet, edges: &[Edge]) -> Result<Boxes, Memo
     boxes_of(alloc, set, Items::from_vec(members))
 }
 
-/// The picture of a set and of the verdict on it, as a text that Graphviz's `dot` reads, with the programs that are to be
-/// shown. Its length grows with the square of the count of hops. The only error is that a growth was refused.
+/// The picture of a set and of the verdict on it, as a text that Graphviz's `dot` reads, with the
+/// programs that are to be shown. Its length grows with the square of the count of hops. The only
+/// error is that a growth was refused.
 pub fn draw(
     alloc: Global,
     set: &ChainSet,

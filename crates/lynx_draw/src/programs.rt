@@ -7,7 +7,7 @@ ghost use Rattle.lynx_draw.specs.Programs.{drawn_text, program_text, programs_te
 use crate::boxes::{Boxes, is_boxed, put_box};
 use crate::clusters::put_cluster;
 use crate::spot::is_drawn_twice;
-use lynx_groups::{Edge, leader_of};
+use lynx_graph::{Edge, leader_of};
 use lynx_names::{Memory, ProgramId};
 use lynx_set::ChainSet;
 use std::alloc::Global;
@@ -30,7 +30,8 @@ fn put_program(
     Ok(())
 }
 
-/// Writes a program. One that leads a large group stands for its box, and the others of the group for nothing.
+/// Writes a program. One that leads a large group stands for its box, and the others of the group
+/// for nothing.
 fn put_drawn(
     alloc: Global,
     out: &mut Vec<u8>,

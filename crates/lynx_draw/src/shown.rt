@@ -4,11 +4,10 @@ ghost use Rattle.lynx_draw.specs.Shown.{shown_edges, shown_programs, shows, show
 
 use crate::boxes::{Boxes, is_boxed};
 use crate::steps::visits;
-use lynx_graph::{Visit, program_of};
-use lynx_groups::Edge;
+use lynx_check::Verdict;
+use lynx_graph::{Edge, Visit, program_of};
 use lynx_names::{Memory, ProgramId};
 use lynx_set::ChainSet;
-use lynx_check::Verdict;
 use std::alloc::Global;
 
 /// Which programs of a set are drawn.
@@ -16,7 +15,8 @@ use std::alloc::Global;
 pub enum Shown {
     /// All of them.
     All,
-    /// Those alone that the closed walk visits which offends, excused or not: none where no walk does.
+    /// Those alone that the closed walk visits which offends, excused or not: none where no walk
+    /// does.
     Walk,
 }
 

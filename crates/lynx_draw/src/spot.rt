@@ -1,10 +1,10 @@
-//! Hops as they are drawn. A program of which two chains may conflict with one another is drawn twice.
+//! Hops as they are drawn. A program of which two chains may conflict with one another is drawn
+//! twice.
 
 ghost use Rattle.std.specs.Prelude.{◌≡◌, ◌++◌, OnOk};
 ghost use Rattle.lynx_draw.specs.Spots.{is_drawn_twice, left_spot, right_spot, spot_text, spot_word};
 
-use lynx_graph::Place;
-use lynx_groups::Edge;
+use lynx_graph::{Edge, Place};
 use lynx_names::{Memory, ProgramId};
 use lynx_set::ChainSet;
 use lynx_text::printing::{put_number, put_word};

@@ -4,8 +4,7 @@ ghost use Rattle.std.specs.Prelude.{◌≡◌, ◌++◌, IfOk, OnOk};
 ghost use Rattle.lynx_draw.specs.Steps.{is_again, is_along, is_walked, joins, stay_of, stays_of, steps_around, steps_of, steps_to, same_spot, visits};
 
 use crate::spot::{Spot, is_drawn_twice, left_spot, right_spot};
-use lynx_graph::{Place, Visit};
-use lynx_groups::Edge;
+use lynx_graph::{Edge, Place, Visit};
 use lynx_names::{Items, Memory, ProgramId};
 use std::alloc::Global;
 
@@ -74,7 +73,8 @@ fn stays_of(alloc: Global, edges: &[Edge], walk: &[Visit]) -> Result<Items<Stay>
     Ok(stays)
 }
 
-/// Adds the step to the next visit, and the one within it where it is left by another hop than it is entered at.
+/// Adds the step to the next visit, and the one within it where it is left by another hop than it
+/// is entered at.
 fn add_steps(steps: &mut Items<Step>, stay: &Stay, next: &Stay) -> Result<(), Memory>
     ensures { OnOk result (steps.new ≡ steps.old ++ steps_to stay.now next.now) }
 {

@@ -3,4 +3,8 @@ pub mod Tests
 pub mod Nodes
 pub mod Blocks
 pub mod Acceptance
+pub mod Edges
+pub mod Tables
+pub mod Together
+pub mod Groups
 pub mod inner

@@ -2,16 +2,16 @@
 use crate::small::small_set;
 use crate::verdicts::CHAINED;
 use crate::walks::{given, judged};
-use lynx_graph::{Block, BlockWalk, blocks_hold};
-use lynx_names::{Memory, ProgramId};
+use lynx_check::{Reason, Verdict, search_walk};
 use lynx_fixtures::texts::{
     CROSSING, EMPTY_SET, ONE_ORIGIN_JOINS, ONE_ORIGIN_SETS, PAY_AND_NOTE, TRIP, set_of,
 };
-use lynx_check::{Reason, Verdict, search_walk};
+use lynx_graph::{Block, BlockWalk, blocks_hold};
+use lynx_names::{Memory, ProgramId};
 use std::alloc::Global;
 
-/// A block by numbers: the program and the hop entered, the program and the hop left. Of one chain, where both programs
-/// are the same.
+/// A block by numbers: the program and the hop entered, the program and the hop left. Of one chain,
+/// where both programs are the same.
 type Hops = (u8, usize, u8, usize);
 
 fn block((first, entered, second, left): Hops) -> Option<Block> {
@@ -47,8 +47,8 @@ fn offends(alloc: Global, text: &str, blocks: &[Hops]) -> Result<bool, Memory> {
     Ok(blocks_hold(&set, &walk))
 }
 
-/// A set, a walk of blocks, and whether it offends. In the first set p and q begin at server 0 and both set its cell, p
-/// gets what d sets and q what e sets.
+/// A set, a walk of blocks, and whether it offends. In the first set p and q begin at server 0 and
+/// both set its cell, p gets what d sets and q what e sets.
 const WALKS: &[(&str, &[Hops], bool)] = &[
     (
         ONE_ORIGIN_SETS,

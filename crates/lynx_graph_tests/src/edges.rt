@@ -1,7 +1,7 @@
 //! The conflict edges of worked sets.
-use lynx_groups::{Edge, conflict_edges};
-use lynx_names::Memory;
 use lynx_fixtures::texts::{PAY_AND_NOTE, TRIP, set_of};
+use lynx_graph::{Edge, conflict_edges};
+use lynx_names::Memory;
 use std::alloc::Global;
 
 /// An edge by numbers: the left program and hop, and the right ones.

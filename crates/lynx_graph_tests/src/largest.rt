@@ -1,11 +1,10 @@
 //! Sets of as many programs and hops as there may be.
 use crate::verdicts::gives;
-use lynx_draw::{Shown, draw};
-use lynx_graph::{BlockWalk, Walk};
-use lynx_groups::conflict_edges;
-use lynx_names::Memory;
-use lynx_fixtures::texts::set_of;
 use lynx_check::Verdict;
+use lynx_draw::{Shown, draw};
+use lynx_fixtures::texts::set_of;
+use lynx_graph::{BlockWalk, Walk, conflict_edges};
+use lynx_names::Memory;
 use std::alloc::Global;
 use std::fmt::Write;
 
@@ -47,7 +46,8 @@ fn the_largest_sets_take_seconds(rt: HostRuntime) {
     }
 }
 
-/// The text of as many programs, all of whose hops at server 0 conflict, and the last of which begins at server 1.
+/// The text of as many programs, all of whose hops at server 0 conflict, and the last of which
+/// begins at server 1.
 fn text_of_two_origins(alloc: Global) -> Result<String, Memory> {
     let mut text = String::from_str(
         alloc,
@@ -87,16 +87,17 @@ fn counts_of_two_origins(alloc: Global) -> Result<(usize, usize), Memory> {
     counts(alloc, text.as_str())
 }
 
-/// 512 hops make 512 * 513 / 2 pairs, which aren't drawn, since all programs begin at one server. Of the picture's lines 8 are
-/// no program's, 3 are the box's and 57 put the programs in rows of seven; each of the 64 programs has 3 lines, 8 nodes and
-/// 7 arrows.
+/// 512 hops make 512 * 513 / 2 pairs, which aren't drawn, since all programs begin at one server.
+/// Of the picture's lines 8 are no program's, 3 are the box's and 57 put the programs in rows of
+/// seven; each of the 64 programs has 3 lines, 8 nodes and 7 arrows.
 #[test]
 fn the_largest_set_is_drawn_in_a_box(rt: HostRuntime) {
     assert!(rt; counts_of_one_origin(rt.alloc()) == Ok((131_328, 8 + 3 + 57 + 64 * 18)));
 }
 
-/// 511 hops at server 0 make 511 * 512 / 2 pairs, and the one at server 1 conflicts with itself; of the picture's lines 8 are no
-/// edges, and each of the 64 programs, drawn twice, has 3 lines, 8 nodes and 7 arrows.
+/// 511 hops at server 0 make 511 * 512 / 2 pairs, and the one at server 1 conflicts with itself; of
+/// the picture's lines 8 are no edges, and each of the 64 programs, drawn twice, has 3 lines, 8
+/// nodes and 7 arrows.
 #[test]
 fn a_set_of_two_origins_is_drawn_whole(rt: HostRuntime) {
     assert!(rt; counts_of_two_origins(rt.alloc()) == Ok((130_817, 130_817 + 8 + 64 * 2 * 18)));

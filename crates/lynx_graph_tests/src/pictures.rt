@@ -1,11 +1,11 @@
 //! Pictures: a whole one, and walks that a verdict may name and the checker never gives.
 use crate::expected::PAY_AND_NOTE_LINES;
 use crate::walks::judged;
+use lynx_check::Verdict;
 use lynx_draw::{Shown, draw};
+use lynx_fixtures::texts::{PAY_AND_NOTE, TRIP, set_of};
 use lynx_graph::{BlockWalk, Visit, Walk};
 use lynx_names::{Memory, ProgramId};
-use lynx_fixtures::texts::{PAY_AND_NOTE, TRIP, set_of};
-use lynx_check::Verdict;
 use std::alloc::Global;
 use std::fmt::Write;
 
@@ -33,7 +33,8 @@ fn picture_of_a_set_accepted_by_blocks(rt: HostRuntime) {
     assert!(rt; is_drawn(rt.alloc()) == Ok(true));
 }
 
-/// A verdict that names a walk of three visits of the first program, from its second hop to its first.
+/// A verdict that names a walk of three visits of the first program, from its second hop to its
+/// first.
 fn three_visits(alloc: Global) -> Result<Box<Verdict>, Memory> {
     let program = ProgramId::new(0).ok_or(Memory)?;
     let mut walk = Walk::new(alloc);
@@ -47,7 +48,8 @@ fn three_visits(alloc: Global) -> Result<Box<Verdict>, Memory> {
     Ok(Box::new(alloc, Verdict::Offending(walk, BlockWalk::new(alloc)))?)
 }
 
-/// Whether the picture of the set ends so, where three visits of its first program are given as the walk.
+/// Whether the picture of the set ends so, where three visits of its first program are given as the
+/// walk.
 fn three_visits_end(alloc: Global, text: &str, lines: &[&str]) -> Result<bool, Memory> {
     let set = set_of(alloc, text)?;
     let verdict = three_visits(alloc)?;

@@ -1,6 +1,6 @@
 //! Small sets, drawn at random.
-use lynx_names::Memory;
 use lynx_fixtures::texts::set_of;
+use lynx_names::Memory;
 use lynx_set::ChainSet;
 use std::alloc::Global;
 use std::fmt::Write;

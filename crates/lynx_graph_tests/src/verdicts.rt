@@ -1,11 +1,11 @@
 //! Worked verdicts, and walks that offend or don't.
 use crate::walks::{Hops, are_visits, given, judged, walk};
-use lynx_graph::walk_holds;
-use lynx_names::Memory;
 use lynx_fixtures::texts::{
     CROSSING, EMPTY_SET, LATE_AND_MARK, ONE_ORIGIN_JOINS, ONE_ORIGIN_ONLY, ONE_ORIGIN_SETS,
     PAY_AND_NOTE, TRIP, set_of,
 };
+use lynx_graph::walk_holds;
+use lynx_names::Memory;
 use std::alloc::Global;
 
 /// Three walks of two visits: from a by b's hop 2, and from a by c's hops 1 and 2.
@@ -16,12 +16,13 @@ const TIES: &str =
 const HOP_TIES: &str =
     "lynx 1\nservers 2\ntable t\nshard 0 9 0\nshard 10 18446744073709551615 1\nprogram a\nhop 0\nset t 0 1\nhop 1\nset t 10 1\nend\nprogram c\nhop 1\nset t 10 1\nhop 0\nset t 0 1\nhop 0\nset t 0 1\nend\n";
 
-/// Two programs of different origins, one of which adds where the other begins: a walk through two chains of the first
-/// offends, and each block is forward.
+/// Two programs of different origins, one of which adds where the other begins: a walk through two
+/// chains of the first offends, and each block is forward.
 pub const CHAINED: &str =
     "lynx 1\nservers 2\ntable t\nshard 0 9 0\nshard 10 18446744073709551615 1\nprogram a\nhop 0\nadd t 0 1\nhop 1\nadd t 10 1\nhop 0\nset t 1 1\nend\nprogram b\nhop 1\nget x t 10\nend\n";
 
-/// A set and the closed walk that is given, which is empty where none offends. Ties go by program, and then by hop.
+/// A set and the closed walk that is given, which is empty where none offends. Ties go by program,
+/// and then by hop.
 const VERDICTS: &[(&str, &[Hops])] = &[
     (EMPTY_SET, &[]),
     (LATE_AND_MARK, &[]),

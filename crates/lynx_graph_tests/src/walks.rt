@@ -1,8 +1,8 @@
 //! Walks by numbers, and the walk that a verdict gives.
+use lynx_check::{Verdict, check};
 use lynx_graph::{Visit, Walk};
 use lynx_names::{Memory, ProgramId};
 use lynx_set::ChainSet;
-use lynx_check::{Verdict, check};
 use std::alloc::Global;
 
 /// A visit: the number of the program, the hop entered and the hop left.

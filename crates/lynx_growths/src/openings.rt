@@ -1,15 +1,14 @@
 //! Calls that consume what they are given, and are given it anew.
 use crate::tried::{Called, Tried, ended, made_again, of_result};
 use lynx_entry::Entry;
-use lynx_gather::{GatherFault, gather};
-use lynx_keep::{KeepFault, Keeper, MemoryKeeper};
-use lynx_names::{Memory, ServerId, TryCopy};
 use lynx_fixtures::made::{boxed, entries, server};
 use lynx_fixtures::payments::{AT_FIRST, AT_SECOND};
 use lynx_fixtures::texts::{PAYMENT, read};
+use lynx_keep::{KeepFault, Keeper, MemoryKeeper};
+use lynx_names::{Memory, ServerId, TryCopy};
 use lynx_server::{OpenFault, Server, rebuild};
 use lynx_set::ChainSet;
-use lynx_weave::{WeaveFault, weave};
+use lynx_weave::{GatherFault, WeaveFault, gather, weave};
 use lynx_world::{World, empty_keepers};
 use std::alloc::Global;
 

@@ -1,13 +1,13 @@
 //! Calls on a server, over a keeper in memory.
 use crate::tried::{Called, Tried, ended, made_again};
 use lynx_entry::{Answer, Delivered};
-use lynx_keep::MemoryKeeper;
-use lynx_names::{Memory, Stamp};
 use lynx_fixtures::cells::{Cell, are_cells};
 use lynx_fixtures::made::{entries, message, request, server};
 use lynx_fixtures::parts::{EntryParts, MessageParts};
 use lynx_fixtures::payments::{AT_FIRST, AT_SECOND, PAY, SEEDED, SENT};
 use lynx_fixtures::texts::{PAYMENT, read};
+use lynx_keep::MemoryKeeper;
+use lynx_names::{Memory, Stamp};
 use lynx_server::{Server, rebuild};
 use lynx_set::ChainSet;
 use std::alloc::Global;

@@ -4,14 +4,14 @@ ghost use Rattle.lynx_codec.specs.Ranges.{IsAnswerInRange};
 use crate::tried::{Called, Tried, ended, made_again};
 use crate::values::SEED_FORM;
 use lynx_cluster::{Cluster, Front, Gate, OpenGate, Session};
-use lynx_entry::{Answer, Request};
 use lynx_codec::Looked;
-use lynx_keep::Keeper;
-use lynx_names::{ChainId, Memory};
-use lynx_port::{Desk, PortFault, serve};
+use lynx_entry::{Answer, Request};
 use lynx_fixtures::made::request;
 use lynx_fixtures::payments::SEED;
 use lynx_fixtures::texts::{PAYMENT, read};
+use lynx_keep::Keeper;
+use lynx_names::{ChainId, Memory};
+use lynx_port::{Desk, PortFault, serve};
 use lynx_world::empty_keepers;
 use std::alloc::Global;
 use std::io;
@@ -99,7 +99,8 @@ fn begin_again<R: Wait, K: Keeper, G: Gate>(
     }
 }
 
-/// A session begins the seed at a cluster in memory, which is closed then: its audit is what says that nothing else began.
+/// A session begins the seed at a cluster in memory, which is closed then: its audit is what says
+/// that nothing else began.
 fn try_begin<R: Threads + Wait + Clock + Copy + Send + 'static>(
     rt: R,
     alloc: Global,

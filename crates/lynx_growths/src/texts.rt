@@ -1,16 +1,16 @@
 //! Calls on texts and sets, which stay as they are.
 use crate::tried::{Called, Tried, ended, made_again, of_result};
+use lynx_check::check;
 use lynx_draw::{Shown, draw};
-use lynx_foot::footprint;
-use lynx_groups::conflict_edges;
-use lynx_names::{Memory, ProgramId, TryCopy};
 use lynx_fixtures::made::program;
 use lynx_fixtures::rows::PAYMENT;
 use lynx_fixtures::texts::{CROSSING, read};
-use lynx_script::parse_script;
+use lynx_foot::footprint;
+use lynx_graph::conflict_edges;
+use lynx_lines::parse_script;
+use lynx_names::{Memory, ProgramId, TryCopy};
 use lynx_set::{ChainSet, upgrade_set};
 use lynx_text::{FaultKind, TextFault, parse, print};
-use lynx_check::check;
 use std::alloc::Global;
 
 /// A call on a text or a set.

@@ -2,12 +2,12 @@
 use crate::tried::{Called, Tried, ended, made_again, of_result};
 use lynx_cells::{Cells, Changes};
 use lynx_codec::{DecodeFault, Feed, encode};
-use lynx_link::links;
-use lynx_names::{Memory, TableId, TryCopy};
 use lynx_fixtures::cells::are_cells;
 use lynx_fixtures::made::{entry, request};
 use lynx_fixtures::parts::EntryParts;
 use lynx_fixtures::payments::{PAID, PAY};
+use lynx_link::links;
+use lynx_names::{Memory, TableId, TryCopy};
 use lynx_shards::{Range, ShardFault, ShardMap};
 use std::alloc::Global;
 

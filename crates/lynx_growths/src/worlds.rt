@@ -1,13 +1,13 @@
 //! Calls on a world.
 use crate::tried::{Called, Tried, ended, made_again, of_result};
 use lynx_chart::chart;
-use lynx_names::{Memory, ServerId, Stamp};
-use lynx_order::explain;
-use lynx_report::owed_hops;
 use lynx_fixtures::cells::are_cells;
 use lynx_fixtures::made::{boxed, chain, request};
 use lynx_fixtures::payments::{PAY, SEED};
 use lynx_fixtures::texts::{PAYMENT, read};
+use lynx_names::{Memory, ServerId, Stamp};
+use lynx_order::explain;
+use lynx_report::owed_hops;
 use lynx_world::{Event, Outcome, World, empty_keepers};
 use std::alloc::Global;
 

@@ -8,9 +8,9 @@ use crate::mark::Mark;
 use crate::script_lines::put_script_fault;
 use crate::set_faults::put_set_fault;
 use crate::view::put_line;
+use lynx_lex::{FaultKind, TextFault};
 use lynx_names::limits::MAX_TEXT_BYTES;
 use lynx_set::ChainSet;
-use lynx_lex::{FaultKind, TextFault};
 use std::alloc::{AllocError, Global};
 use std::fmt::Write;
 
@@ -22,9 +22,10 @@ pub enum Part<'a> {
     Script { set: Option<&'a ChainSet> },
 }
 
-/// The lines behind the one that names the fault, each with two spaces before it: the line at fault, a mark under the
-/// word where it is one word, and in words what is wrong and what was expected or is known. `name` is the file's name,
-/// or "standard input", and is shown as it is. The text may be cut short behind one byte too many.
+/// The lines behind the one that names the fault, each with two spaces before it: the line at
+/// fault, a mark under the word where it is one word, and in words what is wrong and what was
+/// expected or is known. `name` is the file's name, or "standard input", and is shown as it is. The
+/// text may be cut short behind one byte too many.
 pub fn hint(
     alloc: Global,
     name: &str,

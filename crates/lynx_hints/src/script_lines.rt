@@ -10,9 +10,9 @@ use crate::script_verb::{SCRIPT_VERBS, ScriptVerb};
 use crate::script_words::{Cast, put_script_word_fault, spread_chain};
 use crate::verb::Verb;
 use crate::word::{Word, word_at, words_from, words_of};
+use lynx_lex::{FaultKind, TextFault};
 use lynx_names::limits::MAX_PARAMETERS;
 use lynx_set::ChainSet;
-use lynx_lex::{FaultKind, TextFault};
 use std::alloc::{AllocError, Global};
 use std::fmt::Write;
 

@@ -8,9 +8,9 @@ use crate::role::Role;
 use crate::script_verb::ScriptVerb;
 use crate::spelling::{put_bad_name, put_bad_number};
 use crate::word::Word;
-use lynx_set::ChainSet;
 use lynx_lex::number::number;
 use lynx_lex::{FaultKind, Name};
+use lynx_set::ChainSet;
 use std::alloc::{AllocError, Global};
 use std::fmt::Write;
 

@@ -13,9 +13,9 @@ use crate::spelling::{put_bad_name, put_bad_number};
 use crate::verb::Verb;
 use crate::versions::put_bad_version;
 use crate::word::{Word, spread_interval, word_at, words_of};
-use lynx_shards::ShardFault;
 use lynx_lex::number::number;
 use lynx_lex::{FaultKind, TextFault};
+use lynx_shards::ShardFault;
 use std::alloc::{AllocError, Global};
 use std::fmt::Write;
 

@@ -2,8 +2,8 @@
 
 use crate::role::Role;
 use crate::word::Word;
-use lynx_names::limits::MAX_NAME_BYTES;
 use lynx_lex::Name;
+use lynx_names::limits::MAX_NAME_BYTES;
 use std::alloc::AllocError;
 use std::fmt::Write;
 

@@ -8,14 +8,15 @@ use crate::fault::KeepFault;
 use crate::keeper::{Keeper, Loaded};
 use crate::reading::read_entries;
 use lynx_cells::{Cells, Changes};
-use lynx_entry::Entry;
 use lynx_codec::append_entry;
 use lynx_codec::limits::MAX_FORM_BYTES;
+use lynx_entry::Entry;
 use lynx_names::{Memory, TryCopy};
 use std::alloc::Global;
 use std::marker::Model;
 
-/// Keeps everything in memory, its entries as their byte forms. It never answers Failed, and has no faults to count.
+/// Keeps everything in memory, its entries as their byte forms. It never answers Failed, and has no
+/// faults to count.
 #[derive(Debug, Drop)]
 pub struct MemoryKeeper {
     /// The forms of the entries, one behind the other.

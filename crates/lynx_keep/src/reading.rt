@@ -2,8 +2,8 @@
 ghost use Rattle.std.specs.Prelude.{◌≡◌, ◌∷◌, [], IfNone, IfOk, IfSome, OnOk};
 ghost use Rattle.lynx_keep.specs.Stored.{AreStored, HasEntries, IsEntry, entries_in};
 
-use lynx_entry::Entry;
 use lynx_codec::{Feed, Item};
+use lynx_entry::Entry;
 use lynx_names::Memory;
 use std::alloc::Global;
 

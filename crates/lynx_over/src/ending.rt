@@ -3,9 +3,9 @@ use crate::fault::Fault;
 use crate::page::Page;
 use lynx_entry::Entry;
 use lynx_keep::Keeper;
+use lynx_lines::{cell_line, chains_line};
 use lynx_names::{Memory, TryCopy};
 use lynx_order::{Explained, explain};
-use lynx_print::{cell_line, chains_line};
 use lynx_server::Server;
 use lynx_set::ChainSet;
 use lynx_weave::weave;
@@ -33,7 +33,8 @@ fn woven<K: Keeper>(alloc: Global, set: &ChainSet, servers: &[Server<K>]) -> Res
     Ok(weave(alloc, set, histories, &[])?)
 }
 
-/// Adds the lines of the cells, and of the order of the chains or the cycle, and gives the status: 1 for a cycle.
+/// Adds the lines of the cells, and of the order of the chains or the cycle, and gives the status:
+/// 1 for a cycle.
 pub fn put_end<K: Keeper>(
     alloc: Global,
     set: &ChainSet,

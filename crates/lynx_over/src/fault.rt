@@ -1,11 +1,11 @@
 //! Why a run stops: the one line on standard error, and the status.
-use lynx_input::InputFault;
-use lynx_io::WriteFailed;
+use lynx_cli::InputFault;
+use lynx_lex::TextFault;
+use lynx_lines::WriteFailed;
 use lynx_names::{Memory, ServerId};
 use lynx_server::OpenFault;
 use lynx_store::StoreFault;
 use lynx_weave::WeaveFault;
-use lynx_lex::TextFault;
 use std::alloc::{AllocError, AllocFailed};
 use thiserror::Error;
 
@@ -70,7 +70,8 @@ impl Fault {
         Fault::Store { server, wrong }
     }
 
-    /// The exit status: 2 for faulty words or texts, 3 for want of memory, 4 for what can't be read or written.
+    /// The exit status: 2 for faulty words or texts, 3 for want of memory, 4 for what can't be read
+    /// or written.
     pub fn status(&self) -> u8 {
         match self {
             Fault::Words | Fault::Set(_) | Fault::Script(_) => 2,

@@ -1,11 +1,11 @@
-//! `lynx_over SET SCRIPT FOLDER`: runs a script over the stores of the servers in a folder, `server-0.lynx` and so on,
-//! which are made where there are none. It prints what `lynx run` prints, so a test can end a run and go on with the
-//! next.
+//! `lynx_over SET SCRIPT FOLDER`: runs a script over the stores of the servers in a folder,
+//! `server-0.lynx` and so on, which are made where there are none. It prints what `lynx run`
+//! prints, so a test can end a run and go on with the next.
 #![tactic(auto)]
 
-use lynx_input::{MAX_FILE_BYTES, read_all};
+use lynx_cli::{MAX_FILE_BYTES, read_all};
 use lynx_keep::Keeper;
-use lynx_stores::{FileStores, Stores};
+use lynx_store_files::{FileStores, Stores};
 use std::alloc::Global;
 use std::process::ExitCode;
 use std::rt::Files;

@@ -5,13 +5,12 @@ use crate::fault::Fault;
 use crate::stores::{close_all, open_all};
 use lynx_entry::Event;
 use lynx_keep::Keeper;
-use lynx_print::outcome_line;
-use lynx_script::parse_script;
+use lynx_lex::FaultKind;
+use lynx_lines::{outcome_line, parse_script};
 use lynx_server::Server;
 use lynx_set::ChainSet;
-use lynx_stores::Stores;
+use lynx_store_files::Stores;
 use lynx_text::parse;
-use lynx_lex::FaultKind;
 use std::alloc::Global;
 use std::io::Write;
 
@@ -52,8 +51,8 @@ fn put_lines<K: Keeper + Drop>(
     put_end(alloc, set, servers.as_slice(), page)
 }
 
-/// Runs the events over the stores of a folder, prints their lines, also where a fault stops them, and gives the
-/// status. The stores stay open until all is printed.
+/// Runs the events over the stores of a folder, prints their lines, also where a fault stops them,
+/// and gives the status. The stores stay open until all is printed.
 fn run_events<K: Keeper + Drop, S: Stores<K>, W: Write>(
     alloc: Global,
     stores: &S,
@@ -65,7 +64,7 @@ fn run_events<K: Keeper + Drop, S: Stores<K>, W: Write>(
     let mut servers = open_all(alloc, stores, set, folder)?;
     let mut page = Vec::new(alloc);
     let put = put_lines(alloc, set, events, &mut servers, &mut page);
-    let printed = lynx_io::write_bytes(writer, page.as_slice());
+    let printed = lynx_lines::write_bytes(writer, page.as_slice());
     let closed = close_all(stores, servers);
     let status = put?;
     printed?;

@@ -4,7 +4,7 @@ use lynx_keep::Keeper;
 use lynx_names::ServerId;
 use lynx_server::Server;
 use lynx_set::ChainSet;
-use lynx_stores::Stores;
+use lynx_store_files::Stores;
 use std::alloc::Global;
 
 /// Opens the server over its store in the folder, which is made where there is none.

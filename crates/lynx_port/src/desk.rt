@@ -1,5 +1,5 @@
-use lynx_entry::{Answer, Request};
 use lynx_codec::Looked;
+use lynx_entry::{Answer, Request};
 use lynx_names::{ChainId, Memory};
 
 /// Who answers a client: a session with a cluster, say. Whatever it answers has a byte form.
@@ -13,12 +13,14 @@ pub trait Desk {
 
     ghost looks: { Looks Self };
 
-    /// Answers a request. An answer of want of memory is an answer like others: the client is told of it.
+    /// Answers a request. An answer of want of memory is an answer like others: the client is told
+    /// of it.
     fn begin(&mut self, request: Request) -> Answer
         ensures begins { begins self.old request result self.new }
         ensures range { IsAnswerInRange result };
 
-    /// Looks for the entry of that hop of the chain. Want of memory has no form: it ends the connection.
+    /// Looks for the entry of that hop of the chain. Want of memory has no form: it ends the
+    /// connection.
     fn look(&mut self, chain: ChainId, hop: u8) -> Result<Looked, Memory>
         ensures looks { looks self.old chain hop result self.new }
         ensures range { IfOk result IsLookedInRange };

@@ -1,8 +1,8 @@
 //! A desk of one chain.
 ghost use Rattle.lynx_codec.specs.Ranges.{IsAnswerInRange, IsLookedInRange};
 
-use lynx_entry::{Answer, Request};
 use lynx_codec::Looked;
+use lynx_entry::{Answer, Request};
 use lynx_names::{ChainId, Memory, ServerId, Stamp, Values};
 use lynx_port::Desk;
 use std::alloc::Global;

@@ -4,16 +4,18 @@ use Rattle.lynx_set.specs.Set.{Set}
 use Rattle.lynx_check.specs.declared.verdict.Verdict.{Verdict}
 use Rattle.lynx_check.specs.declared.verdict.Verdict.TheVariants.{Accepted, Offending}
 use Rattle.lynx_check.specs.Reasons.{reason_of}
-use Rattle.lynx_groups.specs.Edges.{edges_of}
-use Rattle.lynx_groups.specs.declared.members.Member.{Member}
+use Rattle.lynx_graph.specs.Edges.{edges_of}
+use Rattle.lynx_graph.specs.declared.members.Member.{Member}
 use Rattle.lynx_reasons.specs.Busy.{busy_lines}
 use Rattle.lynx_reasons.specs.Groups.{group_lines}
 use Rattle.lynx_reasons.specs.Meets.{meet_lines}
-use Rattle.lynx_groups.specs.Together.{AreLed}
+use Rattle.lynx_graph.specs.Together.{AreLed}
 
 -- the groups of an accepted set, each led by the least of its programs; an offending set has none
 abbrev pub AreGroupLines : Set → Verdict → List ℕ → Type 0
-AreGroupLines set (Accepted own) lines = (members : List Member) × AreLed set members × (lines ≡ group_lines set (edges_of set) (reason_of own.excused) members)
+AreGroupLines set (Accepted own) lines =
+    (members : List Member) × AreLed set members
+    × (lines ≡ group_lines set (edges_of set) (reason_of own.excused) members)
 AreGroupLines set (Offending walk blocks) lines = lines ≡ []
 
 -- the hops that meet, the groups, and the programs that return

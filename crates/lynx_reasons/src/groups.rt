@@ -2,15 +2,14 @@
 
 ghost use Rattle.std.specs.Prelude.{◌≡◌, ◌++◌, ◌==◌, ◌||◌, OnOk, IfOk, length, map, filter, nat_lt};
 ghost use Rattle.std.specs.List.{flat_map, list_any, enumerate_from};
-ghost use Rattle.lynx_groups.specs.Groups.{group_of, leaders_of};
+ghost use Rattle.lynx_graph.specs.Groups.{group_of, leaders_of};
 ghost use Rattle.lynx_reasons.specs.Groups.{group_line, group_lines, group_reason, hops_met, is_met, meet_at_one_hop, names_text, reason_word};
 
-use lynx_graph::Place;
-use lynx_groups::{Edge, Member, begin_at_one_server, group_of, leaders_of};
+use lynx_check::Reason;
+use lynx_graph::{Edge, Member, Place, begin_at_one_server, group_of, leaders_of};
 use lynx_names::{Memory, ProgramId};
 use lynx_set::ChainSet;
 use lynx_text::printing::put_word;
-use lynx_check::Reason;
 use std::alloc::Global;
 
 /// Why no walk through a group of programs offends.

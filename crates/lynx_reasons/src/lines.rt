@@ -2,21 +2,22 @@
 
 ghost use Rattle.std.specs.Prelude.{◌≡◌, ℕ, List, ◌++◌, OnOk, IfOk};
 ghost use Rattle.lynx_set.specs.Rules.{IsSet};
-ghost use Rattle.lynx_groups.specs.Edges.{edges_of};
+ghost use Rattle.lynx_graph.specs.Edges.{edges_of};
 ghost use Rattle.lynx_reasons.specs.Whys.{AreGroupLines, IsWhy};
 
 use crate::busy::put_busy_lines;
 use crate::groups::put_group_lines;
 use crate::meets::put_meet_lines;
-use lynx_groups::{Edge, conflict_edges, members_of};
+use lynx_check::Verdict;
+use lynx_graph::{Edge, conflict_edges, members_of};
 use lynx_names::Memory;
 use lynx_set::ChainSet;
-use lynx_check::Verdict;
 use std::alloc::Global;
 
-/// Why the verdict on the set is what it is, by lines: a line for each two hops that may conflict; for an accepted set a
-/// line for each group of programs, with the reason why no walk through the group offends; and a line for each program
-/// that returns to the server where it begins. Memory is answered where a growth was refused.
+/// Why the verdict on the set is what it is, by lines: a line for each two hops that may conflict;
+/// for an accepted set a line for each group of programs, with the reason why no walk through the
+/// group offends; and a line for each program that returns to the server where it begins. Memory is
+/// answered where a growth was refused.
 pub fn why(alloc: Global, set: &ChainSet, verdict: &Verdict) -> Result<Vec<u8>, Memory>
     requires { IsSet set.now }
     ensures { IfOk result (λ bytes. IsWhy set.now verdict.now bytes.items) }

@@ -7,8 +7,7 @@ ghost use Rattle.lynx_set.specs.Rules.{IsSet};
 ghost use Rattle.lynx_reasons.specs.Meets.{hops_text, lines_text, meet_line, meet_lines, place_text, server_text, tables_text};
 
 use crate::hop_lines::line_of;
-use lynx_graph::Place;
-use lynx_groups::{Edge, tables_met};
+use lynx_graph::{Edge, Place, tables_met};
 use lynx_names::Memory;
 use lynx_set::{ChainSet, Name};
 use lynx_text::printing::{put_number, put_word};

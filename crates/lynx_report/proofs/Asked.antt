@@ -8,9 +8,9 @@ use Rattle.lynx_set.specs.Rules.{IsSet}
 use Rattle.lynx_set.specs.Set.{Set}
 use Rattle.lynx_set.specs.Text.{text_of}
 use Rattle.lynx_entry.specs.declared.event.Event.{Event}
-use Rattle.lynx_script.specs.Scripts.{IsScript, script_of}
+use Rattle.lynx_lines.specs.Scripts.{IsScript, script_of}
 use Rattle.lynx_world.specs.Worlds.{WorldState, new_world}
-use Rattle.lynx_io.proofs.Parts.{appends_both, kept_on, part_on}
+use Rattle.lynx_lines.proofs.Parts.{appends_both, kept_on, part_on}
 use Rattle.lynx_report.specs.declared.run.Ending.{Ending}
 use Rattle.lynx_report.specs.declared.run.RunFault.{RunFault}
 use Rattle.lynx_report.specs.Options.{BeginsRunWith, PrintsOwed, RestPrints, RunPrintsWith, WritesRest}

@@ -6,7 +6,7 @@ use Rattle.std.proofs.lemmas.List.{append-nil}
 use Rattle.std.specs.Io.KnownBytes.{Appends}
 use Rattle.std.specs.List.Sorted.{IsPermutation, IsSorted}
 use Rattle.std.specs.Prelude.{Result, Ok, Err, OnOk, OnErr, IfOk, IfErr}
-pub use Rattle.lynx_io.proofs.Parts.{appends_both}
+pub use Rattle.lynx_lines.proofs.Parts.{appends_both}
 use Rattle.lynx_set.specs.Set.{Set}
 use Rattle.lynx_world.specs.Tables.{cells_of, triple_cmp}
 use Rattle.lynx_entry.specs.declared.event.Event.{Event}
@@ -16,7 +16,7 @@ use Rattle.lynx_world.specs.Worlds.{WorldState, new_world}
 use Rattle.lynx_world.specs.Steps.{step}
 use Rattle.lynx_report.specs.declared.run.RunFault.{RunFault}
 use Rattle.lynx_report.specs.declared.run.RunFault.TheVariants.{Set as SetFault, Script as ScriptFault, Write, Memory}
-use Rattle.lynx_print.specs.Printed.{outcome_text}
+use Rattle.lynx_lines.specs.Printed.{outcome_text}
 use Rattle.lynx_lex.specs.Lines.{with_feed}
 use Rattle.lynx_order.specs.declared.explained.Explained.{Explained}
 use Rattle.lynx_world.proofs.Growing.{step-set}

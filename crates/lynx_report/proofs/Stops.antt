@@ -11,7 +11,7 @@ use Rattle.lynx_entry.specs.declared.event.Outcome.{Outcome}
 use Rattle.lynx_entry.specs.declared.event.Outcome.TheVariants.{Memory}
 use Rattle.lynx_names.specs.declared.limits.TheConstants.{MAX_HELD}
 use Rattle.lynx_order.specs.declared.explained.Explained.{Explained}
-use Rattle.lynx_print.specs.Printed.{outcome_text}
+use Rattle.lynx_lines.specs.Printed.{outcome_text}
 use Rattle.lynx_lex.specs.Lines.{with_feed}
 use Rattle.lynx_world.specs.Steps.{step}
 use Rattle.lynx_world.specs.Tables.{cells_of, triple_cmp}
@@ -19,7 +19,7 @@ use Rattle.lynx_world.specs.Worlds.{WorldState, new_world}
 use Rattle.lynx_report.specs.Runs.{Explains, cell_lines, explained_line, outcome_lines, outcomes_of, world_after}
 use Rattle.lynx_report.specs.Written.{AppendsPart, BeginsEnd, BeginsRun, WritesEnd}
 use Rattle.lynx_report.proofs.RunLemmas.{appends_both, world_after-set}
-use Rattle.lynx_io.proofs.Parts.{kept_on, part_of_more, part_on}
+use Rattle.lynx_lines.proofs.Parts.{kept_on, part_of_more, part_on}
 
 outcomes_of-append : (world : WorldState) (xs ys : List Event) → outcomes_of world (xs ++ ys) ≡ outcomes_of world xs ++ outcomes_of (world_after world xs) ys
 outcomes_of-append world [] ys = refl

@@ -12,7 +12,7 @@ use Rattle.lynx_world.specs.Order.{done_hops}
 use Rattle.lynx_world.specs.Placed.{Placed}
 use Rattle.lynx_order.specs.Explanations.{request_of}
 use Rattle.lynx_order.specs.Lists.{IsIn}
-use Rattle.lynx_print.specs.Printed.{hop_text}
+use Rattle.lynx_lines.specs.Printed.{hop_text}
 use Rattle.lynx_lex.specs.Lines.{with_feed}
 use Rattle.lynx_report.specs.declared.owed.OwedHop.{OwedHop}
 
@@ -25,7 +25,8 @@ pub record IsOwed (chains : Set) (list : List Placed) (owed : OwedHop) : Type 0 
 
 -- by origin, then index
 abbrev pub chain_cmp : ChainId → ChainId → Ordering
-chain_cmp one other = ordering_then (nat_cmp one.origin other.origin) (nat_cmp one.index other.index)
+chain_cmp one other =
+    ordering_then (nat_cmp one.origin other.origin) (nat_cmp one.index other.index)
 
 -- by chain, then hop
 abbrev pub owed_cmp : OwedHop → OwedHop → Ordering

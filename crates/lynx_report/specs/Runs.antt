@@ -23,9 +23,9 @@ use Rattle.lynx_order.specs.declared.explained.Explained.TheVariants.{Order, Cyc
 use Rattle.lynx_order.specs.Explained.{CycleIsRight, GivesOrder, OrderIsRight}
 use Rattle.lynx_report.specs.declared.run.Ending.{Ending}
 use Rattle.lynx_report.specs.declared.run.Ending.TheVariants.{Ordered, Cyclic}
-use Rattle.lynx_print.specs.Printed.{chains_text, outcome_text}
+use Rattle.lynx_lines.specs.Printed.{chains_text, outcome_text}
 use Rattle.lynx_lex.specs.Lines.{with_feed}
-use Rattle.lynx_script.specs.Scripts.{IsScript, script_of}
+use Rattle.lynx_lines.specs.Scripts.{IsScript, script_of}
 
 -- the world after these events
 abbrev pub world_after : WorldState → List Event → WorldState
@@ -35,16 +35,19 @@ world_after world (event ∷ events) = world_after (step MAX_HELD world event).w
 -- what the events come to, one after another
 abbrev pub outcomes_of : WorldState → List Event → List Outcome
 outcomes_of world [] = []
-outcomes_of world (event ∷ events) = (step MAX_HELD world event).outcome ∷ outcomes_of (step MAX_HELD world event).world events
+outcomes_of world (event ∷ events) =
+    (step MAX_HELD world event).outcome ∷ outcomes_of (step MAX_HELD world event).world events
 
 -- a line for each outcome
 abbrev pub outcome_lines : WorldState → List Event → List ℕ
-outcome_lines world events = flat_map (λ outcome. with_feed (outcome_text outcome)) (outcomes_of world events)
+outcome_lines world events =
+    flat_map (λ outcome. with_feed (outcome_text outcome)) (outcomes_of world events)
 
 -- the line of a cell, where the tables have these names
 abbrev pub cell_line : List (List ℕ) → ℕ × ℕ × ℕ → List ℕ
 cell_line tables cell =
-    with_feed (codes "cell " ++ unwrap_or (slice_get tables cell.0) [] ++ 32 ∷ decimal cell.1 ++ 32 ∷ decimal cell.2)
+    with_feed (codes "cell " ++ unwrap_or (slice_get tables cell.0) [] ++ 32 ∷ decimal cell.1 ++ 32
+    ∷ decimal cell.2)
 
 -- a line for each cell
 abbrev pub cell_lines : List (List ℕ) → List (ℕ × ℕ × ℕ) → List ℕ
@@ -60,15 +63,16 @@ abbrev pub ending_of : Explained → Ending
 ending_of (Order chains) = Ordered
 ending_of (Cycle chains) = Cyclic
 
--- An order explains the list, and each chain stands in it before those that it precedes; a cycle is one; and where the
--- set's literal keys lie at their servers and it is accepted, it is an order.
+-- An order explains the list, and each chain stands in it before those that it precedes; a cycle is
+-- one; and where the set's literal keys lie at their servers and it is accepted, it is an order.
 pub record Explains (chains : Set) (list : List Placed) (explained : Explained) : Type 0 where
   pub order : OrderIsRight chains list explained
   pub cycle : CycleIsRight chains list explained
   pub accepted : AreLiteralsHome chains → IsAccepted chains → GivesOrder explained
 
 -- the lines of a world's nonzero cells, tables and keys rising, and the one that explains its list
-pub record EndPrints (chains : Set) (world : WorldState) (ending : Ending) (printed : List ℕ) : Type 0 where
+pub record EndPrints (chains : Set) (world : WorldState) (ending : Ending) (printed : List ℕ) : Type
+    0 where
   pub cells : List (ℕ × ℕ × ℕ)
   pub all_cells : IsPermutation (cells_of world) cells
   pub in_order : IsSorted triple_cmp cells
@@ -77,8 +81,10 @@ pub record EndPrints (chains : Set) (world : WorldState) (ending : Ending) (prin
   pub ending_is : ending ≡ ending_of explained
   pub lines : printed ≡ cell_lines chains.tables cells ++ explained_line explained
 
--- the lines of what the events come to in a new world of the set, in order, and then those of its end
-pub record RunPrints (chains : Set) (events : List Event) (ending : Ending) (printed : List ℕ) : Type 0 where
+-- the lines of what the events come to in a new world of the set, in order, and then those of its
+-- end
+pub record RunPrints (chains : Set) (events : List Event) (ending : Ending)
+    (printed : List ℕ) : Type 0 where
   pub rest : List ℕ
   pub end : EndPrints chains (world_after (new_world chains) events) ending rest
   pub lines : printed ≡ outcome_lines (new_world chains) events ++ rest
@@ -99,11 +105,13 @@ IsNoSet text = (chains : Set) → IsSet chains → text ≢ text_of chains
 
 -- the text is that of no script over the set
 abbrev pub IsNoScript : Set → List ℕ → Type 0
-IsNoScript chains text = (events : List Event) → IsScript chains events → text ≢ script_of chains events
+IsNoScript chains text =
+    (events : List Event) → IsScript chains events → text ≢ script_of chains events
 
 -- The first text is a set's, and the other is that of no script over it.
 abbrev pub HasNoScript : List ℕ → List ℕ → Type 0
-HasNoScript set script = (chains : Set) × IsSet chains × (set ≡ text_of chains) × IsNoScript chains script
+HasNoScript set script =
+    (chains : Set) × IsSet chains × (set ≡ text_of chains) × IsNoScript chains script
 
 -- a fault that comes when events run already
 abbrev pub IsLate : RunFault → Type 0
@@ -112,9 +120,11 @@ IsLate (ScriptFault fault) = ⊥
 IsLate Write = Unit {0}
 IsLate Memory = Unit {0}
 
--- why a run stops, that a faulty text is told before anything is written, and that its fault is never want of memory
+-- why a run stops, that a faulty text is told before anything is written, and that its fault is
+-- never want of memory
 abbrev pub StopsFor : List ℕ → List ℕ → Type 0 → RunFault → Type 0
 StopsFor set script unwritten (SetFault fault) = IsNoSet set × unwritten × (fault.kind ≢ NoMemory)
-StopsFor set script unwritten (ScriptFault fault) = HasNoScript set script × unwritten × (fault.kind ≢ NoMemory)
+StopsFor set script unwritten (ScriptFault fault) =
+    HasNoScript set script × unwritten × (fault.kind ≢ NoMemory)
 StopsFor set script unwritten Write = Unit {0}
 StopsFor set script unwritten Memory = Unit {0}

@@ -7,16 +7,16 @@ use crate::options::DrawOptions;
 use crate::run::{RunFault, read_set};
 use crate::verdict::Finding;
 use crate::writing::write_bytes;
+use lynx_check::{Verdict, check};
 use lynx_draw::draw;
 use lynx_names::Memory;
 use lynx_set::ChainSet;
-use lynx_check::{Verdict, check};
 use std::alloc::Global;
 use std::io::Write;
 
-/// Judges a set text, and writes the picture of the set and of its verdict, with the programs that the options ask for.
-/// `RunFault::Script` is never its fault. The whole picture is made before any of it is written: in memory it takes the
-/// square of the count of hops.
+/// Judges a set text, and writes the picture of the set and of its verdict, with the programs that
+/// the options ask for. `RunFault::Script` is never its fault. The whole picture is made before any
+/// of it is written: in memory it takes the square of the count of hops.
 pub fn draw_text<W: Write>(
     alloc: Global,
     set: &[u8],

@@ -8,13 +8,13 @@ ghost use Rattle.lynx_report.specs.Refusals.{BeginsRefusal, BeginsSetRefusal, Is
 
 use crate::run::{RunFault, read_set};
 use crate::verdict::{Finding, write_offending};
-use lynx_set::ChainSet;
 use lynx_check::{Verdict, check};
+use lynx_set::ChainSet;
 use std::alloc::Global;
 use std::io::Write;
 
-/// Judges a set text before a run of it. Where the set is accepted nothing is written; where it offends, what
-/// `check_text` writes. `RunFault::Script` is never its fault.
+/// Judges a set text before a run of it. Where the set is accepted nothing is written; where it
+/// offends, what `check_text` writes. `RunFault::Script` is never its fault.
 pub fn refuse_text<W: Write>(alloc: Global, set: &[u8], writer: &mut W) -> Result<Finding, RunFault>
     ensures ok { IfOk result (λ finding. (printed : List ℕ) × Refuses set.now finding printed
         × Appends (W.contents writer.old) (W.contents writer.new) printed) }

@@ -3,7 +3,7 @@ ghost use Rattle.std.specs.Prelude.{◌≡◌, ◌≢◌, ◌⊎◌, ℕ, List, 
 ghost use Rattle.std.specs.List.Sorted.{IsPermutation, IsSorted};
 ghost use Rattle.lynx_world.specs.Tables.{cells_of, triple_cmp};
 ghost use Rattle.lynx_world.specs.Steps.{step};
-ghost use Rattle.lynx_print.specs.Printed.{outcome_text};
+ghost use Rattle.lynx_lines.specs.Printed.{outcome_text};
 ghost use Rattle.lynx_lex.specs.Lines.{with_feed};
 ghost use Rattle.lynx_set.specs.Rules.{IsSet};
 ghost use Rattle.lynx_set.specs.Text.{text_of};
@@ -13,19 +13,18 @@ ghost use Rattle.std.specs.String.{string_bytes};
 ghost use Rattle.lynx_report.specs.Runs.{world_after, outcome_lines, cell_lines, ending_of, explained_line, EndPrints, Explains, IsNoSet, IsNoScript, IsLate, StopsFor};
 ghost use Rattle.lynx_report.specs.Options.{BeginsRunWith, PrintsWith, RunPrintsWith, WritesPartWith};
 ghost use Rattle.lynx_report.specs.Written.{AppendsPart, WritesEnd};
-ghost use Rattle.lynx_script.specs.Scripts.{IsScript, script_of};
+ghost use Rattle.lynx_lines.specs.Scripts.{IsScript, script_of};
 ghost use Rattle.std.specs.Io.KnownBytes.{Appends, Keeps};
 
 use crate::options::{RunOptions, write_rest};
 use crate::running::run_event;
 use crate::writing::write_bytes;
+use lynx_lex::{FaultKind, TextFault};
+use lynx_lines::{cell_line, chains_line, outcome_line, parse_script};
 use lynx_names::{Memory, TableId};
 use lynx_order::{Explained, explain};
-use lynx_print::{cell_line, chains_line, outcome_line};
-use lynx_script::parse_script;
 use lynx_set::ChainSet;
 use lynx_text::parse;
-use lynx_lex::{FaultKind, TextFault};
 use lynx_world::{Event, Outcome, World, empty_keepers};
 use std::alloc::{AllocError, Global};
 use std::io::Write;
@@ -219,8 +218,8 @@ fn write_explained<W: Write>(
     write_bytes(writer, line.as_bytes())
 }
 
-/// Writes the lines of the nonzero cells, tables in order of declaration and keys rising, and the one that explains
-/// what the servers did.
+/// Writes the lines of the nonzero cells, tables in order of declaration and keys rising, and the
+/// one that explains what the servers did.
 fn write_end<W: Write>(alloc: Global, world: &World, writer: &mut W) -> Result<Ending, RunFault>
     ensures ok { IfOk result (λ ending. (printed : List ℕ)
         × EndPrints world.now.set world.now ending printed
@@ -236,8 +235,8 @@ fn write_end<W: Write>(alloc: Global, world: &World, writer: &mut W) -> Result<E
     Ok(ending_of(&explained))
 }
 
-/// Runs the events in a new world, and writes the line of each, then those of the cells and the one that explains
-/// the run, and behind it what is asked for.
+/// Runs the events in a new world, and writes the line of each, then those of the cells and the one
+/// that explains the run, and behind it what is asked for.
 fn run_script<W: Write>(
     alloc: Global,
     set: ChainSet,
@@ -261,10 +260,10 @@ fn run_script<W: Write>(
     Ok(ending)
 }
 
-/// Judges the set text and then the script, runs the script in a new world, and writes a line for each event, a
-/// line for each nonzero cell, and the line of an order that explains the run, or of a cycle; behind it what the
-/// options ask for. Where the set is accepted it is an order. The last lines take n log n steps for n touches of all
-/// entries.
+/// Judges the set text and then the script, runs the script in a new world, and writes a line for
+/// each event, a line for each nonzero cell, and the line of an order that explains the run, or of
+/// a cycle; behind it what the options ask for. Where the set is accepted it is an order. The last
+/// lines take n log n steps for n touches of all entries.
 pub fn run_texts<W: Write>(
     alloc: Global,
     set: &[u8],

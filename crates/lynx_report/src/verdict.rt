@@ -13,12 +13,12 @@ ghost use Rattle.lynx_report.specs.Written.{AppendsPart};
 use crate::options::CheckOptions;
 use crate::run::{RunFault, read_set};
 use crate::writing::write_bytes;
-use lynx_graph::Visit;
-use lynx_names::Memory;
-use lynx_print::conflict_line;
-use lynx_set::ChainSet;
 use lynx_check::{AcceptedSet, Reason, Verdict, check};
+use lynx_graph::Visit;
+use lynx_lines::conflict_line;
+use lynx_names::Memory;
 use lynx_reasons::why;
+use lynx_set::ChainSet;
 use std::alloc::{AllocError, Global};
 use std::io::Write;
 
@@ -29,16 +29,18 @@ pub enum Finding {
     Offending,
 }
 
-/// Judges a set text, and writes `accepted` where no closed walk offends, `accepted by blocks` where no walk of blocks
-/// does, else `offending` and a line for each conflict edge of a closed walk that offends; and behind that what the
-/// options ask for. `RunFault::Script` is never its fault.
+/// Judges a set text, and writes `accepted` where no closed walk offends, `accepted by blocks`
+/// where no walk of blocks does, else `offending` and a line for each conflict edge of a closed
+/// walk that offends; and behind that what the options ask for. `RunFault::Script` is never its
+/// fault.
 pub fn check_text<W: Write>(
     alloc: Global,
     set: &[u8],
     options: CheckOptions,
     writer: &mut W,
 ) -> Result<Finding, RunFault>
-    ensures ok { IfOk result (λ finding. (printed : List ℕ) × Finds options.why set.now finding printed
+    ensures ok { IfOk result
+        (λ finding. (printed : List ℕ) × Finds options.why set.now finding printed
         × Appends (W.contents writer.old) (W.contents writer.new) printed) }
     ensures part { OnErr result (BeginsFinding options.why set.now (W.contents writer.old)
         (W.contents writer.new)) }

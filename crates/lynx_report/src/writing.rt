@@ -13,7 +13,7 @@ pub fn write_bytes<W: Write>(writer: &mut W, bytes: &[u8]) -> Result<(), RunFaul
         bytes.now) }
     ensures fault { IfErr result (λ fault. fault ≡ RunFault.Write) }
 {
-    match lynx_io::write_bytes(writer, bytes) {
+    match lynx_lines::write_bytes(writer, bytes) {
         Ok(()) => Ok(()),
         Err(_) => Err(RunFault::Write),
     }

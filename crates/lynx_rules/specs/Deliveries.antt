@@ -19,7 +19,8 @@ use Rattle.lynx_rules.specs.Checks.{same_numbers, is_well_formed}
 use Rattle.lynx_rules.specs.Lawful.{hop_entry_of, number_at}
 use Rattle.lynx_rules.specs.Answers.{is_full}
 
--- what comes of a delivery: its answer, the entry that is added, if one is, and the messages held after it
+-- what comes of a delivery: its answer, the entry that is added, if one is, and the messages held
+-- after it
 pub record Delivers : Type 0 where
   pub delivered : Delivered
   pub added : Option Entry
@@ -42,7 +43,8 @@ repeated set message (Hop ran) =
     then Repeat ran.stamp ran.results (next_message set (Hop ran))
     else Malformed
 
--- a message that comes before its turn is held, where there is room, in order of origin, index and hop
+-- a message that comes before its turn is held, where there is room, in order of origin, index and
+-- hop
 abbrev pub early : ℕ → List Message → Message → Delivers
 early room held message =
     if list_any (λ other. same_hop other message && not (same_message other message)) held
@@ -50,7 +52,11 @@ early room held message =
     else (if list_any (same_message message) held
     then record { delivered = Held; added = None; held = held }
     else (if nat_lt (length held) room
-    then record { delivered = Held; added = None; held = insert held (place_for message held) message }
+    then record {
+      delivered = Held;
+      added = None;
+      held = insert held (place_for message held) message;
+    }
     else record { delivered = Dropped; added = None; held = held }))
 
 -- a hop that ran on this message gives the entry with that stamp, and lets go what was held for it
@@ -65,15 +71,18 @@ done_at set held message stamp results =
 
 -- a hop whose turn it is came out so; a later hop has no needs, so none refuses
 abbrev pub done_by : Set → History → List Message → Message → HopOutcome → Delivers
-done_by set history held message (Ok outcome) = done_at set held message (max (clock_of history) message.stamp + 1) outcome.0
-done_by set history held message (Err need) = record { delivered = Malformed; added = None; held = held }
+done_by set history held message (Ok outcome) =
+    done_at set held message (max (clock_of history) message.stamp + 1) outcome.0
+done_by set history held message (Err need) =
+    record { delivered = Malformed; added = None; held = held }
 
 -- a well formed message of a hop that hasn't run, by its number and the turn
 abbrev pub deliver_by_turn : Set → ℕ → ℕ → History → List Message → Message → ℕ → ℕ → Delivers
 deliver_by_turn set server room history held message number turn =
     if nat_lt number turn then record { delivered = Malformed; added = None; held = held }
     else (if nat_lt turn number then early room held message
-    else (if is_full history message.stamp then record { delivered = Full; added = None; held = held }
+    else (if is_full history message.stamp
+    then record { delivered = Full; added = None; held = held }
     else done_by set history held message
     (meaning set message.program message.hop message.args message.results (tables_of set history))))
 
@@ -85,11 +94,12 @@ deliver_new set server room history held message None =
     (unwrap_or (number_at message.numbers server) 0)
     (turn_of set server history message.chain.origin)
 
--- The answer of a server with this history, which holds these messages and has room for so many: the first of
--- these whose condition holds. A message that nobody can have sent; a hop that ran; a hop whose turn it is not;
--- no room; else the hop runs.
+-- The answer of a server with this history, which holds these messages and has room for so many:
+-- the first of these whose condition holds. A message that nobody can have sent; a hop that ran; a
+-- hop whose turn it is not; no room; else the hop runs.
 abbrev pub delivery : Set → ℕ → ℕ → History → List Message → Message → Delivers
 delivery set server room history held message =
     if is_well_formed set server history message
-    then deliver_new set server room history held message (hop_entry_of message.chain message.hop history)
+    then deliver_new set server room history held message
+    (hop_entry_of message.chain message.hop history)
     else record { delivered = Malformed; added = None; held = held }

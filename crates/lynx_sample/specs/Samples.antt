@@ -1,14 +1,14 @@
 -- What a random script is to be, and why none comes.
 use Rattle.std.specs.Prelude.{◌≡◌, ◌⊎◌, ℕ, Bool, true, false, List, Option}
 use Rattle.std.specs.Io.KnownBytes.{Keeps}
-use Rattle.lynx_io.specs.Written.{AppendsPart}
+use Rattle.lynx_lines.specs.Written.{AppendsPart}
 use Rattle.lynx_names.specs.declared.chain.ChainId.{ChainId}
 use Rattle.lynx_set.specs.Rules.{IsSet}
 use Rattle.lynx_set.specs.Set.{Set}
 use Rattle.lynx_set.specs.Text.{text_of}
 use Rattle.lynx_entry.specs.declared.event.Event.{Event}
 use Rattle.lynx_order.specs.declared.explained.Explained.TheVariants.{Cycle}
-use Rattle.lynx_script.specs.Scripts.{IsScript, script_of}
+use Rattle.lynx_lines.specs.Scripts.{IsScript, script_of}
 use Rattle.lynx_world.specs.Placed.{Placed}
 use Rattle.lynx_world.specs.Worlds.{new_world}
 use Rattle.lynx_report.specs.declared.owed.OwedHop.{OwedHop}
@@ -45,8 +45,8 @@ pub record IsSample (cycle : Bool) (set script : List ℕ) : Type 0 where
   pub spelled : set ≡ text_of chains
   pub sample : IsSampleOver cycle chains script
 
--- why no script comes, and that nothing is written but where writing fails: the text is that of no set, as for a picture;
--- or no cycle was found; or the script would be too long
+-- why no script comes, and that nothing is written but where writing fails: the text is that of no
+-- set, as for a picture; or no cycle was found; or the script would be too long
 abbrev pub NoSampleFor : Bool → List ℕ → Type 0 → SampleFault → Type 0
 NoSampleFor cycle set unwritten (Run fault) = NoPictureFor set unwritten fault
 NoSampleFor cycle set unwritten NoCycle = (cycle ≡ true) × unwritten
@@ -54,4 +54,5 @@ NoSampleFor cycle set unwritten TooLong = unwritten
 
 -- Where a fault stops it, nothing is written, or a beginning of such a script.
 abbrev pub BeginsSample : Bool → List ℕ → Option (List ℕ) → Option (List ℕ) → Type 0
-BeginsSample cycle set old new = Keeps old new ⊎ ((script : List ℕ) × IsSample cycle set script × AppendsPart old new script)
+BeginsSample cycle set old new =
+    Keeps old new ⊎ ((script : List ℕ) × IsSample cycle set script × AppendsPart old new script)

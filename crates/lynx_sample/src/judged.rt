@@ -7,16 +7,17 @@ ghost use Rattle.lynx_sample.specs.inner.Found.{NotFoundFor};
 
 use crate::fault::SampleFault;
 use lynx_entry::Event;
+use lynx_lex::{FaultKind, TextFault};
+use lynx_lines::parse_script;
 use lynx_names::{Memory, TryCopy};
 use lynx_order::{Explained, explain};
 use lynx_report::{RunFault, owed_hops, run_in_new_world};
-use lynx_script::parse_script;
 use lynx_set::ChainSet;
-use lynx_lex::{FaultKind, TextFault};
 use lynx_world::World;
 use std::alloc::Global;
 
-/// Whether the text is that of a script whose run leaves no hop owed and, where a cycle is asked for, ends with one.
+/// Whether the text is that of a script whose run leaves no hop owed and, where a cycle is asked
+/// for, ends with one.
 pub(crate) fn is_sample(
     alloc: Global,
     set: &ChainSet,
@@ -59,7 +60,8 @@ fn run_ends_well(
     ends_well(alloc, &ran.world, cycle)
 }
 
-/// Whether no chain of the world owes a hop and, where a cycle is asked for, one explains the world.
+/// Whether no chain of the world owes a hop and, where a cycle is asked for, one explains the
+/// world.
 fn ends_well(alloc: Global, world: &World, cycle: bool) -> Result<bool, Memory>
     ensures { IfOk result (λ well. IsTrue well → EndsWell cycle world.now.set world.now.list) }
 {

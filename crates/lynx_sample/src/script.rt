@@ -4,7 +4,7 @@ ghost use Rattle.std.specs.String.{string_bytes};
 ghost use Rattle.lynx_lex.specs.Lines.{line, spaced};
 ghost use Rattle.lynx_set.specs.Text.{name_at};
 ghost use Rattle.lynx_set.specs.Lookups.{program_names};
-ghost use Rattle.lynx_script.specs.Scripts.{begin_words, event_words, script_of};
+ghost use Rattle.lynx_lines.specs.Scripts.{begin_words, event_words, script_of};
 
 use lynx_entry::{Event, Request};
 use lynx_names::{ProgramId, ServerId};
@@ -12,8 +12,8 @@ use lynx_set::ChainSet;
 use std::alloc::{AllocError, Global};
 use std::fmt::Write;
 
-/// The one text of these events. A program that the set hasn't is spelled by no byte, and the text may be longer than
-/// a script may be.
+/// The one text of these events. A program that the set hasn't is spelled by no byte, and the text
+/// may be longer than a script may be.
 pub fn script_text(alloc: Global, set: &ChainSet, events: &[Event]) -> Result<String, AllocError>
     ensures { IfOk result (λ text. string_bytes text ≡ script_of set.now events.now) }
 {

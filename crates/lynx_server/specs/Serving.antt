@@ -48,8 +48,15 @@ pub record Serving (K : Type 0) : Type 0 where
 abbrev pub serving_code : {K : Type 0} → Coded K → Coded (Serving K)
 serving_code {K} keeper =
     code_by (Set × (ℕ × (History × (List Message × (Bool × (ℕ × (List Bool × K)))))))
-    (coded× set.the_row.coded (coded× coded_ℕ (coded× (coded_list entry.the_row.coded) (coded× (coded_list message.the_row.coded) (coded× coded_bool (coded× coded_ℕ (coded× (coded_list coded_bool) keeper)))))))
-    (λ s. (s.set, (s.server, (s.history, (s.held, (s.is_stopped, (s.opened, (s.acknowledged, s.keeper))))))))
+    (coded× set.the_row.coded
+    (coded× coded_ℕ
+    (coded× (coded_list entry.the_row.coded)
+    (coded× (coded_list message.the_row.coded)
+    (coded× coded_bool (coded× coded_ℕ (coded× (coded_list coded_bool) keeper)))))))
+    (λ s. (
+      s.set,
+      (s.server, (s.history, (s.held, (s.is_stopped, (s.opened, (s.acknowledged, s.keeper)))))),
+    ))
     (λ p. record {
       set = p.0;
       server = p.1.0;
@@ -62,17 +69,20 @@ serving_code {K} keeper =
     })
     (λ _. refl)
 
--- no draw is out; the keeper has history and tables, unless the server stopped, which it did where the keeper failed;
--- each entry has room for its mark
-pub record IsServing {K : Type 0} (terms : Terms K) (books : BooksState) (is_stopped : Bool) (opened : ℕ) (marks_room : ℕ) (keeper : K) : Type 0 where
+-- no draw is out; the keeper has history and tables, unless the server stopped, which it did where
+-- the keeper failed; each entry has room for its mark
+pub record IsServing {K : Type 0} (terms : Terms K) (books : BooksState) (is_stopped : Bool)
+    (opened : ℕ) (marks_room : ℕ) (keeper : K) : Type 0 where
   pub free : books.out ≡ None
-  pub kept : is_stopped ≡ false → terms.sound keeper → terms.keeps keeper (kept_of books.set books.history)
+  pub kept : is_stopped ≡ false → terms.sound keeper
+      → terms.keeps keeper (kept_of books.set books.history)
   pub opened_before : opened ≤ terms.counted keeper
   pub stopped : is_stopped ≡ true → HasRisen opened (terms.counted keeper)
   pub markable : length books.history ≤ marks_room
 
 -- a call of a server added this entry or none, and it holds these messages now
-pub record Becomes {K : Type 0} (old : Serving K) (added : Option Entry) (held : List Message) (new : Serving K) : Type 0 where
+pub record Becomes {K : Type 0} (old : Serving K) (added : Option Entry) (held : List Message)
+    (new : Serving K) : Type 0 where
   pub set_is : new.set ≡ old.set
   pub server_is : new.server ≡ old.server
   pub history_is : new.history ≡ grown old.history added
@@ -92,31 +102,38 @@ pub record HasStopped {K : Type 0} (terms : Terms K) (old new : Serving K) : Typ
   pub acknowledged_is : new.acknowledged ≡ old.acknowledged
   pub rose : HasRisen (terms.counted old.keeper) (terms.counted new.keeper)
 
--- What a call of a server that ran, and that may add this entry, leaves of its keeper: a stop leaves what was kept
--- before the call, or that with the whole entry; while the server runs on, a stop leaves all that it did.
-pub record Lasts {K : Type 0} (terms : Terms K) (old : Serving K) (added : Option Entry) (new : Serving K) : Type 0 where
+-- What a call of a server that ran, and that may add this entry, leaves of its keeper: a stop
+-- leaves what was kept before the call, or that with the whole entry; while the server runs on, a
+-- stop leaves all that it did.
+pub record Lasts {K : Type 0} (terms : Terms K) (old : Serving K) (added : Option Entry)
+    (new : Serving K) : Type 0 where
   pub sound_before : terms.sound new.keeper → terms.sound old.keeper
-  pub stop : terms.sound new.keeper → terms.leaves new.keeper (kept_of old.set old.history) (kept_of old.set (grown old.history added))
-  pub kept : new.is_stopped ≡ false → terms.sound new.keeper → terms.leaves new.keeper (kept_of new.set new.history) (kept_of new.set new.history)
+  pub stop : terms.sound new.keeper
+      → terms.leaves new.keeper (kept_of old.set old.history)
+      (kept_of old.set (grown old.history added))
+  pub kept : new.is_stopped ≡ false → terms.sound new.keeper
+      → terms.leaves new.keeper (kept_of new.set new.history) (kept_of new.set new.history)
 
 -- what comes of a begin here
 abbrev pub begins_here : {K : Type 0} → Serving K → Request → ℕ → AnsweredSo
 begins_here old request seen = answer old.set old.server old.history request seen
 
 -- a begin was answered by its definition
-pub record IsAnswered {K : Type 0} (old : Serving K) (request : Request) (seen : ℕ) (given : Answer) (new : Serving K) : Type 0 where
+pub record IsAnswered {K : Type 0} (old : Serving K) (request : Request) (seen : ℕ) (given : Answer)
+    (new : Serving K) : Type 0 where
   pub answer_is : given ≡ (begins_here old request seen).answer
   pub becomes : Becomes old (begins_here old request seen).added old.held new
 
--- A begin at a server that runs: want of memory changes nothing, a failed keeper stops the server and adds nothing, and
--- each other answer is the definition's.
+-- A begin at a server that runs: want of memory changes nothing, a failed keeper stops the server
+-- and adds nothing, and each other answer is the definition's.
 abbrev pub Begins : {K : Type 0} → Terms K → Serving K → Request → ℕ → Answer → Serving K → Type 0
 Begins terms old request seen Memory new = Becomes old None old.held new
 Begins terms old request seen Stopped new = HasStopped terms old new
 Begins terms old request seen given new = IsAnswered old request seen given new
 
 -- a delivery that is the definition's
-pub record IsDelivered {K : Type 0} (old : Serving K) (delivers : DeliveredSo) (given : Delivered) (new : Serving K) : Type 0 where
+pub record IsDelivered {K : Type 0} (old : Serving K) (delivers : DeliveredSo) (given : Delivered)
+    (new : Serving K) : Type 0 where
   pub delivered_is : given ≡ delivers.delivered
   pub becomes : Becomes old delivers.added delivers.held new
 
@@ -124,8 +141,8 @@ pub record IsDelivered {K : Type 0} (old : Serving K) (delivers : DeliveredSo) (
 abbrev pub delivery_of : {K : Type 0} → Serving K → Message → DeliveredSo
 delivery_of old message = delivery old.set old.server MAX_HELD old.history old.held message
 
--- A delivery at a server that runs: want of memory changes nothing, a failed keeper stops the server and adds nothing,
--- and each other answer is the definition's.
+-- A delivery at a server that runs: want of memory changes nothing, a failed keeper stops the
+-- server and adds nothing, and each other answer is the definition's.
 abbrev pub Delivers : {K : Type 0} → Terms K → Serving K → Message → Delivered → Serving K → Type 0
 Delivers terms old message WithoutMemory new = Becomes old None old.held new
 Delivers terms old message StoppedThen new = HasStopped terms old new
@@ -141,22 +158,30 @@ is_put_off delivered = false
 -- the held message that a server delivers when it wakes
 abbrev pub woken_of : {K : Type 0} → Serving K → Option Message
 woken_of old =
-    least_of (filter (λ message. unwrap_or (number_at message.numbers old.server) 0 == turn_of old.set old.server old.history message.chain.origin) old.held)
+    least_of (filter
+    (λ message. unwrap_or (number_at message.numbers old.server) 0 == turn_of old.set old.server
+    old.history message.chain.origin) old.held)
 
--- a held message was delivered by its definition, and is let go unless there was no room for its entry
-pub record IsWoken {K : Type 0} (old : Serving K) (message : Message) (given : Delivered) (new : Serving K) : Type 0 where
+-- a held message was delivered by its definition, and is let go unless there was no room for its
+-- entry
+pub record IsWoken {K : Type 0} (old : Serving K) (message : Message) (given : Delivered)
+    (new : Serving K) : Type 0 where
   pub delivered_is : given ≡ (delivery_of old message).delivered
   pub becomes : Becomes old (delivery_of old message).added
-      (if is_put_off given then (delivery_of old message).held else filter (λ other. not (is_for message.chain message.hop other)) (delivery_of old message).held) new
+      (if is_put_off given then (delivery_of old message).held else filter
+      (λ other. not (is_for message.chain message.hop other)) (delivery_of old message).held)
+      new
 
 -- what came of a held message
-abbrev pub DeliversWoken : {K : Type 0} → Terms K → Serving K → Message → Delivered → Serving K → Type 0
+abbrev pub DeliversWoken : {K : Type 0} → Terms K → Serving K → Message → Delivered → Serving K
+    → Type 0
 DeliversWoken terms old message WithoutMemory new = Becomes old None old.held new
 DeliversWoken terms old message StoppedThen new = HasStopped terms old new
 DeliversWoken terms old message given new = IsWoken old message given new
 
 -- that message was woken
-pub record WakesOne {K : Type 0} (terms : Terms K) (old : Serving K) (woken : Woken) (new : Serving K) : Type 0 where
+pub record WakesOne {K : Type 0} (terms : Terms K) (old : Serving K) (woken : Woken)
+    (new : Serving K) : Type 0 where
   pub message : Message
   pub message_is : woken_of old ≡ Some message
   pub chain_is : woken.chain ≡ message.chain
@@ -176,4 +201,5 @@ woken_entry old (Some message) = (delivery_of old message).added
 -- what is told of the held message that would be woken
 abbrev pub told_stopped : Option Message → Option Woken
 told_stopped None = None
-told_stopped (Some message) = Some (record { chain = message.chain; hop = message.hop; delivered = StoppedThen })
+told_stopped (Some message) =
+    Some (record { chain = message.chain; hop = message.hop; delivered = StoppedThen })

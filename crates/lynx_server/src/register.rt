@@ -1,4 +1,5 @@
-//! The books of a server with indexes: where the record of each request is, and the entry of each later hop.
+//! The books of a server with indexes: where the record of each request is, and the entry of each
+//! later hop.
 ghost use Rattle.std.specs.Prelude.{◌≡◌, IfOk, OnErr, OnOk, [], option_copied};
 ghost use Rattle.lynx_rules.specs.Lawful.{hop_entry_of, record_of};
 ghost use Rattle.lynx_server.specs.Acts.{act_of};
@@ -178,11 +179,15 @@ impl Register {
         ensures delivered { IfOk result (λ delivered. delivered
             ≡ (due_delivery self.old message).delivered) }
         ensures grown { OnOk result (self.new
-            ≡ record self.old { history = grown self.old.history (due_delivery self.old message).added }) }
+            ≡ record self.old {
+              history = grown self.old.history
+                  (due_delivery self.old message).added;
+            }) }
         ensures err { OnErr result (self.new ≡ self.old) }
         ensures commits { Commits K.terms keeper.old keeper.new
             (kept_of self.old.set self.old.history)
-            (kept_of self.old.set (grown self.old.history (due_delivery self.old message).added)) result }
+            (kept_of self.old.set (grown self.old.history (due_delivery self.old message).added))
+            result }
     {
         let chain = message.chain;
         let key = ((chain.origin, chain.index), message.hop);

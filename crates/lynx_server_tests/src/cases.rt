@@ -1,9 +1,9 @@
 //! Cases: a server of a set, and rows of steps.
 use crate::steps::{Step, comes_out};
-use lynx_keep::{FaultKeeper, MemoryKeeper, Planned};
-use lynx_names::Memory;
 use lynx_fixtures::made::{self, boxed};
 use lynx_fixtures::texts::set_of;
+use lynx_keep::{FaultKeeper, MemoryKeeper, Planned};
+use lynx_names::Memory;
 use lynx_server::Server;
 use std::alloc::Global;
 
@@ -60,7 +60,8 @@ pub fn come_out(
     Ok(true)
 }
 
-/// How many lives of the server come out as the case says, before one that doesn't or before its end.
+/// How many lives of the server come out as the case says, before one that doesn't or before its
+/// end.
 pub fn lives(alloc: Global, case: &Case) -> Result<usize, Memory> {
     let mut server = made(alloc, case)?;
     for (count, rows) in case.lives.iter().enumerate() {

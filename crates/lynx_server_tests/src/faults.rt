@@ -2,13 +2,13 @@
 use crate::cases::{Case, Row, lives};
 use crate::payments::NEXT;
 use crate::steps::Step;
-use lynx_keep::Planned;
 use lynx_fixtures::parts::{AnswerParts, DeliveredParts};
 use lynx_fixtures::payments::{
     DONE_AT_FOUR, DONE_AT_THREE, PAY, PAY_BEGUN, PAY_BEGUN_AGAIN, REPEATED_AT_THREE, SEED,
     SEED_BEGUN, SENT,
 };
 use lynx_fixtures::texts::PAYMENT;
+use lynx_keep::Planned;
 
 /// The same request begins with the index and the stamp that it would have had.
 const BEGUN_WITHOUT_MEMORY: &[Row] = &[
@@ -17,7 +17,8 @@ const BEGUN_WITHOUT_MEMORY: &[Row] = &[
     (Step::Begin(PAY, 0, PAY_BEGUN), 2, 0),
 ];
 
-/// After the failed commit all is answered so, also a request that is recorded, and nothing is added.
+/// After the failed commit all is answered so, also a request that is recorded, and nothing is
+/// added.
 const STOPPED_BY_A_BEGIN: &[Row] = &[
     (Step::Begin(SEED, 0, SEED_BEGUN), 1, 0),
     (Step::Begin(PAY, 0, AnswerParts::Stopped), 1, 0),

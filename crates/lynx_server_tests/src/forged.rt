@@ -1,18 +1,19 @@
-//! Messages that may not run: those that nobody can have sent, those out of turn, and those past the last stamp.
+//! Messages that may not run: those that nobody can have sent, those out of turn, and those past
+//! the last stamp.
 use crate::cases::{Case, NEVER, Row, come_out, made};
 use crate::steps::Step;
 use lynx_entry::Delivered;
-use lynx_keep::FaultKeeper;
-use lynx_names::Memory;
-use lynx_names::limits::STAMP_LIMIT;
 use lynx_fixtures::made::message;
 use lynx_fixtures::parts::{AnswerParts, DeliveredParts, MessageParts, RequestParts};
 use lynx_fixtures::payments::DONE_AT_THREE;
+use lynx_keep::FaultKeeper;
+use lynx_names::Memory;
+use lynx_names::limits::STAMP_LIMIT;
 use lynx_server::Server;
 use std::alloc::Global;
 
-/// Its programs move an amount from the first server to a cell of the second, and come back; the second program
-/// then goes there once more.
+/// Its programs move an amount from the first server to a cell of the second, and come back; the
+/// second program then goes there once more.
 const MOVE: &str =
     "lynx 1\nservers 2\ntable acct\nshard 0 999 0\nshard 1000 18446744073709551615 1\nprogram move to n\nhop 0\nget x acct 0\nsub acct 0 n\nhop 1\nadd acct to n\nhop 0\nadd acct 1 1\nend\nprogram round to n\nhop 0\nget x acct 0\nsub acct 0 n\nhop 1\nadd acct to n\nhop 0\nadd acct 1 1\nhop 1\nadd acct to 1\nend\n";
 
@@ -99,7 +100,8 @@ const BEGUN: AnswerParts = AnswerParts::Begun {
     again: false,
 };
 
-/// Messages of the next move with a number whose turn is over, and of one after it, whose turn is later.
+/// Messages of the next move with a number whose turn is over, and of one after it, whose turn is
+/// later.
 const TURN_OVER: MessageParts = MessageParts {
     numbers: &[(0, 1), (1, 0)],
     ..NEXT
@@ -182,9 +184,9 @@ struct Forged {
     after: &'static [Row],
 }
 
-/// Messages to server 1, where nothing happened yet: no such program; a hop of server 0, and one past the last; other
-/// origins; arguments too few and too many; a key of server 0; servers too few, too many and another one; results of
-/// hops too few and too many, and of one hop.
+/// Messages to server 1, where nothing happened yet: no such program; a hop of server 0, and one
+/// past the last; other origins; arguments too few and too many; a key of server 0; servers too
+/// few, too many and another one; results of hops too few and too many, and of one hop.
 const NOBODY_SENT: Forged = Forged {
     name: "messages that nobody sent",
     server: 1,
@@ -210,8 +212,8 @@ const NOBODY_SENT: Forged = Forged {
     after: &[(Step::Deliver(THERE, DONE), 1, 0)],
 };
 
-/// Messages to server 0, where the first move begins: for its first hop, which no message is for, and of another chain,
-/// program, argument and number.
+/// Messages to server 0, where the first move begins: for its first hop, which no message is for,
+/// and of another chain, program, argument and number.
 const BEGUN_OTHERWISE: Forged = Forged {
     name: "chains that began otherwise",
     server: 0,
@@ -230,8 +232,8 @@ const BEGUN_OTHERWISE: Forged = Forged {
     after: &[(Step::Deliver(BACK, DONE_AT_THREE), 2, 0)],
 };
 
-/// A hop runs once, on one message. A round keeps its turn, so the turn forbids none of the others; nor is it the turn
-/// of the next move.
+/// A hop runs once, on one message. A round keeps its turn, so the turn forbids none of the others;
+/// nor is it the turn of the next move.
 const RAN_BEFORE: Forged = Forged {
     name: "a hop that ran before",
     server: 1,
@@ -252,7 +254,8 @@ const RAN_BEFORE: Forged = Forged {
     ],
 };
 
-/// The next move waits for its turn. One whose turn is over is malformed, and one whose turn is later waits.
+/// The next move waits for its turn. One whose turn is over is malformed, and one whose turn is
+/// later waits.
 const TURNS: Forged = Forged {
     name: "turns",
     server: 1,
@@ -269,8 +272,8 @@ const TURNS: Forged = Forged {
     ],
 };
 
-/// A hop has no stamp left above its message's, or above that of the server's last entry; but a message is judged before
-/// its stamp is.
+/// A hop has no stamp left above its message's, or above that of the server's last entry; but a
+/// message is judged before its stamp is.
 const LAST_STAMPS: Forged = Forged {
     name: "the last stamps",
     server: 1,

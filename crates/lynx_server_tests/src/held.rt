@@ -2,12 +2,12 @@
 use crate::cases::{Case, NEVER, made};
 use crate::steps::woken;
 use lynx_entry::{Delivered, Message};
-use lynx_keep::FaultKeeper;
-use lynx_names::limits::MAX_HELD;
-use lynx_names::{Memory, TableId};
 use lynx_fixtures::made::{boxed, message, numbers};
 use lynx_fixtures::payments::SENT;
 use lynx_fixtures::texts::PAYMENT;
+use lynx_keep::FaultKeeper;
+use lynx_names::limits::MAX_HELD;
+use lynx_names::{Memory, TableId};
 use lynx_server::Server;
 use std::alloc::Global;
 
@@ -62,8 +62,8 @@ const SECOND: Case = Case {
     lives: &[],
 };
 
-/// One early message is dropped; those that are held run when the first payment came, and then the dropped one does: 66
-/// payments of 30.
+/// One early message is dropped; those that are held run when the first payment came, and then the
+/// dropped one does: 66 payments of 30.
 fn holds_as_many(alloc: Global) -> Result<bool, Memory> {
     let table = TableId::new(0).ok_or(Memory)?;
     let mut server = made(alloc, &SECOND)?;

@@ -1,17 +1,17 @@
 //! Histories, and the first entry of each that no server has there.
-use lynx_names::Memory;
 use lynx_fixtures::made::{entries, server};
 use lynx_fixtures::parts::{BegunParts, EntryParts, RequestParts};
 use lynx_fixtures::payments::{AT_FIRST, PAID, PAY, SEEDED};
 use lynx_fixtures::texts::{PAYMENT, set_of};
+use lynx_names::Memory;
 use lynx_server::first_unlawful;
 use std::alloc::Global;
 
 const SEED_ENTRY: EntryParts = EntryParts::Begun(SEEDED);
 
-/// As they were kept; without the first entry, and with that one once more; and with a change of the payment's: another
-/// number, which is the seed's, program, list of arguments, stamp seen, index, origin, list of numbers, stamp, and list of
-/// results.
+/// As they were kept; without the first entry, and with that one once more; and with a change of
+/// the payment's: another number, which is the seed's, program, list of arguments, stamp seen,
+/// index, origin, list of numbers, stamp, and list of results.
 const HISTORIES: &[(&[EntryParts], Option<u64>)] = &[
     (AT_FIRST, None),
     (&[EntryParts::Begun(PAID)], Some(0)),

@@ -1,10 +1,10 @@
 //! A message for a hop past the last of eight, by its form.
 use crate::rebuilt::rebuilt;
-use lynx_entry::Delivered;
 use lynx_codec::{DecodeFault, Feed, Item, encode};
-use lynx_keep::MemoryKeeper;
+use lynx_entry::Delivered;
 use lynx_fixtures::made::entries;
 use lynx_fixtures::parts::{BegunParts, EntryParts, RequestParts};
+use lynx_keep::MemoryKeeper;
 use lynx_server::{OpenFault, Server};
 use std::alloc::Global;
 
@@ -29,8 +29,9 @@ const FAR: EntryParts = EntryParts::Begun(BegunParts {
     results: &[],
 });
 
-/// The form of a message of that chain for hop 8, which would be the ninth: the origin, the index, the program, the hop,
-/// the stamp 8, no arguments, the number 0 for server 0, and eight lists without results.
+/// The form of a message of that chain for hop 8, which would be the ninth: the origin, the index,
+/// the program, the hop, the stamp 8, no arguments, the number 0 for server 0, and eight lists
+/// without results.
 const PAST_THE_LAST: [u8; 44] = [
     0x21, 0, 0, 0, 39, 0, 0, 0, 0, 0, 0, 0, 0, 0, 0, 8, 0, 0, 0, 0, 0, 0, 0, 8, 0, 1, 0, 0, 0, 0,
     0, 0, 0, 0, 0, 8, 0, 0, 0, 0, 0, 0, 0, 0,

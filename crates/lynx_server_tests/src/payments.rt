@@ -1,13 +1,13 @@
 //! Payments, trips and the last stamp, as one server sees them.
 use crate::cases::{Case, NEVER, Row, lives};
 use crate::steps::Step;
-use lynx_names::limits::STAMP_LIMIT;
 use lynx_fixtures::parts::{AnswerParts, DeliveredParts, MessageParts, RequestParts};
 use lynx_fixtures::payments::{
     DONE_AT_FOUR, DONE_AT_THREE, PAY, PAY_BEGUN, PAY_BEGUN_AGAIN, REPEATED_AT_THREE, SEED,
     SEED_BEGUN, SENT,
 };
 use lynx_fixtures::texts::{PAYMENT, PAYMENT_AND_PUT, TRIP};
+use lynx_names::limits::STAMP_LIMIT;
 
 /// Another seed under the number of the first one.
 const OTHER_SEED: RequestParts = RequestParts {
@@ -79,7 +79,8 @@ const PAYING: &[Row] = &[
     (Step::Owes(1, 1, SENT), 3, 0),
     (Step::OwesNothing(2), 3, 0),
     (Step::OwesNothing(u64::MAX), 3, 0),
-    // What no entry here sends can't be acknowledged: a first hop, one after the last, a chain that didn't begin.
+    // What no entry here sends can't be acknowledged: a first hop, one after the last, a chain that
+    // didn't begin.
     (Step::Acknowledge(1, 0), 3, 0),
     (Step::Acknowledge(1, 2), 3, 0),
     (Step::Acknowledge(7, 1), 3, 0),
@@ -88,7 +89,8 @@ const PAYING: &[Row] = &[
     (Step::OwesNothing(0), 3, 0),
 ];
 
-/// What it is asked then: acknowledgements are forgotten, and a stamp is above what the session was told.
+/// What it is asked then: acknowledgements are forgotten, and a stamp is above what the session was
+/// told.
 const PAYING_ON: &[Row] = &[
     (Step::Begin(PAY, 0, PAY_BEGUN_AGAIN), 3, 0),
     (Step::Owes(0, 1, SENT), 3, 0),

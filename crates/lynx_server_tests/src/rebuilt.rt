@@ -1,11 +1,11 @@
 //! Servers that are made of a history, or opened over what a keeper keeps.
 use lynx_entry::Answer;
-use lynx_keep::{Keeper, MemoryKeeper};
-use lynx_names::{ServerId, Stamp};
 use lynx_fixtures::made::{boxed, entries, request};
 use lynx_fixtures::parts::{EntryParts, RequestParts};
 use lynx_fixtures::payments::{AT_FIRST, PAID, PAY};
 use lynx_fixtures::texts::{PAYMENT, set_of};
+use lynx_keep::{Keeper, MemoryKeeper};
+use lynx_names::{ServerId, Stamp};
 use lynx_server::{OpenFault, Server, rebuild};
 use std::alloc::Global;
 

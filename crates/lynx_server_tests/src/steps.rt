@@ -1,9 +1,9 @@
 //! What is done to a server, and what comes of it.
 use lynx_entry::Message;
-use lynx_keep::FaultKeeper;
-use lynx_names::{Memory, TableId};
 use lynx_fixtures::made::{answer, boxed, chain, delivered, message, request, stamp};
 use lynx_fixtures::parts::{AnswerParts, DeliveredParts, MessageParts, RequestParts};
+use lynx_keep::FaultKeeper;
+use lynx_names::{Memory, TableId};
 use lynx_server::{Server, Woken};
 use std::alloc::Global;
 

@@ -4,12 +4,11 @@ ghost use Rattle.lynx_service.specs.Services.{IsEnded, IsExplainedBy, last_lines
 
 use crate::fault::ServeFault;
 use lynx_cluster::Closed;
-use lynx_io::write_bytes;
 use lynx_keep::Keeper;
+use lynx_lines::{chains_line, write_bytes};
 use lynx_names::ServerId;
 use lynx_order::{Explained, explain};
-use lynx_print::chains_line;
-use lynx_stores::Stores;
+use lynx_store_files::Stores;
 use lynx_world::World;
 use std::alloc::Global;
 use std::io::Write;

@@ -1,7 +1,7 @@
 //! The desk of one client: its session with a cluster.
 use lynx_cluster::{Front, Gate, Session};
-use lynx_entry::{Answer, Request};
 use lynx_codec::Looked;
+use lynx_entry::{Answer, Request};
 use lynx_keep::Keeper;
 use lynx_names::{ChainId, Memory};
 use lynx_port::Desk;

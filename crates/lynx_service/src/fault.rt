@@ -1,6 +1,6 @@
 //! Why a service didn't begin, or didn't end well.
 use lynx_cluster::{CloseFault, StartFault};
-use lynx_io::WriteFailed;
+use lynx_lines::WriteFailed;
 use lynx_names::{Memory, ServerId};
 use lynx_server::OpenFault;
 use lynx_store::StoreFault;
@@ -35,8 +35,9 @@ pub enum CloseWord {
     Uncounted,
 }
 
-/// Why a service didn't begin, or didn't end well. What was stored stands. The number of a server is a plain one, so
-/// that a fault may lie in a value that borrows (docs/DECISIONS.md, Program, input and output).
+/// Why a service didn't begin, or didn't end well. What was stored stands. The number of a server
+/// is a plain one, so that a fault may lie in a value that borrows (docs/DECISIONS.md, Program,
+/// input and output).
 #[derive(Clone, Copy, Debug, PartialEq, Eq, Error)]
 pub enum ServeFault {
     /// The store of that server can't be opened, or could not be closed.

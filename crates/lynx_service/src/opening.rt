@@ -3,7 +3,7 @@ use crate::fault::ServeFault;
 use crate::progress::Progress;
 use lynx_names::ServerId;
 use lynx_set::ChainSet;
-use lynx_stores::Stores;
+use lynx_store_files::Stores;
 use std::alloc::Global;
 use std::net::{Ipv4Addr, Net, SocketAddr, TcpListener, TcpStream};
 
@@ -27,7 +27,8 @@ pub(crate) fn open_keepers<K: Drop, S: Stores<K>>(
     Ok(keepers)
 }
 
-/// Listens at the port of this machine itself, and gives the address, in which a port 0 is one that was free.
+/// Listens at the port of this machine itself, and gives the address, in which a port 0 is one that
+/// was free.
 pub(crate) fn listen<R: Net<Listener = TcpListener, Stream = TcpStream>>(
     rt: &R,
     port: u16,

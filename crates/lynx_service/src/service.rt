@@ -8,11 +8,11 @@ use crate::fault::ServeFault;
 use crate::opening::{listen, open_keepers};
 use crate::progress::Progress;
 use lynx_cluster::{Cluster, OpenGate, Session};
-use lynx_io::write_bytes;
 use lynx_keep::Keeper;
+use lynx_lines::write_bytes;
 use lynx_order::Explained;
 use lynx_set::ChainSet;
-use lynx_stores::Stores;
+use lynx_store_files::Stores;
 use std::alloc::Global;
 use std::io::Write;
 use std::net::{Net, SocketAddr, TcpListener, TcpStream};
@@ -68,13 +68,14 @@ fn serve_when_told<
     (sessions, written)
 }
 
-/// Serves clients over the stores of a folder, until one of them asks for the end: opens the stores by number, then the
-/// port, then the cluster, writes `listening 127.0.0.1:PORT`, and in the end `closed` and the line of the order that
-/// explains all that the stores hold, or of a cycle. It gives that order or cycle. docs/FORMATS.md has what clients send
-/// and are sent, [`limits`](crate::limits) what a client may cost. The set is not judged.
+/// Serves clients over the stores of a folder, until one of them asks for the end: opens the stores
+/// by number, then the port, then the cluster, writes `listening 127.0.0.1:PORT`, and in the end
+/// `closed` and the line of the order that explains all that the stores hold, or of a cycle. It
+/// gives that order or cycle. docs/FORMATS.md has what clients send and are sent,
+/// [`limits`](crate::limits) what a client may cost. The set is not judged.
 ///
-/// The close takes about as long, and as much memory, as opening the stores did; the answers of a session, and what its
-/// looks found, are kept until then.
+/// The close takes about as long, and as much memory, as opening the stores did; the answers of a
+/// session, and what its looks found, are kept until then.
 pub fn serve_stores<
     R: Threads
         + Wait

@@ -32,10 +32,23 @@ abbrev pub plain_hop : Hop → PlainHop
 plain_hop hop = record { server = hop.server; actions = hop.actions }
 
 abbrev pub plain_program : Program → PlainProgram
-plain_program program = record { parameters = program.parameters; names = program.names; ranges = program.ranges; hops = map plain_hop program.hops }
+plain_program program =
+    record {
+      parameters = program.parameters;
+      names = program.names;
+      ranges = program.ranges;
+      hops = map plain_hop program.hops;
+    }
 
 abbrev pub plain_named : List ℕ × Program → List ℕ × PlainProgram
 plain_named named = (named.0, plain_program named.1)
 
 abbrev pub plain_set : Set → PlainSet
-plain_set set = record { version = set.version; servers = set.servers; tables = set.tables; shards = set.shards; programs = map plain_named set.programs }
+plain_set set =
+    record {
+      version = set.version;
+      servers = set.servers;
+      tables = set.tables;
+      shards = set.shards;
+      programs = map plain_named set.programs;
+    }

@@ -57,9 +57,14 @@ HasUpdate version update = Unit {0}
 -- what an action may say where it stands
 abbrev pub FitsAction : PlainScope → Action → Type 0
 FitsAction scope (Get table key) = FitsCell scope table key
-FitsAction scope (Update update table key value) = FitsCell scope table key × FitsOperand (length scope.names) value × HasUpdate scope.version update
-FitsAction scope (Let left operator right) = FitsOperand (length scope.names) left × FitsOperand (length scope.names) right
-FitsAction scope (Need left relation right) = (scope.is_first ≡ true) × FitsOperand (length scope.names) left × FitsOperand (length scope.names) right
+FitsAction scope (Update update table key value) =
+    FitsCell scope table key × FitsOperand (length scope.names) value
+    × HasUpdate scope.version update
+FitsAction scope (Let left operator right) =
+    FitsOperand (length scope.names) left × FitsOperand (length scope.names) right
+FitsAction scope (Need left relation right) =
+    (scope.is_first ≡ true) × FitsOperand (length scope.names) left
+    × FitsOperand (length scope.names) right
 
 -- an action binds a new name, or none
 abbrev pub BindsNew : PlainScope → Action → Option (List ℕ) → Type 0
@@ -76,13 +81,15 @@ bound (Some name) = name ∷ []
 
 -- where the action after one stands that binds this
 abbrev pub next_scope : PlainScope → Option (List ℕ) → PlainScope
-next_scope scope binds = record scope { names = scope.names ++ bound binds; actions = scope.actions + 1 }
+next_scope scope binds =
+    record scope { names = scope.names ++ bound binds; actions = scope.actions + 1 }
 
 -- actions that can follow one another, after which these names are known
 abbrev pub FitActions : PlainScope → List Action → List (List ℕ) → Type 0
 FitActions scope [] after = scope.names ≡ after
 FitActions scope (action ∷ actions) after =
-    (scope.actions < MAX_ACTIONS) × FitsAction scope action × (binds : Option (List ℕ)) × BindsNew scope action binds × FitActions (next_scope scope binds) actions after
+    (scope.actions < MAX_ACTIONS) × FitsAction scope action × (binds : Option (List ℕ))
+    × BindsNew scope action binds × FitActions (next_scope scope binds) actions after
 
 -- a program with one more hop, after which these names are known
 abbrev pub with_hop : PlainProgram → PlainHop → List (List ℕ) → PlainProgram
@@ -93,13 +100,16 @@ abbrev pub FitHops : PlainSet → PlainProgram → List PlainHop → List (List 
 FitHops set program [] after = program.names ≡ after
 FitHops set program (hop ∷ hops) after =
     (length program.hops < MAX_HOPS) × (hop.server < set.servers) × (0 < length hop.actions)
-    × (names : List (List ℕ)) × FitActions (scope_in set hop.server program []) hop.actions names × FitHops set (with_hop program hop names) hops after
+    × (names : List (List ℕ)) × FitActions (scope_in set hop.server program []) hop.actions names
+    × FitHops set (with_hop program hop names) hops after
 
--- ranges that can follow one another, of parameters from that one on: in order of the parameters, one for each at most
+-- ranges that can follow one another, of parameters from that one on: in order of the parameters,
+-- one for each at most
 abbrev pub FitRanges : ℕ → ℕ → List ParameterRange → Type 0
 FitRanges parameters first [] = Unit {0}
 FitRanges parameters first (range ∷ ranges) =
-    (first ≤ range.parameter) × (range.parameter < parameters) × (range.interval.low ≤ range.interval.high) × (range.interval.high < 2 ^ 64)
+    (first ≤ range.parameter) × (range.parameter < parameters)
+    × (range.interval.low ≤ range.interval.high) × (range.interval.high < 2 ^ 64)
     × FitRanges parameters (range.parameter + 1) ranges
 
 -- a version has ranges: version 2 does
@@ -116,7 +126,13 @@ pub record FitsProgram (set : PlainSet) (program : PlainProgram) : Type 0 where
   pub ranges : FitRanges (length parameters) 0 program.ranges
   pub has_ranges : HasRanges set.version program.ranges
   pub some : 0 < length program.hops
-  pub hops : FitHops set (record { parameters = length parameters; names = parameters; ranges = program.ranges; hops = [] }) program.hops program.names
+  pub hops : FitHops set
+      (record {
+        parameters = length parameters;
+        names = parameters;
+        ranges = program.ranges;
+        hops = [];
+      }) program.hops program.names
 
 abbrev pub with_program : PlainSet → List ℕ × PlainProgram → PlainSet
 with_program set program = record set { programs = set.programs ++ program ∷ [] }
@@ -125,35 +141,43 @@ with_program set program = record set { programs = set.programs ++ program ∷ [
 abbrev pub FitPrograms : PlainSet → List (List ℕ × PlainProgram) → Type 0
 FitPrograms set [] = Unit {0}
 FitPrograms set (program ∷ programs) =
-    (length set.programs < MAX_PROGRAMS) × IsNew (map (λ named. named.0) set.programs) program.0 × FitsProgram set program.1 × FitPrograms (with_program set program) programs
+    (length set.programs < MAX_PROGRAMS) × IsNew (map (λ named. named.0) set.programs) program.0
+    × FitsProgram set program.1 × FitPrograms (with_program set program) programs
 
 -- shards that can follow one another, to the greatest key
 abbrev pub FitShards : ℕ → List Shard → List Shard → Type 0
 FitShards servers before [] = next_key (last_key None before) ≡ 2 ^ 64
 FitShards servers before (shard ∷ shards) =
-    (length before < MAX_SHARDS) × (shard.low ≡ next_key (last_key None before)) × (shard.low ≤ shard.high) × (shard.high < 2 ^ 64) × (shard.server < servers)
+    (length before < MAX_SHARDS) × (shard.low ≡ next_key (last_key None before))
+    × (shard.low ≤ shard.high) × (shard.high < 2 ^ 64) × (shard.server < servers)
     × FitShards servers (before ++ shard ∷ []) shards
 
 abbrev pub with_table : PlainSet → List ℕ → List Shard → PlainSet
-with_table set name shards = record set { tables = set.tables ++ name ∷ []; shards = set.shards ++ shards ∷ [] }
+with_table set name shards =
+    record set { tables = set.tables ++ name ∷ []; shards = set.shards ++ shards ∷ [] }
 
 -- tables that can follow one another, each with its shards
 abbrev pub FitTables : PlainSet → List (List ℕ) → List (List Shard) → Type 0
 FitTables set [] [] = Unit {0}
 FitTables set (name ∷ names) (shards ∷ tables) =
-    (length set.tables < MAX_TABLES) × IsNew set.tables name × FitShards set.servers [] shards × FitTables (with_table set name shards) names tables
+    (length set.tables < MAX_TABLES) × IsNew set.tables name × FitShards set.servers [] shards
+    × FitTables (with_table set name shards) names tables
 FitTables set names tables = ⊥
 
 abbrev pub no_tables : Version → ℕ → PlainSet
-no_tables version servers = record { version = version; servers = servers; tables = []; shards = []; programs = [] }
+no_tables version servers =
+    record { version = version; servers = servers; tables = []; shards = []; programs = [] }
 
 abbrev pub no_programs : PlainSet → PlainSet
 no_programs set = record set { programs = [] }
 
--- a set that has a text, if this isn't too long: 1 or more servers, within the limit, tables and programs
+-- a set that has a text, if this isn't too long: 1 or more servers, within the limit, tables and
+-- programs
 abbrev pub IsPlainSet : PlainSet → Type 0
 IsPlainSet set =
-    (1 ≤ set.servers) × (set.servers ≤ MAX_SERVERS) × FitTables (no_tables set.version set.servers) set.tables set.shards × FitPrograms (no_programs set) set.programs
+    (1 ≤ set.servers) × (set.servers ≤ MAX_SERVERS)
+    × FitTables (no_tables set.version set.servers) set.tables set.shards
+    × FitPrograms (no_programs set) set.programs
 
 -- a set within all limits
 abbrev pub IsSet : ChainSet → Type 0

@@ -5,8 +5,8 @@ use crate::program::Program;
 use crate::set::ChainSet;
 use crate::version::Version;
 use indexmap::{IndexMap, IndexSet};
-use lynx_shards::ShardMap;
 use lynx_lex::Name;
+use lynx_shards::ShardMap;
 
 fn same_versions(left: Version, right: Version) -> bool
     ensures { IsTrue result ↔ (left ≡ right) }
@@ -33,8 +33,8 @@ fn same_programs(left: &IndexMap<Name, Program>, right: &IndexMap<Name, Program>
 }
 
 impl ChainSet {
-    /// Whether both sets have the same version, servers, tables, shards and programs, in one order and under the same names.
-    /// The work is a walk over both. Takes no memory.
+    /// Whether both sets have the same version, servers, tables, shards and programs, in one order
+    /// and under the same names. The work is a walk over both. Takes no memory.
     pub fn is_same(&self, other: &ChainSet) -> bool
         ensures { IsTrue result ↔ (self.now ≡ other.now) }
     {

@@ -3,8 +3,8 @@
 
 pub use action::{Action, Key, Operand, Operator, Relation, Update};
 pub use interval::Interval;
-pub use lynx_names::TryCopy;
 pub use lynx_lex::Name;
+pub use lynx_names::TryCopy;
 pub use program::{Hop, ParameterRange, Program, are_in_range, range_of};
 pub use set::ChainSet;
 pub use upgrade::upgrade_set;

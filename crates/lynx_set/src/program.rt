@@ -4,8 +4,8 @@ ghost use Rattle.lynx_set.specs.Intervals.{are_in_range, range_of};
 
 use crate::action::Action;
 use crate::interval::Interval;
-use lynx_names::{Items, Memory, ServerId, TryCopy};
 use lynx_lex::Name;
+use lynx_names::{Items, Memory, ServerId, TryCopy};
 use std::alloc::Global;
 
 /// A hop of a program: its server, and its actions in order.
@@ -50,7 +50,8 @@ pub fn range_of(ranges: &[ParameterRange], parameter: u8) -> Option<Interval>
     None
 }
 
-/// Whether each argument of which there is a range lies in it. An argument that isn't there counts as 0.
+/// Whether each argument of which there is a range lies in it. An argument that isn't there counts
+/// as 0.
 pub fn are_in_range(ranges: &[ParameterRange], args: &[u64]) -> bool
     ensures { result ≡ are_in_range ranges.now args.now }
 {
@@ -70,8 +71,8 @@ pub struct Program {
     pub parameters: usize,
     /// The spellings of the parameters, and then of the bound names in the order of their lines.
     pub names: Items<Name>,
-    /// The ranges of parameters, in order of the parameters, one for each at most. A parameter without one may be any
-    /// number. Only a set of version 2 has ranges.
+    /// The ranges of parameters, in order of the parameters, one for each at most. A parameter
+    /// without one may be any number. Only a set of version 2 has ranges.
     pub ranges: Items<ParameterRange>,
     pub hops: Items<Hop>,
     ghost few_parameters: { parameters ≤ MAX_PARAMETERS },

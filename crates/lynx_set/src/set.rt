@@ -8,10 +8,10 @@ ghost use Rattle.lynx_set.specs.Names.{place_of, place_below};
 use crate::program::Program;
 use crate::version::Version;
 use indexmap::{IndexMap, IndexSet};
+use lynx_lex::Name;
 use lynx_names::limits::{MAX_PROGRAMS, MAX_TABLES};
 use lynx_names::{Memory, ProgramId, TableId, TryCopy};
 use lynx_shards::{ShardMap, TableShards};
-use lynx_lex::Name;
 use std::alloc::Global;
 use std::marker::Model;
 

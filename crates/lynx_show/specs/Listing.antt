@@ -11,14 +11,15 @@ use Rattle.lynx_entry.specs.Entry.{History}
 use Rattle.lynx_keep.specs.Kept.{KeptState}
 use Rattle.lynx_set.specs.Lookups.{table_name}
 use Rattle.lynx_set.specs.Set.{Set}
-use Rattle.lynx_io.specs.Written.{AppendsPart}
-use Rattle.lynx_print.specs.Printed.{entry_text}
+use Rattle.lynx_lines.specs.Written.{AppendsPart}
+use Rattle.lynx_lines.specs.Printed.{entry_text}
 use Rattle.lynx_lex.specs.Lines.{with_feed}
 use Rattle.lynx_store.specs.Stored.{IsKept, owner_for}
 
 -- the server's line, and that of how many entries it has
 abbrev pub head_lines : ℕ → ℕ → List ℕ
-head_lines server count = with_feed (codes "server " ++ decimal server) ++ with_feed (codes "entries " ++ decimal count)
+head_lines server count =
+    with_feed (codes "server " ++ decimal server) ++ with_feed (codes "entries " ++ decimal count)
 
 -- a line for each entry
 abbrev pub entry_lines : History → List ℕ
@@ -27,7 +28,8 @@ entry_lines entries = flat_map (λ entry. with_feed (entry_text entry)) entries
 -- the line of a cell: the name of its table, its key and its value
 abbrev pub cell_line : Set → ℕ × ℕ × ℕ → List ℕ
 cell_line chains cell =
-    with_feed (codes "cell " ++ table_name chains cell.0 ++ 32 ∷ decimal cell.1 ++ 32 ∷ decimal cell.2)
+    with_feed (codes "cell " ++ table_name chains cell.0 ++ 32 ∷ decimal cell.1 ++ 32
+    ∷ decimal cell.2)
 
 -- a line for each cell
 abbrev pub cell_lines : Set → List (ℕ × ℕ × ℕ) → List ℕ
@@ -41,7 +43,8 @@ listing_of chains server kept =
 
 -- each cell is of a table that the set has
 abbrev pub AreInTables : Set → Database → Type 0
-AreInTables chains cells = All (λ cell. cell.0 < length chains.tables) (triples_of (finite.entries cells))
+AreInTables chains cells =
+    All (λ cell. cell.0 < length chains.tables) (triples_of (finite.entries cells))
 
 -- the listing of what the store holds was written
 abbrev pub Lists : State → Option (List ℕ) → Option (List ℕ) → Type 0

@@ -1,4 +1,4 @@
-use lynx_io::WriteFailed;
+use lynx_lines::WriteFailed;
 use lynx_names::Memory;
 use lynx_store::StoreFault;
 use thiserror::Error;

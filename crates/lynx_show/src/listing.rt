@@ -6,8 +6,8 @@ ghost use Rattle.lynx_keep.specs.Kept.{kept_in};
 ghost use Rattle.std.specs.FinMap as map;
 
 use lynx_entry::Entry;
+use lynx_lines::{cell_line, entry_line};
 use lynx_names::{Memory, ServerId, TableId};
-use lynx_print::{cell_line, entry_line};
 use lynx_set::ChainSet;
 use lynx_store::Inspected;
 use std::alloc::Global;

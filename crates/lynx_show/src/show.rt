@@ -10,9 +10,9 @@ ghost use Rattle.lynx_keep.specs.Kept.{kept_in};
 
 use crate::fault::ShowFault;
 use crate::listing::{are_in_tables, listing};
-use lynx_io::write_bytes;
-use lynx_store::{Inspected, inspect};
+use lynx_lines::write_bytes;
 use lynx_sql::Rising;
+use lynx_store::{Inspected, inspect};
 use sqlite::Connection;
 use std::alloc::Global;
 use std::io::Write;
@@ -31,21 +31,24 @@ fn lines_of(alloc: Global, held: &Inspected) -> Result<Vec<u8>, ShowFault>
     Ok(listing(alloc, held, cells.as_slice())?)
 }
 
-/// Writes the server of a store, its entries and its cells that are not 0, a line each: docs/FORMATS.md has their
-/// forms. The database is only read, and all of it before the first line is written.
+/// Writes the server of a store, its entries and its cells that are not 0, a line each:
+/// docs/FORMATS.md has their forms. The database is only read, and all of it before the first line
+/// is written.
 pub fn show_store<S: Rising, W: Write>(
     alloc: Global,
     conn: &mut Connection<S>,
     writer: &mut W,
 ) -> Result<(), ShowFault>
-    ensures clean { doubt (state S.Store conn.old).is_clean ≤ doubt (state S.Store conn.new).is_clean }
+    ensures clean { doubt (state S.Store conn.old).is_clean
+        ≤ doubt (state S.Store conn.new).is_clean }
     // What is written is what the store holds.
     ensures ok { IsUndisturbed (state S.Store conn.new) → OnOk result
         (Lists (state S.Store conn.new) (W.contents writer.old) (W.contents writer.new)) }
     // A fault but that of writing comes before anything is written.
     ensures unwritten { IfErr result (λ fault. fault ≢ ShowFault.Write
         → Keeps (W.contents writer.old) (W.contents writer.new)) }
-    ensures part { IsUndisturbed (state S.Store conn.new) → IfErr result (λ fault. fault ≡ ShowFault.Write
+    ensures part { IsUndisturbed (state S.Store conn.new)
+        → IfErr result (λ fault. fault ≡ ShowFault.Write
         → BeginsListing (state S.Store conn.new) (W.contents writer.old) (W.contents writer.new)) }
     // A stop leaves what it could leave before.
     ensures stop { IsUndisturbed (state S.Store conn.new) → (db : Trees)

@@ -22,7 +22,8 @@ with_text title id text = record {
   set = if id == 3 then text else title.set;
 }
 
--- the title, the bodies of the entries by place, the cells that are not 0, and in a store of version 2 the hops that ran
+-- the title, the bodies of the entries by place, the cells that are not 0, and in a store of
+-- version 2 the hops that ran
 pub record Contents : Type 0 where
   pub title : Title
   pub bodies : List (List ℕ)
@@ -32,11 +33,16 @@ pub record Contents : Type 0 where
 -- one more entry at the next place, with the changes of its cells, and with its hop where one ran
 abbrev pub with_body : Contents → List ℕ → ChangeSet → Option Acted → Contents
 with_body contents body changes acted =
-    record contents { bodies = contents.bodies ++ body ∷ []; cells = applied changes contents.cells; acted = with_acted contents.acted acted }
+    record contents {
+      bodies = contents.bodies ++ body ∷ [];
+      cells = applied changes contents.cells;
+      acted = with_acted contents.acted acted;
+    }
 
 -- a new store of a version
 abbrev pub titled : StoreVersion → Title → Contents
-titled version title = record { title = title; bodies = []; cells = empty_database; acted = no_acts version }
+titled version title =
+    record { title = title; bodies = []; cells = empty_database; acted = no_acts version }
 
 -- a store of version 2 of the same entries, with two other texts and these hops
 abbrev pub upgraded : Contents → List ℕ → List ℕ → List Acted → Contents

@@ -26,12 +26,17 @@ each_shaped (x ∷ trees) zero = ∥∥₁_elim x.ordered (IsShaped-prop x.shape
 each_shaped (x ∷ trees) (suc t) = each_shaped trees t
 
 memory_ordered : (trees : List Tree) (version : ℕ) (t : ℕ)
-    → IsShaped (if t == version_tree then Table else shapes trees t) (if t == version_tree then version_rows version else forest trees t)
+    → IsShaped (if t == version_tree then Table else shapes trees t)
+    (if t == version_tree then version_rows version else forest trees t)
 memory_ordered trees version t =
     let below : IsShaped (shapes trees t) (forest trees t) =
-    elim (t == catalog_tree) as (λ b. IsShaped (if b then Table else shape_of trees t) (if b then objects_of trees else rows_of trees t))
+    elim (t == catalog_tree) as
+    (λ b. IsShaped (if b then Table else shape_of trees t)
+    (if b then objects_of trees else rows_of trees t))
     [ true ↦ objects_are_ordered (map heading trees) 0 | false ↦ each_shaped trees t ] in
-    elim (t == version_tree) as (λ b. IsShaped (if b then Table else shapes trees t) (if b then version_rows version else forest trees t))
+    elim (t == version_tree) as
+    (λ b. IsShaped (if b then Table else shapes trees t)
+    (if b then version_rows version else forest trees t))
     [ true ↦ ((tt, tt), (refl, tt)) | false ↦ below ]
 
 -- a store in memory
@@ -42,10 +47,16 @@ memory_rises s = record {
 }
 
 -- a store in files
-pub file_rises : {D : Type 0} {g : Ghosts D} (it : FileStore D g) → IsTrue (view it).is_open → IsRising (view it)
+pub file_rises : {D : Type 0} {g : Ghosts D} (it : FileStore D g) → IsTrue (view it).is_open
+    → IsRising (view it)
 file_rises it is_open = record {
-  listed = rw (clean_of (state it) is_open, catalog_rows (state it).page_size (kept_schema it.saved (schema_of it)) _)
+  listed = rw (
+    clean_of (state it) is_open,
+    catalog_rows (state it).page_size
+        (kept_schema it.saved (schema_of it)) _,
+  )
       (is_listed (kept_schema it.saved (schema_of it)));
   ordered = rw (clean_of (state it) is_open)
-      (∥∥₁_elim (it.stored is_open) (IsOrdered-prop _ _) (λ stored. all_ordered stored.ours.file.db _));
+      (∥∥₁_elim (it.stored is_open) (IsOrdered-prop _ _)
+      (λ stored. all_ordered stored.ours.file.db _));
 }

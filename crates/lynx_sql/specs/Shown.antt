@@ -19,13 +19,17 @@ natural (Blob b) = 0
 
 -- the cell and the value of a row
 abbrev pub entry_in : Row → (ℕ × ℕ) × ℕ
-entry_in row =
-    ((natural (column row 0), from_be_bytes w64 (bytes (column row 1))), from_be_bytes w64 (bytes (column row 2)))
+entry_in row = (
+  (natural (column row 0), from_be_bytes w64 (bytes (column row 1))),
+  from_be_bytes w64
+      (bytes (column row 2)),
+)
 
 -- the changes, with those of the rows
 abbrev pub with_rows : List Row → ChangeSet → ChangeSet
 with_rows [] changes = changes
-with_rows (row ∷ rows) changes = with_rows rows (finite.insert changes (entry_in row).0 (entry_in row).1)
+with_rows (row ∷ rows) changes =
+    with_rows rows (finite.insert changes (entry_in row).0 (entry_in row).1)
 
 -- the cells of the rows, of which a later one wins
 abbrev pub cells_in : List Row → Database

@@ -21,16 +21,35 @@ abbrev pub entry_text : List ℕ
 entry_text = codes "CREATE TABLE entry(place INTEGER PRIMARY KEY, body BLOB NOT NULL) STRICT"
 
 abbrev pub cell_text : List ℕ
-cell_text = codes "CREATE TABLE cell(tab INTEGER NOT NULL, k BLOB NOT NULL, v BLOB NOT NULL, PRIMARY KEY(tab, k)) STRICT"
+cell_text = codes
+    "CREATE TABLE cell(tab INTEGER NOT NULL, k BLOB NOT NULL, v BLOB NOT NULL, PRIMARY KEY(tab, k)) STRICT"
 
 abbrev pub acted_text : List ℕ
-acted_text = codes "CREATE TABLE acted(origin INTEGER NOT NULL, idx BLOB NOT NULL, hop INTEGER NOT NULL, place INTEGER NOT NULL UNIQUE, PRIMARY KEY(origin, idx, hop)) STRICT"
+acted_text =
+    codes
+    "CREATE TABLE acted(origin INTEGER NOT NULL, idx BLOB NOT NULL, hop INTEGER NOT NULL, place INTEGER NOT NULL UNIQUE, PRIMARY KEY(origin, idx, hop)) STRICT"
 
 abbrev pub key_column : List ℕ → Column
-key_column name = record { name = name; kind = Integer; is_strict = true; not_null = false; default = Null; collation = Binary }
+key_column name =
+    record {
+      name = name;
+      kind = Integer;
+      is_strict = true;
+      not_null = false;
+      default = Null;
+      collation = Binary;
+    }
 
 abbrev pub column_of : List ℕ → Kind → Column
-column_of name kind = record { name = name; kind = kind; is_strict = true; not_null = true; default = Null; collation = Binary }
+column_of name kind =
+    record {
+      name = name;
+      kind = kind;
+      is_strict = true;
+      not_null = true;
+      default = Null;
+      collation = Binary;
+    }
 
 -- a table of rows under a number, with one more column
 abbrev pub numbered_table : ℕ → List ℕ → List ℕ → List ℕ → Kind → Table
@@ -59,7 +78,8 @@ abbrev pub cell : Table
 cell = record {
   name = codes "cell";
   tree = 2;
-  columns = column_of (codes "tab") Integer ∷ column_of (codes "k") Blob ∷ column_of (codes "v") Blob ∷ [];
+  columns = column_of (codes "tab") Integer ∷ column_of (codes "k") Blob
+      ∷ column_of (codes "v") Blob ∷ [];
   key = None;
   primary = 1 ∷ 2 ∷ [];
   uniques = (1 ∷ 2 ∷ []) ∷ [];
@@ -73,14 +93,23 @@ cell = record {
 
 -- the index that comes with the primary key
 abbrev pub cell_index : Index
-cell_index = record { name = codes "sqlite_autoindex_" ++ (codes "cell" ++ (codes "_" ++ decimal 1)); tree = 3; table = 2; columns = 1 ∷ 2 ∷ []; order = plain; is_unique = true }
+cell_index =
+    record {
+      name = codes "sqlite_autoindex_" ++ (codes "cell" ++ (codes "_" ++ decimal 1));
+      tree = 3;
+      table = 2;
+      columns = 1 ∷ 2 ∷ [];
+      order = plain;
+      is_unique = true;
+    }
 
 -- the fourth table, which a store of version 2 has
 abbrev pub acted : Table
 acted = record {
   name = codes "acted";
   tree = 4;
-  columns = column_of (codes "origin") Integer ∷ column_of (codes "idx") Blob ∷ column_of (codes "hop") Integer ∷ column_of (codes "place") Integer ∷ [];
+  columns = column_of (codes "origin") Integer ∷ column_of (codes "idx") Blob
+      ∷ column_of (codes "hop") Integer ∷ column_of (codes "place") Integer ∷ [];
   key = None;
   primary = 1 ∷ 2 ∷ 3 ∷ [];
   uniques = (4 ∷ []) ∷ (1 ∷ 2 ∷ 3 ∷ []) ∷ [];
@@ -94,10 +123,26 @@ acted = record {
 
 -- its index of places, and that of its primary key
 abbrev pub place_index : Index
-place_index = record { name = codes "sqlite_autoindex_" ++ (codes "acted" ++ (codes "_" ++ decimal 1)); tree = 5; table = 4; columns = 4 ∷ []; order = plain; is_unique = true }
+place_index =
+    record {
+      name = codes "sqlite_autoindex_" ++ (codes "acted" ++ (codes "_" ++ decimal 1));
+      tree = 5;
+      table = 4;
+      columns = 4 ∷ [];
+      order = plain;
+      is_unique = true;
+    }
 
 abbrev pub hop_index : Index
-hop_index = record { name = codes "sqlite_autoindex_" ++ (codes "acted" ++ (codes "_" ++ decimal 2)); tree = 6; table = 4; columns = 1 ∷ 2 ∷ 3 ∷ []; order = plain; is_unique = true }
+hop_index = record {
+  name = codes "sqlite_autoindex_"
+      ++ (codes "acted" ++ (codes "_" ++ decimal 2));
+  tree = 6;
+  table = 4;
+  columns = 1 ∷ 2 ∷ 3 ∷ [];
+  order = plain;
+  is_unique = true;
+}
 
 -- what a version has beside the three tables
 abbrev pub more_tables : StoreVersion → List Table
@@ -109,7 +154,12 @@ more_indexes One = []
 more_indexes Two = place_index ∷ hop_index ∷ []
 
 abbrev pub store_schema : StoreVersion → Schema
-store_schema version = record { tables = meta ∷ entry ∷ cell ∷ more_tables version; indexes = cell_index ∷ more_indexes version; views = [] }
+store_schema version =
+    record {
+      tables = meta ∷ entry ∷ cell ∷ more_tables version;
+      indexes = cell_index ∷ more_indexes version;
+      views = [];
+    }
 
 -- the schema is that of a store, of one version or the other
 pub record IsStoreSchema (schema : Schema) : Type 0 where
@@ -139,7 +189,8 @@ pub record IsNamed (table : Table) (tree : ℕ) (name : List ℕ) : Type 0 where
   pub name_is : table.name ≡ name
 
 -- the keys of a table, and the orders of their indexes
-pub record IsKeyed (table : Table) (key : Option ℕ) (primary : List ℕ) (uniques : List (List ℕ)) (orders : List Order) : Type 0 where
+pub record IsKeyed (table : Table) (key : Option ℕ) (primary : List ℕ) (uniques : List (List ℕ))
+    (orders : List Order) : Type 0 where
   pub key_is : table.key ≡ key
   pub primary_is : table.primary ≡ primary
   pub uniques_are : table.uniques ≡ uniques

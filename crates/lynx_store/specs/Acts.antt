@@ -9,12 +9,19 @@ use Rattle.lynx_sql.specs.Acts.{shown_act}
 use Rattle.lynx_sql.specs.declared.version.StoreVersion.{StoreVersion}
 use Rattle.lynx_sql.specs.declared.version.StoreVersion.TheVariants.{One, Two}
 
--- the hop of the entry at a place: hop 0 of a chain that began, a later one, none of a request that was refused
+-- the hop of the entry at a place: hop 0 of a chain that began, a later one, none of a request that
+-- was refused
 abbrev pub act_at : ℕ → Entry → Option Acted
-act_at place (Begun begun) = Some (record { origin = begun.chain.origin; index = begun.chain.index; hop = 0; place = place })
+act_at place (Begun begun) =
+    Some (record { origin = begun.chain.origin; index = begun.chain.index; hop = 0; place = place })
 act_at place (Refused refused) = None
 act_at place (Hop ran) =
-    Some (record { origin = ran.message.chain.origin; index = ran.message.chain.index; hop = ran.message.hop; place = place })
+    Some (record {
+      origin = ran.message.chain.origin;
+      index = ran.message.chain.index;
+      hop = ran.message.hop;
+      place = place;
+    })
 
 -- that hop before others, if there is one
 abbrev pub with_act : Option Acted → List Acted → List Acted
@@ -38,4 +45,5 @@ acted_of Two entries = Some (acts_from 0 entries)
 
 -- the row at a place shows the hop there
 abbrev pub ShowsAt : List Acted → List Row → ℕ → Type 0
-ShowsAt acts rows place = (act : Acted) → slice_get acts place ≡ Some act → slice_get rows place ≡ Some (shown_act act)
+ShowsAt acts rows place =
+    (act : Acted) → slice_get acts place ≡ Some act → slice_get rows place ≡ Some (shown_act act)

@@ -3,9 +3,9 @@ ghost use Rattle.std.specs.Prelude.{◌≡◌, IfOk, IfSome, OnOk};
 ghost use Rattle.lynx_codec.specs.Entries.{IsEntryInRange};
 ghost use Rattle.lynx_keep.specs.Stored.{form_of, HasForm};
 
-use lynx_entry::Entry;
 use lynx_codec::limits::MAX_FORM_BYTES;
 use lynx_codec::{DecodeFault, Feed, Item, append_entry};
+use lynx_entry::Entry;
 use lynx_names::Memory;
 use std::alloc::Global;
 
@@ -35,7 +35,8 @@ fn first_entry(alloc: Global, bytes: &[u8]) -> Result<Option<Entry>, Memory>
 
 /// The entry whose form this body is, and nothing behind it.
 pub fn entry_of(alloc: Global, body: &[u8]) -> Result<Option<Entry>, Memory>
-    ensures { IfOk result (λ found. IfSome found (λ entry. (body.now ≡ form_of entry) × HasForm entry)) }
+    ensures { IfOk result
+        (λ found. IfSome found (λ entry. (body.now ≡ form_of entry) × HasForm entry)) }
 {
     let Some(entry) = first_entry(alloc, body)? else {
         return Ok(None);

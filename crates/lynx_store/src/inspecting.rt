@@ -17,12 +17,12 @@ use crate::fault::StoreFault;
 use crate::heading::{Heading, is_meta_row, version_for, version_text};
 use crate::keeper::loaded_of;
 use lynx_keep::{KeepFault, Loaded};
+use lynx_lex::number::number;
 use lynx_names::ServerId;
 use lynx_set::ChainSet;
 use lynx_sql::schema::is_store;
 use lynx_sql::{Rising, StoreVersion, StoredRows, read_rows};
 use lynx_text::{FaultKind, parse};
-use lynx_lex::number::number;
 use sqlite::{Connection, Row};
 use std::alloc::Global;
 
@@ -37,8 +37,10 @@ pub struct Inspected {
 /// The version that the first row of `meta` tells.
 #[tactic(auto, using(crate::proofs::Kept::neither_version))]
 fn version_in(row: &Row) -> Option<StoreVersion>
-    ensures some { IfSome result (λ version. row.now ≡ Int (pos 1) ∷ Text (version_text version) ∷ []) }
-    ensures none { IfNone result ((version : StoreVersion) → row.now ≢ Int (pos 1) ∷ Text (version_text version) ∷ []) }
+    ensures some { IfSome result
+        (λ version. row.now ≡ Int (pos 1) ∷ Text (version_text version) ∷ []) }
+    ensures none { IfNone result
+        ((version : StoreVersion) → row.now ≢ Int (pos 1) ∷ Text (version_text version) ∷ []) }
 {
     if is_meta_row(row, 1, version_text(StoreVersion::One)) {
         return Some(StoreVersion::One);
@@ -49,7 +51,8 @@ fn version_in(row: &Row) -> Option<StoreVersion>
     None
 }
 
-/// The heading that the rows of `meta` tell. OtherVersion only where they are not those of a store of either version.
+/// The heading that the rows of `meta` tell. OtherVersion only where they are not those of a store
+/// of either version.
 fn heading_in(alloc: Global, rows: &[Row]) -> Result<Heading, StoreFault>
     ensures other { IfErr result (λ fault. fault ≡ StoreFault.OtherVersion → (owner : Owner)
         → rows.now ≢ shown_meta (title_for owner)) }
@@ -107,7 +110,8 @@ fn owner_of(alloc: Global, heading: &Heading) -> Result<(ChainSet, ServerId), St
 
 /// What the rows of a store tell, whatever server and set they are of.
 fn told_by(alloc: Global, rows: &StoredRows) -> Result<Inspected, StoreFault>
-    ensures ok { IfOk result (λ held. Tells rows.now (owner_for held.server held.set) (kept_in held.loaded)) }
+    ensures ok { IfOk result
+        (λ held. Tells rows.now (owner_for held.server held.set) (kept_in held.loaded)) }
     ensures other { IfErr result (λ fault. fault ≡ StoreFault.OtherVersion → (owner : Owner)
         → rows.now.title.items ≢ shown_meta (title_for owner)) }
 {
@@ -124,24 +128,31 @@ fn told_by(alloc: Global, rows: &StoredRows) -> Result<Inspected, StoreFault>
     }
 }
 
-/// What a store holds, and of which server and set it is. Nothing is written. Takes the memory of all of it.
+/// What a store holds, and of which server and set it is. Nothing is written. Takes the memory of
+/// all of it.
 pub fn inspect<S: Rising>(alloc: Global, conn: &mut Connection<S>) -> Result<Inspected, StoreFault>
-    ensures clean { doubt (state S.Store conn.old).is_clean ≤ doubt (state S.Store conn.new).is_clean }
+    ensures clean { doubt (state S.Store conn.old).is_clean
+        ≤ doubt (state S.Store conn.new).is_clean }
     // What is told is kept.
     ensures ok { IsUndisturbed (state S.Store conn.new) → IfOk result (λ held.
         IsKept (state S.Store conn.new) (owner_for held.server held.set)
         (length held.loaded.entries.items) (kept_in held.loaded)) }
     // What was kept is told.
-    ensures all { IsUndisturbed (state S.Store conn.new) → IfOk result (λ held. (owner : Owner) (count : ℕ) (kept : KeptState)
+    ensures all { IsUndisturbed (state S.Store conn.new)
+        → IfOk result (λ held. (owner : Owner) (count : ℕ) (kept : KeptState)
         → IsKept (state S.Store conn.old) owner count kept
         → (owner ≡ owner_for held.server held.set) × (kept ≡ kept_in held.loaded)) }
     // It stays kept, whatever fault there is but one of the database.
-    ensures same { IsUndisturbed (state S.Store conn.new) → IfErr result (λ fault. fault ≢ StoreFault.Store
-        → (owner : Owner) (count : ℕ) (kept : KeptState) → IsKept (state S.Store conn.old) owner count kept
+    ensures same { IsUndisturbed (state S.Store conn.new)
+        → IfErr result (λ fault. fault ≢ StoreFault.Store
+        → (owner : Owner) (count : ℕ) (kept : KeptState)
+        → IsKept (state S.Store conn.old) owner count kept
         → IsKept (state S.Store conn.new) owner count kept) }
     // A store of either version is called of no other.
-    ensures other { IsUndisturbed (state S.Store conn.new) → IfErr result (λ fault. fault ≡ StoreFault.OtherVersion
-        → (owner : Owner) (count : ℕ) (kept : KeptState) → IsKept (state S.Store conn.old) owner count kept → ⊥) }
+    ensures other { IsUndisturbed (state S.Store conn.new)
+        → IfErr result (λ fault. fault ≡ StoreFault.OtherVersion
+        → (owner : Owner) (count : ℕ) (kept : KeptState)
+        → IsKept (state S.Store conn.old) owner count kept → ⊥) }
     ensures stop { IsUndisturbed (state S.Store conn.new) → (db : Trees)
         → (state S.Store conn.new).may_leave db → (state S.Store conn.old).may_leave db }
 {

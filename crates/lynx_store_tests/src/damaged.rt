@@ -1,7 +1,7 @@
 //! Stores that were changed by hand: what an open answers.
 use crate::made::{Fault, blank, keeper, paid, served};
-use lynx_names::ServerId;
 use lynx_fixtures::texts::{CALC, PAYMENT, set_of};
+use lynx_names::ServerId;
 use lynx_server::OpenFault;
 use lynx_store::SqlKeeper;
 use lynx_store::StoreFault::{self, Damaged, OtherSet, OtherVersion};

@@ -1,11 +1,11 @@
 //! Keepers and servers over stores in memory.
 use lynx_entry::Answer;
-use lynx_keep::Keeper;
-use lynx_names::{Memory, Stamp};
 use lynx_fixtures::made::{request, server};
 use lynx_fixtures::parts::RequestParts;
 use lynx_fixtures::payments::{PAY, SEED};
 use lynx_fixtures::texts::{PAYMENT, set_of};
+use lynx_keep::Keeper;
+use lynx_names::{Memory, Stamp};
 use lynx_server::{OpenFault, Server};
 use lynx_store::{SqlKeeper, StoreFault};
 use sqlite::{Connection, MemStore};

@@ -1,10 +1,10 @@
 //! Disks in memory that stop at each call, one after another.
 use lynx_entry::Answer;
-use lynx_keep::Keeper;
-use lynx_names::{Memory, ServerId, Stamp};
 use lynx_fixtures::made::request;
 use lynx_fixtures::payments::{PAY, SEED};
 use lynx_fixtures::texts::{PAYMENT, set_of};
+use lynx_keep::Keeper;
+use lynx_names::{Memory, ServerId, Stamp};
 use lynx_server::Server;
 use lynx_set::ChainSet;
 use lynx_store::SqlKeeper;
@@ -123,8 +123,8 @@ fn kept<D: Disk + Drop>(
     }
 }
 
-/// Whether, after a stop at that call, the store has what was answered, or one entry more, whole. None where no stop
-/// came.
+/// Whether, after a stop at that call, the store has what was answered, or one entry more, whole.
+/// None where no stop came.
 fn survives(alloc: Global, log: u64, db: u64) -> Result<Option<bool>, Fail> {
     let set = set_of(alloc, PAYMENT)?;
     let (answered, left) = run(alloc, &set, disks(alloc, log, db))?;

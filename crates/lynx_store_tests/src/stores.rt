@@ -1,12 +1,12 @@
 //! What a keeper keeps, and loads again.
 use crate::made::{Fault, after, keeper, paid};
-use lynx_keep::Keeper;
-use lynx_names::TableId;
 use lynx_fixtures::cells::are_cells;
 use lynx_fixtures::made::entries;
 use lynx_fixtures::parts::RequestParts;
 use lynx_fixtures::payments::{AT_FIRST, PAY, SEED};
 use lynx_fixtures::texts::PAYMENT;
+use lynx_keep::Keeper;
+use lynx_names::TableId;
 use std::alloc::Global;
 
 /// Whether the entries that are loaded are those of the worked payment, and the cells.

@@ -1,9 +1,9 @@
 //! Upgrades of a store, with a stop at each call, one after another.
 use crate::made::{Fault, paid};
 use crate::stops::{Disks, connect, crashed, run};
-use lynx_names::Memory;
 use lynx_fixtures::cells::{Cell, are_cells};
 use lynx_fixtures::texts::{PAYMENT, set_of};
+use lynx_names::Memory;
 use lynx_set::Version;
 use lynx_show::{ShowFault, upgrade_and_tell};
 use lynx_store::{Inspected, inspect, upgrade_store};
@@ -62,7 +62,8 @@ fn version_on<D: Disk + Drop>(alloc: Global, disks: Files<D>) -> Result<Option<V
 struct Survival {
     /// The machine did stop: the upgrade wasn't answered, or the store can't be used any more.
     stopped: bool,
-    /// The store is of one version or the other, whole, and of the second where the upgrade was answered.
+    /// The store is of one version or the other, whole, and of the second where the upgrade was
+    /// answered.
     is_right: bool,
 }
 
@@ -78,7 +79,8 @@ fn survive(alloc: Global, log: u64, db: u64) -> Result<Survival, Memory> {
     Ok(Survival { stopped, is_right })
 }
 
-/// How many stops an upgrade meets at the calls of the log, or of the database. None where the store doesn't survive one.
+/// How many stops an upgrade meets at the calls of the log, or of the database. None where the
+/// store doesn't survive one.
 fn stops(alloc: Global, of_log: bool) -> Result<Option<u64>, Memory> {
     for calls in 0..1000u64 {
         let survival = if of_log {

@@ -1,13 +1,13 @@
 //! The worked payment over stores.
 use crate::made::{Fault, blank, closed, served};
-use lynx_keep::Keeper;
-use lynx_names::{Memory, Stamp};
 use lynx_fixtures::made::{answer, delivered, message, request};
 use lynx_fixtures::parts::{AnswerParts, DeliveredParts, RequestParts};
 use lynx_fixtures::payments::{
     DONE_AT_THREE, PAY, PAY_BEGUN, PAY_BEGUN_AGAIN, REPEATED_AT_THREE, SEED, SEED_BEGUN, SENT,
 };
 use lynx_fixtures::texts::PAYMENT;
+use lynx_keep::Keeper;
+use lynx_names::{Memory, Stamp};
 use lynx_server::Server;
 use std::alloc::Global;
 

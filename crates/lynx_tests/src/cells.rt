@@ -1,7 +1,7 @@
 //! Changes of cells, as they are gathered and applied.
 use lynx_cells::{Cells, Changes};
-use lynx_names::{Memory, TableId};
 use lynx_fixtures::cells::{Cell, are_cells};
+use lynx_names::{Memory, TableId};
 use std::alloc::Global;
 
 fn changes_of(alloc: Global, writes: &[Cell]) -> Result<Changes, Memory> {
@@ -35,7 +35,8 @@ fn write(alloc: Global, cells: &mut Cells, writes: &[Cell]) -> Result<(), Memory
     Ok(())
 }
 
-/// Whether the second writes are seen through the first ones, and leave these cells and no other one.
+/// Whether the second writes are seen through the first ones, and leave these cells and no other
+/// one.
 fn are_left(alloc: Global) -> Result<bool, Memory> {
     let mut cells = Cells::new(alloc);
     write(alloc, &mut cells, FIRST)?;

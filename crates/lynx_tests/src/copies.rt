@@ -1,10 +1,10 @@
 //! Copies are equal to what they are copies of, with ample memory.
 use lynx_entry::{Answer, AnswerRoom};
-use lynx_names::limits::MAX_ACTIONS;
-use lynx_names::{Memory, TryCopy};
 use lynx_fixtures::made::{answer, boxed, entry, lists};
 use lynx_fixtures::parts::{AnswerParts, EntryParts, RefusedParts};
 use lynx_fixtures::payments::{ARRIVED, PAID, PAY};
+use lynx_names::limits::MAX_ACTIONS;
+use lynx_names::{Memory, TryCopy};
 use std::alloc::Global;
 
 /// Whether what was made has a copy that is equal to it.

@@ -1,8 +1,8 @@
 //! Which hops conflict, and what hops touch.
-use lynx_foot::{Foot, Kind, Touch, conflict, footprint, may_conflict, touches};
-use lynx_names::Memory;
 use lynx_fixtures::made::program;
 use lynx_fixtures::texts::{PAYMENT_AND_PUT, set_of};
+use lynx_foot::{Foot, Kind, Touch, conflict, footprint, may_conflict, touches};
+use lynx_names::Memory;
 use lynx_set::{ChainSet, Key};
 use std::alloc::Global;
 

@@ -1,9 +1,9 @@
 //! What hops give and change.
 use lynx_cells::{Cells, Changes};
-use lynx_hops::{HopFault, run_hop};
-use lynx_names::{Memory, TableId};
 use lynx_fixtures::made::{lists, program};
 use lynx_fixtures::texts::set_of;
+use lynx_hops::{HopFault, run_hop};
+use lynx_names::{Memory, TableId};
 use std::alloc::Global;
 
 /// A pay over one server, whose second hop reads what the first one gave.
@@ -33,8 +33,8 @@ fn are_changed_to(changes: &Changes, values: &[u64]) -> bool {
     changes.list().len() == values.len()
 }
 
-/// What the first cell holds, a hop of pay and its argument, and what the hops before it gave; then the results and the
-/// values that cells are changed to, or the fault.
+/// What the first cell holds, a hop of pay and its argument, and what the hops before it gave; then
+/// the results and the values that cells are changed to, or the fault.
 struct Case {
     value: u64,
     hop: usize,
@@ -43,8 +43,8 @@ struct Case {
     want: Result<(&'static [u64], &'static [u64]), HopFault>,
 }
 
-/// The first hop reads 100 and then 70; it refuses by the number of its need. The second hop adds what the first one gave,
-/// and the sum of the greatest number and 1 wraps to 0.
+/// The first hop reads 100 and then 70; it refuses by the number of its need. The second hop adds
+/// what the first one gave, and the sum of the greatest number and 1 wraps to 0.
 const CASES: &[Case] = &[
     Case {
         value: 100,

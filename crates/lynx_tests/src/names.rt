@@ -1,6 +1,6 @@
 //! Names as they are printed.
-use lynx_names::Memory;
 use lynx_fixtures::made::chain;
+use lynx_names::Memory;
 use std::alloc::Global;
 
 /// Whether the 15th chain of the fourth server is printed by these numbers.

@@ -1,12 +1,12 @@
-//! Set texts: which fronts of one are sets, and how sets are printed as they are read. Their faults and limits are
-//! shown by the cases under tests/cases.
-use lynx_names::limits::MAX_TEXT_BYTES;
-use lynx_names::{Memory, TryCopy};
+//! Set texts: which fronts of one are sets, and how sets are printed as they are read. Their faults
+//! and limits are shown by the cases under tests/cases.
 use lynx_fixtures::made::boxed;
 use lynx_fixtures::texts::{
     CALC, CROSSING, EMPTY_SET, LATE_AND_MARK, ONE_ORIGIN_JOINS, ONE_ORIGIN_ONLY, ONE_ORIGIN_SETS,
     PAY_AND_NOTE, PAYMENT, PUT, TRIP, set_of,
 };
+use lynx_names::limits::MAX_TEXT_BYTES;
+use lynx_names::{Memory, TryCopy};
 use lynx_set::ChainSet;
 use lynx_text::{parse, print};
 use std::alloc::Global;

@@ -46,13 +46,15 @@ shard_line count words = None
 -- the names of parameters, after those known
 abbrev pub parameters_of : List (List ℕ) → List (List ℕ) → Option (List (List ℕ))
 parameters_of names [] = Some names
-parameters_of names (word ∷ words) = new_name names word >>= λ name. parameters_of (names ++ name ∷ []) words
+parameters_of names (word ∷ words) =
+    new_name names word >>= λ name. parameters_of (names ++ name ∷ []) words
 
 -- program NAME PARAMETER..
 unfoldable pub program_line : List (List ℕ) → List (List ℕ) → Option (List ℕ × List (List ℕ))
 program_line programs (word ∷ first ∷ words) = do
   is ← only_if {X = Unit {0}} (bytes_eq word (codes "program")) tt
-  ok ← only_if {X = Unit {0}} (nat_lt (length programs) MAX_PROGRAMS && nat_le (length words) MAX_PARAMETERS) tt
+  ok ← only_if {X = Unit {0}}
+      (nat_lt (length programs) MAX_PROGRAMS && nat_le (length words) MAX_PARAMETERS) tt
   name ← name_of first
   new ← only_if {X = Unit {0}} (is_none (place_of programs name)) tt
   names ← parameters_of [] words
@@ -73,16 +75,21 @@ end_line (word ∷ []) = only_if (bytes_eq word (codes "end")) tt
 end_line words = None
 
 -- parts one after another as long as the test says so, and no more of them than there is room for
-unfoldable pub parts : {S : Type 0} → (List (List ℕ) → Bool) → (S → List (List ℕ) → Option (S × List (List ℕ))) → ℕ → S → List (List ℕ) → Option (S × List (List ℕ))
+unfoldable pub parts : {S : Type 0} → (List (List ℕ) → Bool)
+    → (S → List (List ℕ) → Option (S × List (List ℕ))) → ℕ → S → List (List ℕ)
+    → Option (S × List (List ℕ))
 parts goes part zero s lines = if goes lines then None else Some (s, lines)
-parts goes part (suc room) s lines = if goes lines then (part s lines >>= λ next. parts goes part room next.0 next.1) else Some (s, lines)
+parts goes part (suc room) s lines =
+    if goes lines then (part s lines >>= λ next. parts goes part room next.0 next.1) else Some
+    (s, lines)
 
 -- one more shard
 unfoldable pub next_shard : ℕ → List Shard → List (List ℕ) → Option (List Shard × List (List ℕ))
 next_shard servers shards lines = do
   words ← next_words lines
   range ← shard_line (length shards) words.0
-  ok ← only_if {X = Unit {0}} (is_none (range_fault servers (last_key None shards) range.low range.high range.server)) tt
+  ok ← only_if {X = Unit {0}}
+      (is_none (range_fault servers (last_key None shards) range.low range.high range.server)) tt
   Some (shards ++ shard_of range ∷ [], words.1)
 
 abbrev pub goes_shard : List (List ℕ) → Bool
@@ -106,7 +113,8 @@ with_name program None = program
 with_name program (Some name) = record program { names = program.names ++ name ∷ [] }
 
 -- one more action of a hop
-unfoldable pub next_action : PlainSet → ℕ → PlainProgram × List Action → List (List ℕ) → Option ((PlainProgram × List Action) × List (List ℕ))
+unfoldable pub next_action : PlainSet → ℕ → PlainProgram × List Action → List (List ℕ)
+    → Option ((PlainProgram × List Action) × List (List ℕ))
 next_action set server hop lines = do
   words ← next_words lines
   line ← action_of (scope_in set server hop.0 hop.1) words.0
@@ -116,23 +124,30 @@ abbrev pub goes_action : List (List ℕ) → Bool
 goes_action lines = not (begins lines (codes "hop")) && not (begins lines (codes "end"))
 
 -- one more hop and its actions
-unfoldable pub next_hop : PlainSet → PlainProgram → List (List ℕ) → Option (PlainProgram × List (List ℕ))
+unfoldable pub next_hop : PlainSet → PlainProgram → List (List ℕ)
+    → Option (PlainProgram × List (List ℕ))
 next_hop set program lines = do
   words ← next_words lines
   server ← hop_line set.servers (length program.hops) words.0
   first ← next_action set server (program, []) words.1
   read ← parts goes_action (next_action set server) (MAX_ACTIONS - length first.0.1) first.0 first.1
-  Some (record read.0.0 { hops = read.0.0.hops ++ (record { server = server; actions = read.0.1 }) ∷ [] }, read.1)
+  Some (
+    record
+        read.0.0 { hops = read.0.0.hops ++ (record { server = server; actions = read.0.1 }) ∷ [] },
+    read.1,
+  )
 
 abbrev pub goes_hop : List (List ℕ) → Bool
 goes_hop lines = begins lines (codes "hop")
 
 -- a program's name and parameters with their ranges
-unfoldable pub program_head : PlainSet → List (List ℕ) → Option ((List ℕ × PlainProgram) × List (List ℕ))
+unfoldable pub program_head : PlainSet → List (List ℕ)
+    → Option ((List ℕ × PlainProgram) × List (List ℕ))
 program_head set lines = do
   words ← next_words lines
   head ← program_line (map (λ named. named.0) set.programs) words.0
-  read ← parts (goes_range set.version) next_range MAX_PARAMETERS (record { parameters = length head.1; names = head.1; ranges = []; hops = [] }) words.1
+  read ← parts (goes_range set.version) next_range MAX_PARAMETERS
+      (record { parameters = length head.1; names = head.1; ranges = []; hops = [] }) words.1
   Some ((head.0, read.0), read.1)
 
 -- one more program, with its hops and its end
@@ -153,7 +168,9 @@ unfoldable pub set_at : Version → List (List ℕ) → Option PlainSet
 set_at version lines = do
   words ← next_words lines
   servers ← servers_of words.0
-  tables ← parts goes_table next_table MAX_TABLES (record { version = version; servers = servers; tables = []; shards = []; programs = [] }) words.1
+  tables ← parts goes_table next_table MAX_TABLES
+      (record { version = version; servers = servers; tables = []; shards = []; programs = [] })
+      words.1
   programs ← parts goes_program next_program MAX_PROGRAMS tables.0 tables.1
   only_if (ends programs.1) programs.0
 
@@ -163,4 +180,5 @@ lines_at lines = after_version lines >>= λ begun. set_at begun.0 begun.1
 
 -- a set, from its whole text
 abbrev pub read_text : List ℕ → Option PlainSet
-read_text text = if nat_le (length text) MAX_TEXT_BYTES then lines_at (slice_split is_feed text) else None
+read_text text =
+    if nat_le (length text) MAX_TEXT_BYTES then lines_at (slice_split is_feed text) else None

@@ -9,9 +9,9 @@ ghost use Rattle.lynx_text.specs.Reading.{operator_of, relation_of, binding, pla
 
 use crate::lines::{four_words, three_words};
 use crate::scope::Scope;
+use lynx_lex::{FaultKind, Name};
 use lynx_names::TableId;
 use lynx_set::{Action, Key, Operand, Operator, Relation, Update, Version};
-use lynx_lex::{FaultKind, Name};
 
 /// An action, and the name that its line binds.
 #[derive(Clone, Copy, Debug)]
@@ -23,7 +23,8 @@ pub(crate) struct ActionLine {
 /// The action of a line's words.
 #[tactic(auto, unfolding(crate::specs::Reading::action_of))]
 pub(crate) fn read_action(words: &[&[u8]], scope: &Scope) -> Result<ActionLine, FaultKind>
-    ensures value { Gives (λ line. line) result (action_of (plain_scope scope.now) (texts words.now)) }
+    ensures value { Gives (λ line. line) result
+        (action_of (plain_scope scope.now) (texts words.now)) }
     ensures room { OnOk result (scope.now.actions < MAX_ACTIONS) }
 {
     let [verb, rest @ ..] = words else {
@@ -130,7 +131,8 @@ fn read_let(words: &[&[u8]], scope: &Scope) -> Result<ActionLine, FaultKind>
 /// `need VALUE RELATION VALUE`
 #[tactic(auto, using(crate::proofs::Shapes::need_of_other), unfolding(crate::specs::Reading::need_of))]
 fn read_need(words: &[&[u8]], scope: &Scope) -> Result<ActionLine, FaultKind>
-    ensures value { Gives (λ line. line) result (need_of (plain_scope scope.now) (texts words.now)) }
+    ensures value { Gives (λ line. line) result
+        (need_of (plain_scope scope.now) (texts words.now)) }
     ensures room { OnOk result (scope.now.actions < MAX_ACTIONS) }
 {
     let (left, relation, right) = three_words(words)?;

@@ -5,9 +5,9 @@ ghost use Rattle.lynx_lex.specs.Gives.{Gives};
 ghost use Rattle.lynx_lex.specs.Lines.{is_feed, only_if, texts};
 ghost use Rattle.lynx_text.specs.Pieces.{after_version, begins, ends, next_piece, one_after, until, next_words, version_of, version_told};
 
-use lynx_set::Version;
 use lynx_lex::FaultKind;
 use lynx_lex::lines::{next_line, place_of_byte, words_of};
+use lynx_set::Version;
 use std::alloc::Global;
 use std::marker::Model;
 
@@ -88,7 +88,8 @@ pub fn four_words<'a>(
     }
 }
 
-/// A text that is read line by line. It is seen as the lines that are left: the last of them has no LF.
+/// A text that is read line by line. It is seen as the lines that are left: the last of them has no
+/// LF.
 #[derive(Debug, Drop)]
 pub struct Lines<'a> {
     rest: &'a [u8],
@@ -150,8 +151,8 @@ impl<'a> Lines<'a> {
         until(until(self.rest, b'\n'), b' ') == word
     }
 
-    /// Takes the version's line. It is a bad version where the first line is no version's, and else a bad line where no
-    /// LF ends it.
+    /// Takes the version's line. It is a bad version where the first line is no version's, and else
+    /// a bad line where no LF ends it.
     pub fn version(&mut self) -> Result<Version, FaultKind>
         ensures bad { IsErrOf result FaultKind.BadVersion ↔ (version_told self.old ≡ None) }
         ensures ok { IfOk result (λ version. after_version self.old ≡ Some (version, self.new)) }

@@ -6,13 +6,13 @@ ghost use Rattle.lynx_lex.specs.Lines.{spaced, joined, line};
 ghost use Rattle.lynx_set.specs.Text.{name_at, key_word, operand_word, operator_word, relation_word, update_word, action_words, bound_names, bound_in, action_lines, hop_lines, hops_lines, program_words, interval_word, range_words, program_lines, programs_lines, shard_words, table_lines, tables_lines, version_word, head_lines, text, text_of};
 
 use indexmap::IndexMap;
+use lynx_lex::Name;
 use lynx_names::{Items, Memory, TableId};
 use lynx_set::{
     Action, ChainSet, Hop, Interval, Key, Operand, Operator, ParameterRange, Program, Relation,
     Update, Version,
 };
 use lynx_shards::Shard;
-use lynx_lex::Name;
 use std::alloc::Global;
 
 /// The one text of the set.
@@ -166,7 +166,8 @@ fn put_range(
     names: &[Name],
     range: &ParameterRange,
 ) -> Result<(), Memory>
-    ensures { OnOk result (out.new.items ≡ out.old.items ++ line (range_words names.now range.now)) }
+    ensures { OnOk result
+        (out.new.items ≡ out.old.items ++ line (range_words names.now range.now)) }
 {
     out.extend_from_slice(b"range".as_slice())?;
     put_name(out, names, usize::from(range.parameter))?;
@@ -211,7 +212,8 @@ fn put_hops(
     Ok(())
 }
 
-/// Writes a hop, whose first binding action binds the name at that place, and answers the next place.
+/// Writes a hop, whose first binding action binds the name at that place, and answers the next
+/// place.
 fn put_hop(
     alloc: Global,
     out: &mut Vec<u8>,
@@ -259,9 +261,10 @@ fn put_action(
     end_line(out)
 }
 
-/// Writes the words of an action, with a space between two and none at either end. `tables` are the set's, `names` the
-/// program's, and `place` is that of the name which the action binds if it binds one; a table or a name that stands in
-/// neither is written as an empty word. Where memory is wanting a part of the words may be written.
+/// Writes the words of an action, with a space between two and none at either end. `tables` are the
+/// set's, `names` the program's, and `place` is that of the name which the action binds if it binds
+/// one; a table or a name that stands in neither is written as an empty word. Where memory is
+/// wanting a part of the words may be written.
 pub fn put_action_words(
     alloc: Global,
     out: &mut Vec<u8>,

@@ -7,10 +7,11 @@ ghost use Rattle.lynx_text.specs.Ranges.{begins_with_dots, cut_at_dots, ends_of,
 
 use crate::lines::three_words;
 use crate::scope::{known_name, number_of};
-use lynx_set::{Interval, ParameterRange};
 use lynx_lex::{FaultKind, Name};
+use lynx_set::{Interval, ParameterRange};
 
-/// `range PARAMETER LOW..HIGH`, where the program has these parameters, and these ranges of them before.
+/// `range PARAMETER LOW..HIGH`, where the program has these parameters, and these ranges of them
+/// before.
 #[tactic(auto, using(crate::proofs::Shapes::range_line_other), unfolding(crate::specs::Ranges::range_line))]
 pub(crate) fn read_range_line(
     words: &[&[u8]],

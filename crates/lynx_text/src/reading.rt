@@ -18,13 +18,13 @@ use crate::action_line::read_action;
 use crate::lines::{Lines, four_words, one_after, two_and_more};
 use crate::range_line::read_range_line;
 use crate::scope::{Scope, name_of, new_name, number_of};
+use lynx_lex::{FaultKind, Name, TextFault};
 use lynx_names::limits::{
     MAX_HOPS, MAX_PARAMETERS, MAX_PROGRAMS, MAX_SERVERS, MAX_SHARDS, MAX_TABLES, MAX_TEXT_BYTES,
 };
 use lynx_names::{Items, ServerId};
 use lynx_set::{Action, ChainSet, Hop, Program, Version};
 use lynx_shards::{Range, ShardFault, TableShards};
-use lynx_lex::{FaultKind, Name, TextFault};
 use std::alloc::Global;
 
 /// The set that the text spells. An error tells the fault on the earliest line, or want of memory.

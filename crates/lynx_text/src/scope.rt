@@ -9,11 +9,11 @@ ghost use Rattle.lynx_set.specs.Scopes.{is_home};
 ghost use Rattle.lynx_text.specs.Reading.{name_of, new_name, known_name, table_of, read_key, operand_of};
 ghost use Rattle.lynx_lex.specs.Lines.{only_if};
 
+use lynx_lex::number::number;
+use lynx_lex::{FaultKind, Name};
 use lynx_names::limits::MAX_ACTIONS;
 use lynx_names::{ServerId, TableId};
 use lynx_set::{ChainSet, Key, Operand};
-use lynx_lex::number::number;
-use lynx_lex::{FaultKind, Name};
 
 /// What an action may name, and where it stands.
 #[derive(Clone, Copy)]

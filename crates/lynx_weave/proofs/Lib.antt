@@ -12,3 +12,5 @@ pub mod Servings
 pub mod Ordered
 pub mod Weavings
 pub mod Counting
+pub mod Loadings
+pub mod Parted

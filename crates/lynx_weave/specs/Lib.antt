@@ -3,4 +3,6 @@ pub mod Lists
 pub mod Weaving
 pub mod Since
 pub mod Rebuilt
+pub mod Gathering
+pub mod Parts
 pub mod inner

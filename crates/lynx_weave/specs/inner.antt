@@ -1,5 +1,6 @@
 -- Definitions that no public clause cites: they serve the functions within.
 pub mod Judging
+pub mod Loading
 pub mod Orders
 pub mod Rebuilt
 pub mod Senders

@@ -52,7 +52,8 @@ sent_message set chain hop list = find (is_message_of chain hop) (messages_of se
 
 -- the server that a message is for
 abbrev pub destination_of : Set → Message → ℕ
-destination_of set message = unwrap_or (option_map (λ hop. hop.server) (hop_at set message.program message.hop)) 0
+destination_of set message =
+    unwrap_or (option_map (λ hop. hop.server) (hop_at set message.program message.hop)) 0
 
 -- the world after a delivery at a server
 abbrev pub after_delivery : WorldState → ℕ → Delivers → List Message → WorldState
@@ -65,7 +66,9 @@ after_delivery world server delivers held =
 -- the message is delivered to the server that it is for
 abbrev pub deliver_to : ℕ → WorldState → ℕ → ChainId → ℕ → Message → Step
 deliver_to room world server chain hop message =
-    let delivers = delivery world.set server room (history_of server world.list) (held_at world server) message in
+    let delivers =
+    delivery world.set server room (history_of server world.list) (held_at world server)
+    message in
     record {
       outcome = DeliveredNow chain hop delivers.delivered;
       world = after_delivery world server delivers delivers.held;
@@ -75,12 +78,14 @@ abbrev pub deliver_sent : ℕ → WorldState → ChainId → ℕ → Option Mess
 deliver_sent room world chain hop None = stays world (NotSent chain hop)
 deliver_sent room world chain hop (Some message) =
     let server = destination_of world.set message in
-    if is_server world server then deliver_to room world server chain hop message else stays world NoServer
+    if is_server world server then deliver_to room world server chain hop message else stays world
+    NoServer
 
 -- it is the message's turn at the server
 abbrev pub stands_now : Set → ℕ → History → Message → Bool
 stands_now set server history message =
-    unwrap_or (number_at message.numbers server) 0 == turn_of set server history message.chain.origin
+    unwrap_or (number_at message.numbers server) 0 == turn_of set server history
+    message.chain.origin
 
 abbrev pub is_full_answer : Delivered → Bool
 is_full_answer Full = true
@@ -90,7 +95,9 @@ is_full_answer given = false
 abbrev pub wake_at : ℕ → WorldState → ℕ → Option Message → Step
 wake_at room world server None = stays world (Idle server)
 wake_at room world server (Some message) =
-    let delivers = delivery world.set server room (history_of server world.list) (held_at world server) message in
+    let delivers =
+    delivery world.set server room (history_of server world.list) (held_at world server)
+    message in
     let held = if is_full_answer delivers.delivered then delivers.held
     else filter (λ other. not (same_hop other message)) delivers.held in
     record {
@@ -105,23 +112,30 @@ begin_at world server begins =
       world = record world { list = list_with server begins.added world.list };
     }
 
--- The step of a world, whose servers each have room to hold so many messages. An entry that is added goes last.
+-- The step of a world, whose servers each have room to hold so many messages. An entry that is
+-- added goes last.
 abbrev pub step : ℕ → WorldState → Event → Step
 step room world (Begin server request seen) =
     if is_server world server
     then begin_at world server (answer world.set server (history_of server world.list) request seen)
     else stays world NoServer
-step room world (Deliver chain hop) = deliver_sent room world chain hop (sent_message world.set chain hop world.list)
+step room world (Deliver chain hop) =
+    deliver_sent room world chain hop (sent_message world.set chain hop world.list)
 step room world (Wake server) =
     if is_server world server
     then wake_at room world server
-    (least_of (filter (stands_now world.set server (history_of server world.list)) (held_at world server)))
+    (least_of (filter (stands_now world.set server (history_of server world.list))
+    (held_at world server)))
     else stays world NoServer
 step room world (Lost chain hop) =
-    if is_some (sent_message world.set chain hop world.list) then stays world (LostNow chain hop) else stays world (NotSent chain hop)
+    if is_some (sent_message world.set chain hop world.list) then stays world (LostNow chain hop)
+    else stays world (NotSent chain hop)
 step room world (Restart server) =
     if is_server world server
-    then record { outcome = Restarted server; world = record world { held = slice_set world.held server [] } }
+    then record {
+      outcome = Restarted server;
+      world = record world { held = slice_set world.held server [] };
+    }
     else stays world NoServer
 
 -- the list is as it was, or has one more entry at its end

@@ -6,8 +6,8 @@ ghost use Rattle.lynx_codec.specs.declared.item.Item.{Item};
 ghost use Rattle.lynx_codec.specs.Form.{form};
 ghost use Rattle.lynx_codec.specs.Ranges.{IsItem, IsMessageInRange};
 
-use lynx_entry::Message;
 use lynx_codec::{DecodeFault, Feed, Item, encode};
+use lynx_entry::Message;
 use lynx_names::Memory;
 use std::alloc::Global;
 

@@ -1,24 +1,27 @@
-//! Weaving since sessions began: what each server's counts are, and fresh items by entries from before.
+//! Weaving since sessions began: what each server's counts are, and fresh items by entries from
+//! before.
 use crate::sessions::{TOLD_PAID, TOLD_SEED};
 use crate::told::{ToldParts, sessions};
 use lynx_entry::Entry;
-use lynx_names::Memory;
 use lynx_fixtures::made::entries;
 use lynx_fixtures::payments::{AT_FIRST, AT_SECOND};
 use lynx_fixtures::texts::{PAYMENT, set_of};
+use lynx_names::Memory;
 use lynx_weave::{ServerCounts, WeaveFault, weave_since};
 use std::alloc::Global;
 
 /// What comes of a weaving.
 #[derive(Clone, Copy)]
 enum Since {
-    /// The fresh items that tell of each server, and its entries since its start that answer a begin.
+    /// The fresh items that tell of each server, and its entries since its start that answer a
+    /// begin.
     Counts(&'static [(u64, u64)]),
     /// The item of that session and place is falsely told.
     Told(u64, u64),
 }
 
-/// The lengths that the histories had when the sessions began, what these were told, and what comes of it.
+/// The lengths that the histories had when the sessions began, what these were told, and what comes
+/// of it.
 type Case = (&'static [u64], &'static [&'static [ToldParts]], Since);
 
 fn histories(alloc: Global) -> Result<Vec<Vec<Entry>>, Memory> {

@@ -1,7 +1,7 @@
 //! What sessions are told, by its parts.
-use lynx_names::Memory;
 use lynx_fixtures::made::{answer, chain, request, server, stamp, values};
 use lynx_fixtures::parts::{AnswerParts, RequestParts};
+use lynx_names::Memory;
 use lynx_weave::ToldItem;
 use std::alloc::Global;
 

@@ -2,10 +2,10 @@
 use crate::order::{Stamped, is_order};
 use crate::told::{ToldParts, sessions};
 use lynx_entry::Entry;
-use lynx_names::Memory;
 use lynx_fixtures::made::{boxed, entries};
 use lynx_fixtures::parts::EntryParts;
 use lynx_fixtures::texts::set_of;
+use lynx_names::Memory;
 use lynx_weave::{WeaveFault, weave};
 use lynx_world::World;
 use std::alloc::Global;

@@ -1,6 +1,6 @@
-//! A worked run of payments, with ample memory: a body that always answers want of memory meets any contract.
+//! A worked run of payments, with ample memory: a body that always answers want of memory meets any
+//! contract.
 use crate::order::is_order;
-use lynx_names::Memory;
 use lynx_fixtures::cells::are_cells;
 use lynx_fixtures::made::{answer, boxed, chain, delivered, request, server, stamp};
 use lynx_fixtures::parts::{AnswerParts, DeliveredParts, RequestParts};
@@ -8,6 +8,7 @@ use lynx_fixtures::payments::{
     DONE_AT_FOUR, DONE_AT_THREE, PAY, PAY_BEGUN, REPEATED_AT_THREE, SEED, SEED_BEGUN,
 };
 use lynx_fixtures::texts::{PAYMENT, read};
+use lynx_names::Memory;
 use lynx_world::{Event, Outcome, World, empty_keepers};
 use std::alloc::Global;
 

@@ -16,10 +16,17 @@ mark marks true true = marks.both
 
 -- the marks that a test gives
 abbrev pub marks_by : (Bool → Bool → Bool) → Marks
-marks_by test = record { neither = test false false; crossed = test true false; abroad = test false true; both = test true true }
+marks_by test =
+    record {
+      neither = test false false;
+      crossed = test true false;
+      abroad = test false true;
+      both = test true true;
+    }
 
 abbrev pub mark_at : List Marks → ℕ → Bool → Bool → Bool
-mark_at table node crossed abroad = option_map_or (λ marks. mark marks crossed abroad) (slice_get table node) false
+mark_at table node crossed abroad =
+    option_map_or (λ marks. mark marks crossed abroad) (slice_get table node) false
 
 -- the node is of a program of another origin than the start's
 abbrev pub is_abroad : Node → Node → Bool
@@ -27,7 +34,9 @@ is_abroad start node = not (same_server node.origin start.origin)
 
 -- an arrival here closes the walk: its first visit is entered here and left at the start
 abbrev pub is_goal : Node → Node → Bool → Bool → Bool
-is_goal start node crossed abroad = node.place.program == start.place.program && abroad && (crossed || not (node.place.hop == start.place.hop))
+is_goal start node crossed abroad =
+    node.place.program == start.place.program && abroad &&
+    (crossed || not (node.place.hop == start.place.hop))
 
 abbrev pub first_marks : Node → Node → Marks
 first_marks start node = marks_by (is_goal start node)
@@ -37,7 +46,8 @@ first_table nodes start = map (first_marks start) nodes
 
 -- a hop with which the node may conflict is marked
 abbrev pub leaves : List Marks → Node → Bool → Bool → Bool
-leaves table node crossed abroad = list_any (λ next. mark_at table next crossed abroad) node.neighbours
+leaves table node crossed abroad =
+    list_any (λ next. mark_at table next crossed abroad) node.neighbours
 
 abbrev pub is_marked : List Marks → Bool → Bool → Bool
 is_marked table crossed abroad = list_any (λ marks. mark marks crossed abroad) table
@@ -48,7 +58,8 @@ some_marks table = marks_by (is_marked table)
 
 -- the same, asked only for marks that some hop has
 abbrev pub leaving_marks : List Marks → Marks → Node → Marks
-leaving_marks table some node = marks_by (λ crossed abroad. mark some crossed abroad && leaves table node crossed abroad)
+leaving_marks table some node =
+    marks_by (λ crossed abroad. mark some crossed abroad && leaves table node crossed abroad)
 
 abbrev pub leaving_table : List Node → List Marks → List Marks
 leaving_table nodes table = map (leaving_marks table (some_marks table)) nodes
@@ -56,13 +67,17 @@ leaving_table nodes table = map (leaving_marks table (some_marks table)) nodes
 -- the program that was entered at the node may be left by a marked hop
 abbrev pub goes_on : List Marks → Node → Node → Bool → Bool → Bool
 goes_on leaving start node crossed abroad =
-    list_any (λ exit. mark_at leaving exit.node (crossed || not (node.place.hop == exit.hop)) (abroad || is_abroad start node)) node.exits
+    list_any (λ exit. mark_at leaving exit.node (crossed || not (node.place.hop == exit.hop))
+    (abroad || is_abroad start node)) node.exits
 
 abbrev pub next_marks : List Marks → Node → Node → Marks → Marks
-next_marks leaving start node marks = marks_by (λ crossed abroad. mark marks crossed abroad || goes_on leaving start node crossed abroad)
+next_marks leaving start node marks =
+    marks_by (λ crossed abroad. mark marks crossed abroad || goes_on leaving start node crossed
+    abroad)
 
 abbrev pub next_table : List Node → Node → List Marks → List Marks
-next_table nodes start table = map (λ paired. next_marks (leaving_table nodes table) start paired.0 paired.1) (zip nodes table)
+next_table nodes start table =
+    map (λ paired. next_marks (leaving_table nodes table) start paired.0 paired.1) (zip nodes table)
 
 -- the marks within so many further visits
 unfoldable pub table_within : List Node → Node → ℕ → List Marks

@@ -16,23 +16,37 @@ use Rattle.lynx_check.specs.inner.Marks.{is_abroad, leaves, mark_at, table_withi
 -- the first marked arrival for a walk that leaves at this node
 abbrev pub arrival_after : List Marks → Node → Bool → Bool → Option Arrival
 arrival_after table left crossed abroad =
-    option_map (λ next. record { node = next; crossed = crossed; abroad = abroad }) (find (λ next. mark_at table next crossed abroad) left.neighbours)
+    option_map (λ next. record { node = next; crossed = crossed; abroad = abroad })
+    (find (λ next. mark_at table next crossed abroad) left.neighbours)
 
 -- the visit that was entered here and is left by that exit, where a marked arrival follows
 abbrev pub step_by : List Node → Node → List Marks → Node → Arrival → Exit → Option Step
 step_by nodes start table here arrival exit =
-    option_map (λ next. record { visit = record { program = here.place.program; entered = here.place.hop; left = exit.hop }; next = next })
+    option_map (λ next.
+    record {
+      visit = record {
+        program = here.place.program;
+        entered = here.place.hop;
+        left = exit.hop;
+      };
+      next = next;
+    })
     (option_and_then
-    (λ left. arrival_after table left (arrival.crossed || not (here.place.hop == exit.hop)) (arrival.abroad || is_abroad start here))
+    (λ left. arrival_after table left (arrival.crossed || not (here.place.hop == exit.hop))
+    (arrival.abroad || is_abroad start here))
     (slice_get nodes exit.node))
 
 -- the visit that is left by the first of these exits with a marked arrival after it
 abbrev pub first_step : List Node → Node → List Marks → Node → Arrival → List Exit → Option Step
 first_step nodes start table here arrival [] = None
-first_step nodes start table here arrival (exit ∷ exits) = option_or (step_by nodes start table here arrival exit) (first_step nodes start table here arrival exits)
+first_step nodes start table here arrival (exit ∷ exits) =
+    option_or (step_by nodes start table here arrival exit)
+    (first_step nodes start table here arrival exits)
 
 abbrev pub next_step : List Node → Node → List Marks → Arrival → Option Step
-next_step nodes start table arrival = option_and_then (λ here. first_step nodes start table here arrival here.exits) (slice_get nodes arrival.node)
+next_step nodes start table arrival =
+    option_and_then (λ here. first_step nodes start table here arrival here.exits)
+    (slice_get nodes arrival.node)
 
 -- the tables of a start, of which the last marks a hop with which the start may conflict
 pub record AreLevels (nodes : List Node) (start : Node) (levels : List (List Marks)) : Type 0 where

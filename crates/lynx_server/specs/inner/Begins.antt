@@ -45,11 +45,18 @@ due books request seen =
 
 -- the books with what was added, and no draw out
 abbrev pub books_with : BooksState → Option Entry → BooksState
-books_with books added = record { set = books.set; server = books.server; history = grown books.history added; out = None }
+books_with books added =
+    record {
+      set = books.set;
+      server = books.server;
+      history = grown books.history added;
+      out = None;
+    }
 
 -- a begin was answered and kept; an error leaves the books as they were, and no draw out
 pub record KeepsBegin {K : Type 0} (terms : keep.Terms K) (keeper keeper_after : K)
-    (books : BooksState) (request : Request) (seen : ℕ) (result : Result Kept KeepFault) (books_after : BooksState) : Type 0 where
+    (books : BooksState) (request : Request) (seen : ℕ) (result : Result Kept KeepFault)
+    (books_after : BooksState) : Type 0 where
   pub answer : IfOk result (λ kept. kept.answer ≡ (due books request seen).answer)
   pub grows : OnOk result (books_after ≡ books_with books (due books request seen).added)
   pub err : OnErr result (books_after ≡ books_with books None)
@@ -74,7 +81,8 @@ pub record AreAlike (old new : BooksState) : Type 0 where
   pub history_is : new.history ≡ old.history
 
 -- a request with its draw, which is out
-pub record IsTaken (books : BooksState) (request : Request) (seen : ℕ) (taken : Taken) : Type 0 where
+pub record IsTaken (books : BooksState) (request : Request) (seen : ℕ) (taken : Taken) : Type
+    0 where
   pub request_is : taken.request ≡ request
   pub seen_is : taken.seen ≡ seen
   pub stamp_is : taken.stamp ≡ max (clock_of books.history) seen + 1
@@ -82,17 +90,21 @@ pub record IsTaken (books : BooksState) (request : Request) (seen : ℕ) (taken 
   pub out_is : books.out ≡ Some taken.draw
 
 -- its hop ran
-pub record HasRun (books : BooksState) (request : Request) (seen : ℕ) (step : RanStep) : Type 0 where
+pub record HasRun (books : BooksState) (request : Request) (seen : ℕ) (step : RanStep) : Type
+    0 where
   pub taken_is : IsTaken books request seen step.taken
-  pub ran_is : meaning books.set request.program 0 request.args [] (tables_of books.set books.history)
+  pub ran_is : meaning books.set request.program 0 request.args []
+      (tables_of books.set books.history)
       ≡ Ok (step.ran.0, applied step.ran.1 (tables_of books.set books.history))
 
 -- its hop refused, and its draw was given back
-pub record HasRefused (books : BooksState) (request : Request) (seen : ℕ) (step : RefusedStep) : Type 0 where
+pub record HasRefused (books : BooksState) (request : Request) (seen : ℕ)
+    (step : RefusedStep) : Type 0 where
   pub request_is : step.request ≡ request
   pub seen_is : step.seen ≡ seen
   pub stamp_is : step.stamp ≡ max (clock_of books.history) seen + 1
-  pub need_is : meaning books.set request.program 0 request.args [] (tables_of books.set books.history) ≡ Err step.need
+  pub need_is : meaning books.set request.program 0 request.args []
+      (tables_of books.set books.history) ≡ Err step.need
   pub out_is : books.out ≡ None
 
 abbrev pub HasStepped : BooksState → Request → ℕ → Stepped → Type 0

@@ -19,13 +19,20 @@ unchanged delivered held = record { delivered = delivered; added = None; held = 
 
 -- the message is held in its place
 pub record IsHolding (held : List Message) (message : Message) (delivers : Delivers) : Type 0 where
-  pub delivers_is : delivers ≡ record { delivered = Held; added = None; held = insert held (place_for message held) message }
+  pub delivers_is : delivers
+      ≡ record {
+        delivered = Held;
+        added = None;
+        held = insert held (place_for message held) message;
+      }
   pub room : length held < MAX_HELD
 
 -- the hop runs
-pub record IsRunning (books : BooksState) (held : List Message) (message : Message) (stamp : ℕ) (delivers : Delivers) : Type 0 where
+pub record IsRunning (books : BooksState) (held : List Message) (message : Message) (stamp : ℕ)
+    (delivers : Delivers) : Type 0 where
   pub due : IsDue books message stamp
-  pub delivers_is : delivers ≡ done_by books.set books.history held message (outcome_of books message)
+  pub delivers_is : delivers
+      ≡ done_by books.set books.history held message (outcome_of books message)
 
 -- what becomes of it so is the delivery
 abbrev pub Sorts : BooksState → List Message → Message → Delivers → Sorted → Type 0
@@ -49,9 +56,11 @@ IsSortedByTurn books held message sorted =
 
 abbrev pub IsSorted : BooksState → List Message → Message → Sorted → Type 0
 IsSorted books held message sorted =
-    Sorts books held message (delivery books.set books.server MAX_HELD books.history held message) sorted
+    Sorts books held message (delivery books.set books.server MAX_HELD books.history held message)
+    sorted
 
 -- it is the message's turn
 abbrev pub stands_here : BooksState → Message → Bool
 stands_here books message =
-    unwrap_or (number_at message.numbers books.server) 0 == turn_of books.set books.server books.history message.chain.origin
+    unwrap_or (number_at message.numbers books.server) 0 == turn_of books.set books.server
+    books.history message.chain.origin

@@ -1,6 +1,6 @@
 use Rattle.std.proofs.Common.{List, ◌∙◌, ap}
-use Rattle.lynx_groups.specs.Edges.{edges_of}
-use Rattle.lynx_groups.specs.declared.edges.Edge.{Edge}
+use Rattle.lynx_graph.specs.Edges.{edges_of}
+use Rattle.lynx_graph.specs.declared.edges.Edge.{Edge}
 use Rattle.lynx_draw.specs.declared.boxes.Boxes.{Boxes}
 use Rattle.lynx_draw.specs.declared.steps.Step.{Step}
 use Rattle.lynx_draw.specs.Boxes.{boxes_of}

@@ -1,6 +1,6 @@
 use Rattle.std.proofs.Common.{◌≡◌, ◌++◌, drop}
 use Rattle.std.specs.List.{flat_map}
-use Rattle.lynx_groups.specs.Groups.{leaders_of}
+use Rattle.lynx_graph.specs.Groups.{leaders_of}
 use Rattle.lynx_reasons.specs.Groups.{group_line}
 use Rattle.lynx_reasons.proofs.groups.put_group_lines.Given as goal
 

@@ -1,7 +1,7 @@
 use Rattle.std.proofs.Common.{subst, inr}
 use Rattle.std.specs.Io.KnownBytes.{Appends}
 use Rattle.lynx_report.specs.Written.{AppendsPart}
-use Rattle.lynx_io.proofs.Parts.{on_err}
+use Rattle.lynx_lines.proofs.Parts.{on_err}
 use Rattle.lynx_report.proofs.charting.chart_texts.Goals as goal
 
 pub returns-clause-ok : goal.returns-clause-ok

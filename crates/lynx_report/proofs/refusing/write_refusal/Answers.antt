@@ -2,7 +2,7 @@ use Rattle.std.proofs.Common.{List, [], inr, sym, subst}
 use Rattle.lynx_check.specs.declared.verdict.Verdict.TheVariants.{Offending as OffendingVerdict}
 use Rattle.lynx_graph.specs.declared.visit.Visit.{Visit}
 use Rattle.lynx_check.specs.Verdicts.{Judges}
-use Rattle.lynx_io.proofs.Parts.{on_err}
+use Rattle.lynx_lines.proofs.Parts.{on_err}
 use Rattle.lynx_report.proofs.Printed.{accepted_refusal, offending_printed}
 use Rattle.lynx_report.proofs.RunLemmas.{appends_nothing}
 use Rattle.lynx_report.proofs.refusing.write_refusal.Goals as goal

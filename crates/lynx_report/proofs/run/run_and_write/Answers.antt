@@ -1,6 +1,6 @@
 use Rattle.std.proofs.Common.{OnErr, subst}
 use Rattle.lynx_entry.specs.declared.event.Outcome.{Outcome}
-use Rattle.lynx_print.specs.Printed.{outcome_text}
+use Rattle.lynx_lines.specs.Printed.{outcome_text}
 use Rattle.lynx_lex.specs.Lines.{with_feed}
 use Rattle.lynx_report.specs.Written.{AppendsPart}
 use Rattle.lynx_report.proofs.run.run_and_write.Goals as goal

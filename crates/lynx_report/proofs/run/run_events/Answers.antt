@@ -1,6 +1,6 @@
 use Rattle.std.proofs.Common.{◌∙◌, ◌++◌, ◌∷◌, [], List, ap, sym, append_assoc}
 use Rattle.lynx_entry.specs.declared.event.Event.{Event}
-use Rattle.lynx_io.proofs.Parts.{on_err}
+use Rattle.lynx_lines.proofs.Parts.{on_err}
 use Rattle.lynx_report.proofs.RunLemmas.{lines_on, world_on}
 use Rattle.lynx_report.proofs.Stops.{lines_cut}
 use Rattle.lynx_report.proofs.run.run_events.Goals as goal

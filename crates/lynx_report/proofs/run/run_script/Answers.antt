@@ -1,4 +1,4 @@
-use Rattle.lynx_io.proofs.Parts.{on_err}
+use Rattle.lynx_lines.proofs.Parts.{on_err}
 use Rattle.lynx_report.proofs.Asked.{run_with, stopped_end, stopped_events, stopped_rest}
 use Rattle.lynx_report.proofs.run.run_script.Goals as goal
 

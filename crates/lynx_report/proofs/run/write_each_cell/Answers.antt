@@ -3,7 +3,7 @@ use Rattle.std.specs.Fmt.{decimal}
 use Rattle.lynx_lex.specs.Lines.{with_feed}
 use Rattle.lynx_report.specs.Runs.{cell_line}
 use Rattle.lynx_report.specs.Written.{AppendsPart}
-use Rattle.lynx_io.proofs.Parts.{line_cut, lines_so_far, on_err}
+use Rattle.lynx_lines.proofs.Parts.{line_cut, lines_so_far, on_err}
 use Rattle.lynx_report.proofs.run.write_each_cell.Goals as goal
 
 pub returns-in_err-line-clause-part : goal.returns-in_err-line-clause-part

@@ -3,7 +3,7 @@ use Rattle.std.specs.Io.KnownBytes.{Appends}
 use Rattle.lynx_set.specs.Set.{Set}
 use Rattle.lynx_report.specs.Runs.{cell_lines}
 use Rattle.lynx_report.proofs.RunLemmas.{end_prints}
-use Rattle.lynx_io.proofs.Parts.{on_err}
+use Rattle.lynx_lines.proofs.Parts.{on_err}
 use Rattle.lynx_report.proofs.Stops.{end_cut}
 use Rattle.lynx_report.proofs.run.write_end.Goals as goal
 

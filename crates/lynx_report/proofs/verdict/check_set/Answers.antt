@@ -1,6 +1,6 @@
 use Rattle.std.proofs.Common.{List, ℕ, ◌++◌, inr, sym, subst}
 use Rattle.std.specs.Io.KnownBytes.{Appends}
-use Rattle.lynx_io.proofs.Parts.{appends_both, on_err, part_of_more, part_on}
+use Rattle.lynx_lines.proofs.Parts.{appends_both, on_err, part_of_more, part_on}
 use Rattle.lynx_report.specs.declared.verdict.Finding.{Finding}
 use Rattle.lynx_report.specs.Checks.{finding_of, IsVerdictWith, verdict_lines}
 use Rattle.lynx_report.specs.Written.{AppendsPart}

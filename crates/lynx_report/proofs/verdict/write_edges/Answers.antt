@@ -1,7 +1,7 @@
 use Rattle.std.proofs.Common.{◌∙◌, subst}
 use Rattle.lynx_report.specs.Checks.{edge_line}
 use Rattle.lynx_report.specs.Written.{AppendsPart}
-use Rattle.lynx_io.proofs.Parts.{line_cut, lines_so_far, on_err}
+use Rattle.lynx_lines.proofs.Parts.{line_cut, lines_so_far, on_err}
 use Rattle.lynx_report.proofs.verdict.write_edges.Goals as goal
 
 pub returns-in_err-line-clause-part : goal.returns-in_err-line-clause-part

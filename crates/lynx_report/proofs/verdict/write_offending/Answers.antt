@@ -1,5 +1,5 @@
 use Rattle.lynx_report.specs.Checks.{edge_lines}
-use Rattle.lynx_io.proofs.Parts.{on_err, part_after, part_of_more}
+use Rattle.lynx_lines.proofs.Parts.{on_err, part_after, part_of_more}
 use Rattle.lynx_report.proofs.RunLemmas.{appends_on}
 use Rattle.lynx_report.proofs.verdict.write_offending.Goals as goal
 

@@ -1,8 +1,8 @@
 use Rattle.std.proofs.Common.{subst, inr}
 use Rattle.std.specs.Io.KnownBytes.{Appends}
 use Rattle.std.specs.String.{string_bytes}
-use Rattle.lynx_io.specs.Written.{AppendsPart}
-use Rattle.lynx_io.proofs.Parts.{on_err}
+use Rattle.lynx_lines.specs.Written.{AppendsPart}
+use Rattle.lynx_lines.proofs.Parts.{on_err}
 use Rattle.lynx_sample.proofs.sample.sample_text.Goals as goal
 
 pub returns-clause-ok : goal.returns-clause-ok

@@ -1,6 +1,6 @@
 use Rattle.std.proofs.Common.{◌≡◌, ◌++◌, drop}
 use Rattle.std.specs.String.{string_bytes}
-use Rattle.lynx_script.specs.Scripts.{script_of}
+use Rattle.lynx_lines.specs.Scripts.{script_of}
 use Rattle.lynx_sample.proofs.script.script_text.Given as goal
 
 -- what is written and what is left are the whole

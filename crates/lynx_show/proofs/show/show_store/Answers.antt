@@ -1,7 +1,7 @@
 use Rattle.std.proofs.Common.{◌≡◌, Result, Ok, Err, IfErr, subst, ◌∙◌}
 use Rattle.std.specs.Io.KnownBytes.{Appends}
 use Rattle.lynx_keep.specs.Kept.{kept_in}
-use Rattle.lynx_io.specs.Written.{AppendsPart}
+use Rattle.lynx_lines.specs.Written.{AppendsPart}
 use Rattle.lynx_show.specs.declared.fault.ShowFault.{ShowFault}
 use Rattle.lynx_show.specs.declared.fault.ShowFault.TheVariants.{Write}
 use Rattle.lynx_show.proofs.show.show_store.Goals as goal

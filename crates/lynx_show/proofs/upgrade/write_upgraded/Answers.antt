@@ -2,8 +2,8 @@ use Rattle.std.proofs.Common.{◌≡◌, ◌∷◌, [], rules, subst}
 use Rattle.std.specs.Prelude.{codes}
 use Rattle.std.specs.Fmt.{decimal}
 use Rattle.std.specs.Io.KnownBytes.{Appends}
-use Rattle.lynx_io.specs.Written.{AppendsPart}
-use Rattle.lynx_io.proofs.Parts.{on_err, part_of_more, part_on}
+use Rattle.lynx_lines.specs.Written.{AppendsPart}
+use Rattle.lynx_lines.proofs.Parts.{on_err, part_of_more, part_on}
 use Rattle.lynx_lex.specs.Lines.{with_feed}
 use Rattle.lynx_show.proofs.upgrade.write_upgraded.Goals as goal
 

@@ -1,0 +1,275 @@
+//! A load of payments, and how long it takes.
+ghost use Rattle.std.specs.Prelude.{◌≡◌, ◌<◌, ◌+◌};
+
+use crate::load_fault::LoadFault;
+use crate::payer::{Payer, begun_now, payers};
+use crate::starting::start;
+use crate::texts::{last_hop, payment, seed};
+use lynx_cluster::{Front, Gate, Session};
+use lynx_codec::Looked;
+use lynx_keep::Keeper;
+use lynx_names::ChainId;
+use lynx_order::{Explained, explain};
+use lynx_world::World;
+use std::alloc::Global;
+use std::sync::Wait;
+use std::thread::Threads;
+use std::time::{Clock, Duration, Instant};
+use std::{fmt, thread};
+
+/// Looks at the last hop of a server's last payment, at most, with a millisecond between two of
+/// them.
+pub const MAX_LOOKS: u32 = 600_000;
+
+/// A load: payments by clients of which each has a server of its own, or some that it pays from in
+/// turn. A payment goes from an account of its origin to one of the next server, by two hops, or to
+/// another of its origin, by one, as it always does where there is one server.
+#[derive(Clone, Copy, Debug, PartialEq, Eq)]
+pub struct Load {
+    /// Servers, 1 to 16.
+    pub servers: u8,
+    /// Threads that pay, 1 at least, each by a session of its own.
+    pub threads: u8,
+    /// Payments of all threads together. Each server has room for 1,000,000 entries, three of them
+    /// those of its seed and of what it pays and is paid at the end.
+    pub payments: u64,
+    /// Of a hundred payments so many go to the next server, evenly spread: 100 and more are all.
+    pub across: u8,
+}
+
+/// How long a load took, by the monotonic clock.
+#[derive(Clone, Copy, Debug, PartialEq, Eq)]
+pub struct Measured {
+    /// Payments that were answered as begun, each for the first time.
+    pub begun: u64,
+    /// From the first begin until all had begun and their threads had ended.
+    pub begin: Duration,
+    /// From the first begin until the last hops of all were seen, to a millisecond.
+    pub done: Duration,
+    /// The close, with its audit.
+    pub close: Duration,
+    /// The search for an order that explains the world of the closed cluster.
+    pub explain: Duration,
+}
+
+impl fmt::Display for Measured {
+    fn fmt<W: fmt::Write>(&self, f: &mut fmt::Formatter<W>) -> fmt::Result {
+        write!(
+            f,
+            "begun {} in {} ms, done {} ms, closed {} ms, explained {} ms",
+            self.begun,
+            self.begin.as_millis(),
+            self.done.as_millis(),
+            self.close.as_millis(),
+            self.explain.as_millis()
+        )
+    }
+}
+
+/// What a load that was carried leaves.
+#[derive(Drop)]
+struct Carried {
+    sessions: Vec<Session>,
+    begun: u64,
+    times: Times,
+}
+
+/// When a load began, when all its payments had begun, and when all were done.
+#[derive(Clone, Copy)]
+struct Times {
+    first: Instant,
+    begun: Instant,
+    done: Instant,
+}
+
+/// What each server's account is filled with: as much as all payments take, and the last one.
+fn amount(load: Load) -> u64
+    ensures { load.payments < 18446744073709551615 → result ≡ load.payments + 1 }
+{
+    load.payments.saturating_add(1)
+}
+
+/// Fills the account that each server pays from.
+fn seed_all<R: Wait, K: Keeper, G: Gate>(
+    rt: &R,
+    alloc: Global,
+    front: &Front<K, G>,
+    session: &mut Session,
+    load: Load,
+) -> Result<(), LoadFault> {
+    for server in 0..load.servers {
+        let request = seed(alloc, session.number(), server, load.servers, amount(load))?;
+        let answer = front.begin(rt, alloc, session, request);
+        begun_now(&answer)?;
+    }
+    Ok(())
+}
+
+/// Has the clients make their payments, each in a thread of its own.
+fn pay<R: Threads + Wait + Sync, K: Keeper + Send + Drop, G: Gate + Send + Sync + Drop>(
+    rt: &R,
+    alloc: Global,
+    front: &Front<K, G>,
+    payers: &mut [Payer],
+) {
+    let threads = payers.len().max(1);
+    thread::for_each_mut(
+        rt,
+        payers,
+        threads,
+        &|_, payer: &mut Payer| {
+            payer.pay_all(rt, alloc, front);
+        },
+    );
+}
+
+/// Adds the sessions of the clients to the list, and counts the payments that began.
+fn collect(payers: Vec<Payer>, sessions: &mut Vec<Session>) -> Result<u64, LoadFault> {
+    let mut total: u64 = 0;
+    for payer in payers {
+        let (session, begun) = payer.into_parts();
+        sessions.push(session)?;
+        total = total.saturating_add(begun?);
+    }
+    Ok(total)
+}
+
+/// Looks at that hop until it is there.
+fn await_hop<R: Wait + Clock, K: Keeper, G: Gate>(
+    rt: &R,
+    alloc: Global,
+    front: &Front<K, G>,
+    session: &mut Session,
+    chain: &ChainId,
+    hop: u8,
+) -> Result<(), LoadFault> {
+    for _ in 0..MAX_LOOKS {
+        match front.look(rt, alloc, session, *chain, hop)? {
+            Looked::Found { .. } => return Ok(()),
+            Looked::Absent => thread::sleep(rt, Duration::from_millis(1)),
+        }
+    }
+    Err(LoadFault::NotDone)
+}
+
+/// Begins a last payment from each server to the next.
+fn pay_last<R: Wait, K: Keeper, G: Gate>(
+    rt: &R,
+    alloc: Global,
+    front: &Front<K, G>,
+    session: &mut Session,
+    load: Load,
+) -> Result<Vec<ChainId>, LoadFault> {
+    let mut chains = Vec::new(alloc);
+    for server in 0..load.servers {
+        let number = u64::from(load.servers) + u64::from(server);
+        let request = payment(alloc, session.number(), number, server)?;
+        let answer = front.begin(rt, alloc, session, request);
+        chains.push(begun_now(&answer)?)?;
+    }
+    Ok(chains)
+}
+
+/// Waits until these payments are done. Each is the last of its origin, and the next server runs
+/// the hops of one origin in its order, so then all are done.
+fn await_all<R: Wait + Clock, K: Keeper, G: Gate>(
+    rt: &R,
+    alloc: Global,
+    front: &Front<K, G>,
+    session: &mut Session,
+    chains: &[ChainId],
+    hop: u8,
+) -> Result<(), LoadFault> {
+    for chain in chains {
+        await_hop(rt, alloc, front, session, chain, hop)?;
+    }
+    Ok(())
+}
+
+/// Seeds, pays, and waits until all is done.
+fn carry<R: Threads + Wait + Clock + Sync, K: Keeper + Send + Drop, G: Gate + Send + Sync + Drop>(
+    rt: &R,
+    alloc: Global,
+    front: &Front<K, G>,
+    load: Load,
+) -> Result<Carried, LoadFault>
+    requires { 0 < load.servers }
+{
+    let mut session = front.session(rt, alloc).ok_or(LoadFault::Session)?;
+    seed_all(rt, alloc, front, &mut session, load)?;
+    let mut payers = payers(rt, alloc, front, load)?;
+    let mut sessions = Vec::new(alloc);
+    let first = Instant::now(rt)?;
+    pay(rt, alloc, front, payers.as_mut_slice());
+    let all_begun = Instant::now(rt)?;
+    let begun = collect(payers, &mut sessions)?;
+    let chains = pay_last(rt, alloc, front, &mut session, load)?;
+    let hop = last_hop(load.servers);
+    await_all(rt, alloc, front, &mut session, chains.as_slice(), hop)?;
+    let done = Instant::now(rt)?;
+    sessions.push(session)?;
+    Ok(Carried {
+        sessions,
+        begun,
+        times: Times {
+            first,
+            begun: all_begun,
+            done,
+        },
+    })
+}
+
+/// Nothing, where an order of all chains explains the world.
+fn check_order(alloc: Global, world: &World) -> Result<(), LoadFault> {
+    match explain(alloc, world)? {
+        Explained::Order(_) => Ok(()),
+        Explained::Cycle(_) => Err(LoadFault::Cycle),
+    }
+}
+
+/// Nothing, where the world's cells hold together what the servers were seeded with, which they do
+/// not before all payments are done. Both sums are modulo 2^64, as those of the cells are.
+fn check_sum(alloc: Global, world: &World, load: Load) -> Result<(), LoadFault> {
+    let seeded = amount(load).wrapping_mul(u64::from(load.servers));
+    let mut sum: u64 = 0;
+    for (_, _, value) in world.cells(alloc)? {
+        sum = sum.wrapping_add(value);
+    }
+    if sum == seeded {
+        Ok(())
+    } else {
+        Err(LoadFault::Sum)
+    }
+}
+
+/// Carries a load over a cluster that it starts over keepers in memory and closes, and measures how
+/// long it takes. All payments begin, all come to their ends, what the sessions were told stands,
+/// and an order of all chains explains what the servers did; else it is a fault.
+pub fn measure<R: Threads + Wait + Clock + Copy + Send + Sync + 'static>(
+    rt: R,
+    alloc: Global,
+    load: Load,
+) -> Result<Measured, LoadFault> {
+    if load.threads == 0 {
+        return Err(LoadFault::Threads);
+    }
+    let cluster = start(rt, alloc, load.servers)?;
+    let (sessions, carried) = match carry(&rt, alloc, cluster.front(), load) {
+        Ok(carried) => (carried.sessions, Ok((carried.begun, carried.times))),
+        Err(fault) => (Vec::new(alloc), Err(fault)),
+    };
+    let closed = cluster.close(&rt, alloc, sessions);
+    let (begun, times) = carried?;
+    let closed = closed?;
+    let closed_at = Instant::now(&rt)?;
+    check_order(alloc, &closed.world)?;
+    let explained_at = Instant::now(&rt)?;
+    check_sum(alloc, &closed.world, load)?;
+    Ok(Measured {
+        begun,
+        begin: times.begun.duration_since(times.first),
+        done: times.done.duration_since(times.first),
+        close: closed_at.duration_since(times.done),
+        explain: explained_at.duration_since(closed_at),
+    })
+}

@@ -1,0 +1,5 @@
+pub mod Jobs
+pub mod Inputs
+pub mod Statuses
+pub mod Done
+pub mod Stopped

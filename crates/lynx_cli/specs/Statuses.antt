@@ -1,0 +1,59 @@
+-- The exit statuses.
+use Rattle.std.specs.Prelude.{ℕ, Bool, false, Result, Ok, Err}
+use Rattle.lynx_cli.specs.declared.fault.Fault.{Fault}
+use Rattle.lynx_cli.specs.declared.fault.Fault.TheVariants.{Ask, Command, NoSeparator, Unread, Run, Sample, Serve, Store}
+use Rattle.lynx_ask.specs.declared.fault.AskFault.{AskFault}
+use Rattle.lynx_ask.specs.declared.fault.AskFault.TheVariants.{Line}
+use Rattle.lynx_sample.specs.declared.fault.SampleFault.{SampleFault}
+use Rattle.lynx_sample.specs.declared.fault.SampleFault.TheVariants.{NoCycle, TooLong, Run as Stopped}
+use Rattle.lynx_report.specs.declared.run.RunFault.{RunFault}
+use Rattle.lynx_report.specs.declared.run.RunFault.TheVariants.{Set as SetFault, Script as ScriptFault, Write, Memory}
+use Rattle.lynx_report.specs.declared.run.Ending.{Ending}
+use Rattle.lynx_report.specs.declared.run.Ending.TheVariants.{Ordered, Cyclic}
+use Rattle.lynx_report.specs.declared.verdict.Finding.{Finding}
+use Rattle.lynx_report.specs.declared.verdict.Finding.TheVariants.{Accepted, Offending}
+
+-- of asking a service: 2 for a line that asks for nothing that there is
+abbrev pub status_of_asking : AskFault → ℕ
+status_of_asking (Line fault) = 2
+status_of_asking fault = 4
+
+-- of a run, a check or a picture: 2 for a text, 3 for want of memory, 4 for what can't be written
+abbrev pub status_of_run : RunFault → ℕ
+status_of_run (SetFault fault) = 2
+status_of_run (ScriptFault fault) = 2
+status_of_run Write = 4
+status_of_run Memory = 3
+
+-- of making a script: 1 where no run ended with a cycle, 2 where the script would be too long, and
+-- else as of a run
+abbrev pub status_of_sampling : SampleFault → ℕ
+status_of_sampling NoCycle = 1
+status_of_sampling TooLong = 2
+status_of_sampling (Stopped fault) = status_of_run fault
+
+-- 2: the words or a text. 3: want of memory. 4: what can't be read or written
+abbrev pub status_of : Fault → ℕ
+status_of (Command fault) = 2
+status_of NoSeparator = 2
+status_of (Unread name) = 4
+status_of (Run fault) = status_of_run fault
+status_of (Store fault) = 4
+status_of (Serve fault) = 4
+status_of (Ask fault) = status_of_asking fault
+status_of (Sample fault) = status_of_sampling fault
+
+-- of a check and of a picture: 0 where the set is accepted, 1 where it offends
+abbrev pub status_of_finding : Finding → ℕ
+status_of_finding (Accepted reason) = 0
+status_of_finding Offending = 1
+
+-- of a run: 0 where an order explains it, 1 where it ends with a cycle
+abbrev pub status_of_ending : Ending → ℕ
+status_of_ending Ordered = 0
+status_of_ending Cyclic = 1
+
+-- what a job ends with, after its output was written to its end, or could not be
+abbrev pub finished_as : Result ℕ Fault → Bool → Result ℕ Fault
+finished_as (Ok status) false = Err (Run Write)
+finished_as done flushed = done

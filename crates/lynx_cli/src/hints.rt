@@ -1,0 +1,148 @@
+//! The lines behind the one that tells a fault, where they are wanted: where in a text it is, and
+//! what was expected.
+use crate::fault::Fault;
+use crate::input::split_input;
+use crate::job::INPUT;
+use crate::shown::Shown;
+use lynx_hints::{Part, hint, separator_hint};
+use lynx_lex::TextFault;
+use lynx_report::RunFault;
+use lynx_text::parse;
+use std::alloc::Global;
+use std::io::Read;
+use std::rt::Files;
+use std::{fs, io};
+
+/// A text, and the name by which its lines are told.
+#[derive(Clone, Copy, Debug)]
+pub(crate) struct Named<'a> {
+    pub name: &'a str,
+    pub text: &'a [u8],
+}
+
+impl<'a> Named<'a> {
+    pub(crate) fn new(name: &'a str, text: &'a [u8]) -> Named<'a> {
+        Named { name, text }
+    }
+}
+
+/// The lines behind the one that tells a fault. They are made only where they are wanted, and for
+/// want of memory there are none.
+#[derive(Debug, Drop)]
+pub struct Hints {
+    is_wanted: bool,
+    lines: Option<String>,
+}
+
+/// The error with which a file can't be opened, or its first byte not be read.
+fn reading_error<R: Files>(rt: &R, name: &str) -> Option<io::Error> {
+    match fs::open(rt, name) {
+        Ok(mut file) => file.read(&mut [0u8]).err(),
+        Err(error) => Some(error),
+    }
+}
+
+impl Hints {
+    /// None yet.
+    pub fn new(is_wanted: bool) -> Hints {
+        Hints {
+            is_wanted,
+            lines: None,
+        }
+    }
+
+    /// The lines, each with its end. None where there are none, or none are wanted.
+    pub fn lines(&self) -> Option<&str> {
+        match &self.lines {
+            Some(lines) => Some(lines.as_str()),
+            None => None,
+        }
+    }
+
+    /// Notes where the fault of a text is.
+    fn note_fault(&mut self, alloc: Global, named: Named<'_>, part: Part<'_>, fault: TextFault) {
+        let shown = Shown { name: named.name };
+        if let Ok(name) = format!(in alloc; "{shown}") {
+            self.lines = hint(alloc, name.as_str(), named.text, part, fault).ok();
+        }
+    }
+
+    /// Notes where the fault of a script over a set is.
+    fn note_script_fault(
+        &mut self,
+        alloc: Global,
+        set: Named<'_>,
+        script: Named<'_>,
+        fault: TextFault,
+    ) {
+        let set = parse(alloc, set.text).ok();
+        let part = Part::Script { set: set.as_ref() };
+        self.note_fault(alloc, script, part, fault);
+    }
+
+    /// Notes what a job came to that read a set.
+    pub(crate) fn note_set<T>(
+        &mut self,
+        alloc: Global,
+        set: Named<'_>,
+        done: &Result<T, Fault<'_>>,
+    ) {
+        if let Err(Fault::Run(RunFault::Set(fault))) = done {
+            if self.is_wanted {
+                self.note_fault(alloc, set, Part::Set, *fault);
+            }
+        }
+    }
+
+    /// Notes what a job came to that read a set and a script.
+    pub(crate) fn note_run<T>(
+        &mut self,
+        alloc: Global,
+        set: Named<'_>,
+        script: Named<'_>,
+        done: &Result<T, Fault<'_>>,
+    ) {
+        self.note_set(alloc, set, done);
+        if let Err(Fault::Run(RunFault::Script(fault))) = done {
+            if self.is_wanted {
+                self.note_script_fault(alloc, set, script, *fault);
+            }
+        }
+    }
+
+    /// Notes what a run of standard input came to.
+    pub(crate) fn note_input<T>(
+        &mut self,
+        alloc: Global,
+        input: &[u8],
+        done: &Result<T, Fault<'_>>,
+    ) {
+        match split_input(input) {
+            Some((set, script)) => {
+                let set = Named::new("standard input", set);
+                let script = Named::new("standard input, script", script);
+                self.note_run(alloc, set, script, done);
+            }
+            None if self.is_wanted => self.lines = separator_hint(alloc, input).ok(),
+            None => {}
+        }
+    }
+
+    /// Notes why a file can't be read that a job named, as the system tells it.
+    pub(crate) fn note_unread<T, R: Files>(
+        &mut self,
+        rt: &R,
+        alloc: Global,
+        done: &Result<T, Fault<'_>>,
+    ) {
+        let Err(Fault::Unread(shown)) = done else {
+            return;
+        };
+        if !self.is_wanted || shown.name == INPUT {
+            return;
+        }
+        if let Some(error) = reading_error(rt, shown.name) {
+            self.lines = format!(in alloc; "  {error}\n").ok();
+        }
+    }
+}

@@ -1,0 +1,137 @@
+//! What the words of the command line ask for.
+ghost use Rattle.std.specs.Prelude.{option_map};
+ghost use Rattle.lynx_cli.specs.Jobs.{DrawsAs, RunsAs};
+
+use thiserror::Error;
+
+/// What a run does besides, none of it by default.
+#[derive(Clone, Copy, Debug, PartialEq, Eq)]
+pub struct RunFlags {
+    /// A set that offends is refused, as by a check.
+    pub checked: bool,
+    /// The hops that chains still owe are told behind the last line.
+    pub owed: bool,
+}
+
+/// A run without flags.
+pub(crate) const NO_FLAGS: RunFlags = RunFlags {
+    checked: false,
+    owed: false,
+};
+
+/// What a random script is to be.
+#[derive(Clone, Copy, Debug, PartialEq, Eq)]
+pub struct SampleFlags {
+    /// What its choices are drawn from: the same seed gives the same script.
+    pub seed: u64,
+    /// Chains that begin, at most.
+    pub begins: u8,
+    /// Its run ends with a cycle.
+    pub cycle: bool,
+}
+
+/// What the words ask for, with files as they were named.
+#[derive(Clone, Copy, Debug, PartialEq, Eq)]
+pub enum Job<'a> {
+    /// Judge the set of a file, and tell why the verdict is what it is where that is asked for.
+    Check {
+        set: &'a str,
+        why: bool,
+    },
+    /// Draw the set of a file, with the verdict on it, or the programs alone by which it offends.
+    Draw {
+        set: &'a str,
+        walk: bool,
+    },
+    /// Draw a run of the script of the second file over the set of the first.
+    Chart {
+        set: &'a str,
+        script: &'a str,
+    },
+    /// Make a random script for the set of a file.
+    Sample {
+        set: &'a str,
+        flags: SampleFlags,
+    },
+    /// Run the script of the second file over the set of the first.
+    Run {
+        set: &'a str,
+        script: &'a str,
+        flags: RunFlags,
+    },
+    /// Run the script of standard input over the set that stands before it.
+    RunInput {
+        flags: RunFlags,
+    },
+    /// List what a store holds.
+    Show {
+        store: &'a str,
+    },
+    /// Make a store of version 1 one of version 2.
+    Upgrade {
+        store: &'a str,
+    },
+    /// Serve clients at the port, over the stores of the set's servers in the folder.
+    Serve {
+        set: &'a str,
+        folder: &'a str,
+        port: u16,
+    },
+    /// Ask the service at the port what the lines of standard input ask.
+    Ask {
+        set: &'a str,
+        port: u16,
+    },
+}
+
+/// Words that ask for nothing, though the parser takes them or never sees them.
+#[derive(Clone, Copy, Debug, PartialEq, Eq, Error)]
+pub enum CommandFault {
+    #[error("a script is missing")]
+    NoScript,
+    #[error("one script too many")]
+    ScriptTooMany,
+    /// The programs of a walk are those of a set, and not of a run.
+    #[error("--walk draws no run")]
+    WalkOfRun,
+    /// The first word is a command that the program hasn't. The parser refuses it first.
+    #[error("no such command")]
+    NoCommand,
+    /// Some word isn't a text.
+    #[error("a word is not UTF-8")]
+    NotUtf8,
+}
+
+/// Standard input in the place of the files of a run.
+pub const INPUT: &str = "-";
+
+/// What `run` and its words ask for: `-` alone is standard input, and any other set wants a script.
+pub(crate) fn job_of_run<'a>(
+    set: &'a str,
+    script: Option<&'a str>,
+    flags: RunFlags,
+) -> Result<Job<'a>, CommandFault>
+    ensures { RunsAs set.now (option_map (λ own. own.now) script.entry) flags result }
+{
+    match script {
+        None if set == INPUT => Ok(Job::RunInput { flags }),
+        None => Err(CommandFault::NoScript),
+        Some(_) if set == INPUT => Err(CommandFault::ScriptTooMany),
+        Some(script) => Ok(Job::Run { set, script, flags }),
+    }
+}
+
+/// What `draw` and its words ask for: the picture of a set, or with a script that of a run.
+pub(crate) fn job_of_draw<'a>(
+    set: &'a str,
+    script: Option<&'a str>,
+    walk: bool,
+) -> Result<Job<'a>, CommandFault>
+    ensures { DrawsAs set.now (option_map (λ own. own.now) script.entry) walk result }
+{
+    match script {
+        None => Ok(Job::Draw { set, walk }),
+        Some(_) if walk => Err(CommandFault::WalkOfRun),
+        Some(script) => Ok(Job::Chart { set, script }),
+    }
+}

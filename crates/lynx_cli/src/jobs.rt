@@ -1,0 +1,267 @@
+//! The jobs of the program: files and standard input are opened, and standard output is written.
+ghost use Rattle.std.specs.Prelude.{◌≡◌, Ok, Err};
+ghost use Rattle.lynx_cli.specs.Statuses.{finished_as};
+
+use crate::fault::Fault;
+use crate::hints::{Hints, Named};
+use crate::job::{INPUT, Job, RunFlags, SampleFlags};
+use crate::reading::text_of;
+use crate::serving::{ask_port, serve_file};
+use crate::source::{InputFault, MAX_INPUT_BYTES, read_all};
+use crate::texts::{
+    DONE, chart_sources, check_source, draw_source, run_input, run_sources, sample_source,
+};
+use lynx_keep::Keeper;
+use lynx_report::{CheckOptions, DrawOptions, RunFault};
+use lynx_service::Service;
+use lynx_show::{ShowFault, show_store, upgrade_and_tell};
+use lynx_store_files::Stores;
+use sqlite::{Connection, File, FileStore};
+use std::alloc::Global;
+use std::io::{BufWriter, IsTerminal, Read, Write};
+use std::net::{Net, TcpListener, TcpStream};
+use std::rt::Files;
+use std::sync::Wait;
+use std::thread::Threads;
+use std::time::Clock;
+use std::{fs, io};
+
+/// Does what the words ask for, and gives the status. Files and streams are those of `host`,
+/// threads and sockets come by `rt`, which `main` alone can hand out, and a service opens its
+/// stores by `stores`. Files are read in the order of the words. Output is written as it fills a
+/// buffer, where somebody waits for it, and at the end, also where a fault stops the job. What the
+/// fault's line doesn't tell is left in `hints`, where it is wanted.
+pub fn do_job<
+    'a,
+    R: Threads
+        + Wait
+        + Clock
+        + Net<Listener = TcpListener, Stream = TcpStream>
+        + Copy
+        + Send
+        + Sync
+        + 'static,
+    K: Keeper + Send + Drop + 'static,
+    S: Stores<K>,
+>(host: &HostRuntime, rt: R, stores: &S, job: Job<'a>, hints: &mut Hints) -> Result<u8, Fault<'a>> {
+    let Ok(mut writer) = BufWriter::new(host.alloc(), io::writer(host)) else {
+        return Err(Fault::Run(RunFault::Memory));
+    };
+    let done = match job {
+        Job::Check { set, why } => check_file(host, set, why, hints, &mut writer),
+        Job::Draw { set, walk } => draw_file(host, set, walk, hints, &mut writer),
+        Job::Chart { set, script } => chart_files(host, set, script, hints, &mut writer),
+        Job::Sample { set, flags } => sample_file(host, set, flags, hints, &mut writer),
+        Job::Run { set, script, flags } => run_files(host, set, script, flags, hints, &mut writer),
+        Job::RunInput { flags } => run_standard_input(host, flags, hints, &mut writer),
+        Job::Show { store } => show_file(host, store, &mut writer),
+        Job::Upgrade { store } => upgrade_file(host, store, &mut writer),
+        Job::Serve { set, folder, port } => {
+            let service = Service { folder, port };
+            serve_file(host, rt, stores, set, service, hints, &mut writer)
+        }
+        Job::Ask { set, port } => ask_port(host, &rt, set, port, hints, &mut writer),
+    };
+    hints.note_unread(host, host.alloc(), &done);
+    let flushed = writer.flush().is_ok();
+    finished(done, flushed)
+}
+
+/// What a job ends with, whose output was written to its end or not. An earlier fault is the one
+/// that is told.
+fn finished<'a>(done: Result<u8, Fault<'a>>, flushed: bool) -> Result<u8, Fault<'a>>
+    ensures { result ≡ finished_as done.entry flushed }
+{
+    match done {
+        Ok(_) if !flushed => Err(Fault::Run(RunFault::Write)),
+        done => done,
+    }
+}
+
+/// Judges the set of a file.
+fn check_file<'a, R: Files + AllocGlobal, W: Write>(
+    rt: &R,
+    set: &'a str,
+    why: bool,
+    hints: &mut Hints,
+    writer: &mut W,
+) -> Result<u8, Fault<'a>> {
+    let read = text_of(rt, set)?;
+    let text = read.as_slice();
+    let done = check_source(rt.alloc(), set, &mut &*text, CheckOptions { why }, writer);
+    hints.note_set(rt.alloc(), Named::new(set, text), &done);
+    done
+}
+
+/// Draws the set of a file.
+fn draw_file<'a, R: Files + AllocGlobal, W: Write>(
+    rt: &R,
+    set: &'a str,
+    walk: bool,
+    hints: &mut Hints,
+    writer: &mut W,
+) -> Result<u8, Fault<'a>> {
+    let read = text_of(rt, set)?;
+    let text = read.as_slice();
+    let done = draw_source(rt.alloc(), set, &mut &*text, DrawOptions { walk }, writer);
+    hints.note_set(rt.alloc(), Named::new(set, text), &done);
+    done
+}
+
+/// Draws a run of the script of a file over the set of another, which is read first.
+fn chart_files<'a, R: Files + AllocGlobal, W: Write>(
+    rt: &R,
+    set: &'a str,
+    script: &'a str,
+    hints: &mut Hints,
+    writer: &mut W,
+) -> Result<u8, Fault<'a>> {
+    let (set_read, script_read) = (text_of(rt, set)?, text_of(rt, script)?);
+    let (set_text, script_text) = (set_read.as_slice(), script_read.as_slice());
+    let done = chart_sources(
+        rt.alloc(),
+        set,
+        &mut &*set_text,
+        script,
+        &mut &*script_text,
+        writer,
+    );
+    let (set, script) = (Named::new(set, set_text), Named::new(script, script_text));
+    hints.note_run(rt.alloc(), set, script, &done);
+    done
+}
+
+/// Makes a random script for the set of a file.
+fn sample_file<'a, R: Files + AllocGlobal, W: Write>(
+    rt: &R,
+    set: &'a str,
+    flags: SampleFlags,
+    hints: &mut Hints,
+    writer: &mut W,
+) -> Result<u8, Fault<'a>> {
+    let read = text_of(rt, set)?;
+    let text = read.as_slice();
+    let done = sample_source(rt.alloc(), set, &mut &*text, flags, writer);
+    hints.note_set(rt.alloc(), Named::new(set, text), &done);
+    done
+}
+
+/// Runs the script of a file over the set of another, which is read first.
+fn run_files<'a, R: Files + AllocGlobal, W: Write>(
+    rt: &R,
+    set: &'a str,
+    script: &'a str,
+    flags: RunFlags,
+    hints: &mut Hints,
+    writer: &mut W,
+) -> Result<u8, Fault<'a>> {
+    let (set_read, script_read) = (text_of(rt, set)?, text_of(rt, script)?);
+    let (set_text, script_text) = (set_read.as_slice(), script_read.as_slice());
+    let done = run_sources(
+        rt.alloc(),
+        set,
+        &mut &*set_text,
+        script,
+        &mut &*script_text,
+        flags,
+        writer,
+    );
+    let (set, script) = (Named::new(set, set_text), Named::new(script, script_text));
+    hints.note_run(rt.alloc(), set, script, &done);
+    done
+}
+
+/// Runs the script of standard input over the set that stands before it.
+fn run_standard_input<W: Write>(
+    rt: &HostRuntime,
+    flags: RunFlags,
+    hints: &mut Hints,
+    writer: &mut W,
+) -> Result<u8, Fault<'static>> {
+    let read = match read_all(rt.alloc(), &mut rt.reader(), MAX_INPUT_BYTES) {
+        Ok(read) => read,
+        Err(fault) => return Err(Fault::of_reading(INPUT, fault)),
+    };
+    let input = read.as_slice();
+    let done = run_input(rt.alloc(), INPUT, &mut &*input, flags, writer);
+    hints.note_input(rt.alloc(), input, &done);
+    done
+}
+
+/// Whether a file has a byte. None where it can't be read.
+fn has_bytes<R: Files>(rt: &R, name: &str) -> Option<bool> {
+    let mut file = fs::open(rt, name).ok()?;
+    match file.read(&mut [0u8]) {
+        Ok(count) => Some(count > 0),
+        Err(_) => None,
+    }
+}
+
+/// Whether the log beside a store has a byte.
+fn has_log<'a, R: Files>(rt: &R, alloc: Global, store: &'a str) -> Result<bool, Fault<'a>> {
+    match format!(in alloc; "{store}-wal") {
+        Ok(log) => Ok(has_bytes(rt, log.as_str()) == Some(true)),
+        Err(_) => Err(Fault::Run(RunFault::Memory)),
+    }
+}
+
+/// The database of a file that holds a store. A file without a byte, and without a log beside it,
+/// is no store: it isn't opened, which would make it one.
+fn open_store<'a>(
+    rt: &HostRuntime,
+    store: &'a str,
+) -> Result<Connection<FileStore<File>>, Fault<'a>> {
+    let Some(begun) = has_bytes(rt, store) else {
+        return Err(Fault::of_reading(store, InputFault::Read));
+    };
+    if !begun && !has_log(rt, rt.alloc(), store)? {
+        return Err(Fault::Store(ShowFault::Damaged));
+    }
+    match Connection::open(rt, store) {
+        Ok(conn) => Ok(conn),
+        Err(_) => Err(Fault::Store(ShowFault::Store)),
+    }
+}
+
+/// Lists the store of a file.
+fn show_file<'a, W: Write>(
+    rt: &HostRuntime,
+    store: &'a str,
+    writer: &mut W,
+) -> Result<u8, Fault<'a>> {
+    let mut conn = open_store(rt, store)?;
+    match show_store(rt.alloc(), &mut conn, writer) {
+        Ok(()) => Ok(DONE),
+        Err(fault) => Err(Fault::of_showing(fault)),
+    }
+}
+
+/// What a person at a terminal is told while a store is upgraded, which takes some seconds where it
+/// is large ..
+const UPGRADING: &str = "\rlynx: upgrading the store\x1b[K";
+
+/// .. and how that is wiped away.
+const WIPED: &str = "\r\x1b[K";
+
+/// Writes to standard error where that is a terminal.
+fn tell(rt: &HostRuntime, text: &str) {
+    if rt.stderr().is_terminal() {
+        let _ = eprint!(rt; "{text}");
+    }
+}
+
+/// Makes the store of a file one of version 2.
+fn upgrade_file<'a, W: Write>(
+    rt: &HostRuntime,
+    store: &'a str,
+    writer: &mut W,
+) -> Result<u8, Fault<'a>> {
+    let mut conn = open_store(rt, store)?;
+    tell(rt, UPGRADING);
+    let upgraded = upgrade_and_tell(rt.alloc(), &mut conn, writer);
+    tell(rt, WIPED);
+    match upgraded {
+        Ok(()) => Ok(DONE),
+        Err(fault) => Err(Fault::of_showing(fault)),
+    }
+}

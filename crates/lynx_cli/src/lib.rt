@@ -1,0 +1,25 @@
+//! The command line: what its words ask for, and the jobs that do it, files and standard input in,
+//! lines and a status out.
+#![tactic(auto)]
+
+pub use fault::Fault;
+pub use hints::Hints;
+pub use input::split_input;
+pub use job::{CommandFault, INPUT, Job, RunFlags, SampleFlags};
+pub use jobs::do_job;
+pub use parser::{command, job_of, wants_hints};
+pub use source::{InputFault, MAX_FILE_BYTES, MAX_INPUT_BYTES, read_all};
+pub use texts::{chart_sources, check_source, draw_source, run_input, run_sources, sample_source};
+
+pub mod fault;
+pub mod hints;
+pub mod input;
+pub mod job;
+pub mod jobs;
+pub mod laws;
+pub mod parser;
+mod reading;
+mod serving;
+pub mod shown;
+pub mod source;
+pub mod texts;

@@ -1,0 +1,343 @@
+//! The words of the command line.
+ghost use Rattle.std.specs.Prelude.{◌≡◌, Ok, None};
+ghost use Rattle.clap.specs.Matches.{subcommand_name_of};
+ghost use Rattle.lynx_cli.specs.Jobs.{AskedBy, no_flags};
+
+use crate::job::{
+    CommandFault, INPUT, Job, NO_FLAGS, RunFlags, SampleFlags, job_of_draw, job_of_run,
+};
+use clap::{Arg, ArgAction, ArgMatches, Command, value_parser};
+use std::alloc::{AllocError, Global};
+
+/// The statuses that the program ends with, and the words of faults, as the help tells them at its
+/// end.
+const STATUSES_AND_FAULTS: &str =
+    "Statuses:\n  0  done: the set is accepted, an order explains the run\n  1  the set offends, or the run ends with a cycle\n  2  faulty words or a faulty text\n  3  out of memory\n  4  a file, a store, a socket or a thread fails, or the audit at the end of a service\n\nA faulty text is told with its line and one of these words: too-long, bad-version, bad-line,\nbad-name, bad-number, repeated, unknown, need-not-first, limit-passed, literal-elsewhere,\nshard-gap, shard-overlap, shard-server. With --hints, and on a terminal, the place is shown.";
+
+/// The script of a run or of the picture of one.
+const SCRIPT: &str = "SCRIPT";
+
+/// The option of each command that reads a text.
+const HINTS: &str = "hints";
+
+/// The option of a check.
+const WHY: &str = "why";
+
+/// The option of a picture.
+const WALK: &str = "walk";
+
+/// The options of a run.
+const CHECKED: &str = "checked";
+
+const OWED: &str = "owed";
+
+/// The options of a random script.
+const SEED: &str = "seed";
+
+const BEGINS: &str = "begins";
+
+const CYCLE: &str = "cycle";
+
+/// Chains that begin in a random script, where the words don't say how many.
+const USUAL_BEGINS: u8 = 8;
+
+/// The set of a command that reads files alone.
+fn set_file<'a>(alloc: Global) -> Arg<'a> {
+    Arg::new(alloc, "SET")
+        .required(true)
+        .help("The file of the set's text; - is a file of that name")
+}
+
+/// The script of a command that may have one.
+fn script_file<'a>(alloc: Global) -> Arg<'a> {
+    Arg::new(alloc, SCRIPT).help("The file of the script; - is a file of that name")
+}
+
+/// An option without a value.
+fn flag<'a>(alloc: Global, name: &'a str, help: &'a str) -> Arg<'a> {
+    Arg::new(alloc, name)
+        .long(name)
+        .action(ArgAction::SetTrue)
+        .help(help)
+}
+
+/// The option by which faults of texts show the place.
+fn hints_flag<'a>(alloc: Global) -> Arg<'a> {
+    flag(
+        alloc,
+        HINTS,
+        "Show behind the line of a fault where it is in the text, and what was expected, as on a terminal always",
+    )
+}
+
+fn check_command<'a>(alloc: Global) -> Result<Command<'a>, AllocError> {
+    Command::new(alloc, "check")
+        .about("Judge a set of chain programs")
+        .after_help(
+            "Status 0 where the set is accepted, 1 where it offends.\nExample: lynx check payment.set",
+        )
+        .arg(set_file(alloc))?
+        .arg(flag(
+            alloc,
+            WHY,
+            "Tell behind the verdict which hops may conflict, why each group of programs is fine, and which programs make\nthe server where they begin busy",
+        ))?
+        .arg(hints_flag(alloc))
+}
+
+fn draw_command<'a>(alloc: Global) -> Result<Command<'a>, AllocError> {
+    Command::new(alloc, "draw")
+        .about(
+            "Draw a set of chain programs, or a run of a script, in the DOT language of Graphviz",
+        )
+        .after_help(
+            "Of a set: dashed lines join hops that may conflict, red steps are those by which the set offends.\nStatus 0 where the set is accepted, 1 where it offends: it is drawn all the same.\nOf a run: each server's entries stand in a column, arrows are messages, red lines lead around a cycle.\nStatus 0 where an order explains the run, 1 where it ends with a cycle. The set isn't checked.\nExample: lynx draw payment.set | dot -Tsvg > payment.svg",
+        )
+        .arg(set_file(alloc))?
+        .arg(script_file(alloc))?
+        .arg(flag(
+            alloc,
+            WALK,
+            "Draw the programs of the walk alone by which the set offends, or would if it weren't excused",
+        ))?
+        .arg(hints_flag(alloc))
+}
+
+/// An option with a number.
+fn number<'a>(alloc: Global, name: &'a str, help: &'a str) -> Arg<'a> {
+    Arg::new(alloc, name)
+        .long(name)
+        .value_name("N")
+        .action(ArgAction::Set)
+        .help(help)
+}
+
+fn sample_command<'a>(alloc: Global) -> Result<Command<'a>, AllocError> {
+    Command::new(alloc, "sample")
+        .about("Print a random script for a set of chain programs")
+        .after_help(
+            "Chains begin, and messages are delivered, repeated, held up, lost and woken in some order, and servers opened\nagain; in the end no hop is owed. The same words give the same script.\nStatus 0, or 1 where --cycle finds none.\nExample: lynx sample payment.set --cycle | lynx run payment.set /dev/stdin",
+        )
+        .arg(set_file(alloc))?
+        .arg(number(
+            alloc,
+            SEED,
+            "What the choices are drawn from, 0 if left out",
+        )
+        .value_parser(value_parser!(u64)))?
+        .arg(number(
+            alloc,
+            BEGINS,
+            "Chains that begin at most, 1 to 100, 8 if left out",
+        )
+        .value_parser(value_parser!(u8).range(1..=100)))?
+        .arg(flag(
+            alloc,
+            CYCLE,
+            "Look for a script whose run ends with a cycle, among 1,000",
+        ))?
+        .arg(hints_flag(alloc))
+}
+
+fn run_command<'a>(alloc: Global) -> Result<Command<'a>, AllocError> {
+    let set = Arg::new(alloc, "SET").required(true).help(
+        "The file of the set's text, or - alone for standard input: a set text, a line --, a script",
+    );
+    Command::new(alloc, "run")
+        .about("Run a script over a set of chain programs")
+        .after_help(
+            "The set isn't checked unless --checked is given: an offending one can end with a cycle, status 1.\nExample: lynx run payment.set payment.script",
+        )
+        .arg(set)?
+        .arg(script_file(alloc))?
+        .arg(flag(
+            alloc,
+            CHECKED,
+            "Refuse a set that offends, as check does, and run nothing",
+        ))?
+        .arg(flag(
+            alloc,
+            OWED,
+            "Tell behind the last line each hop that a chain still owes",
+        ))?
+        .arg(hints_flag(alloc))
+}
+
+fn show_command<'a>(alloc: Global) -> Result<Command<'a>, AllocError> {
+    let store = Arg::new(alloc, "STORE")
+        .required(true)
+        .help("The file of the store; its log NAME-wal is read with it");
+    Command::new(alloc, "show")
+        .about("List what a store holds: its server, its entries and its cells")
+        .after_help(
+            "The store is only read. A fault of it is told as other-version, damaged or store.\nExample: lynx show server-0.lynx",
+        )
+        .arg(store)
+}
+
+fn upgrade_command<'a>(alloc: Global) -> Result<Command<'a>, AllocError> {
+    let store = Arg::new(alloc, "STORE")
+        .required(true)
+        .help("The file of the store; its log NAME-wal is read with it");
+    Command::new(alloc, "upgrade")
+        .about("Make a store of version 1 one of version 2, for the same set at version 2")
+        .after_help(
+            "No service may have the store open, and a copy of it should be kept until the new one is in use.\nEntries and cells stay what they are. A fault of it is told as other-version, damaged or store: it is\nthen as it was, or after store as it was or upgraded.\nExample: lynx upgrade server-0.lynx",
+        )
+        .arg(store)
+}
+
+/// The port of a service.
+fn port<'a>(alloc: Global) -> Arg<'a> {
+    Arg::new(alloc, "PORT")
+        .required(true)
+        .value_parser(value_parser!(u16).range(1..=65535))
+        .help("The port of 127.0.0.1, 1 to 65535")
+}
+
+fn serve_command<'a>(alloc: Global) -> Result<Command<'a>, AllocError> {
+    let folder = Arg::new(alloc, "DIR").required(true).help(
+        "The folder of the stores, server-0.lynx and so on; those that aren't there are made",
+    );
+    Command::new(alloc, "serve")
+        .about("Serve clients at a port, over the stores of a folder, until one asks for the end")
+        .after_help(
+            "An offending set is refused as by check, and nothing is opened. The end checks all that clients were\ntold. Clients: lynx ask, clients/python/lynx.py; docs/FORMATS.md has the bytes.\nExample: lynx serve payment.set stores 7000",
+        )
+        .arg(set_file(alloc))?
+        .arg(folder)?
+        .arg(port(alloc))?
+        .arg(hints_flag(alloc))
+}
+
+fn ask_command<'a>(alloc: Global) -> Result<Command<'a>, AllocError> {
+    Command::new(alloc, "ask")
+        .about("Ask a service what the lines of standard input ask, and print its answers")
+        .after_help(
+            "Lines:\n  begin CLIENT NUMBER PROGRAM ARG..  begin a chain; the same CLIENT and NUMBER never begin two\n  look ORIGIN:INDEX HOP              whether that hop of a chain is done, and its results\n  quit                               leave, as the end of the input does\n  shut                               have the service end\nExample: echo 'begin 1 1 pay 30' | lynx ask payment.set 7000",
+        )
+        .arg(set_file(alloc))?
+        .arg(port(alloc))?
+        .arg(hints_flag(alloc))
+}
+
+/// The program without its commands.
+fn bare_command<'a>(alloc: Global) -> Command<'a> {
+    Command::new(alloc, "lynx")
+        .version("0.1.0")
+        .about(
+            "A transaction-chain store: judges, draws and runs sets of chain programs, makes scripts for them, serves them to\nclients, and lists and upgrades stores",
+        )
+        .after_help(STATUSES_AND_FAULTS)
+}
+
+fn with_check<'a>(alloc: Global, command: Command<'a>) -> Result<Command<'a>, AllocError> {
+    command.subcommand(check_command(alloc)?)
+}
+
+fn with_draw<'a>(alloc: Global, command: Command<'a>) -> Result<Command<'a>, AllocError> {
+    command.subcommand(draw_command(alloc)?)
+}
+
+fn with_sample<'a>(alloc: Global, command: Command<'a>) -> Result<Command<'a>, AllocError> {
+    command.subcommand(sample_command(alloc)?)
+}
+
+fn with_run<'a>(alloc: Global, command: Command<'a>) -> Result<Command<'a>, AllocError> {
+    command.subcommand(run_command(alloc)?)
+}
+
+fn with_show<'a>(alloc: Global, command: Command<'a>) -> Result<Command<'a>, AllocError> {
+    command.subcommand(show_command(alloc)?)
+}
+
+fn with_upgrade<'a>(alloc: Global, command: Command<'a>) -> Result<Command<'a>, AllocError> {
+    command.subcommand(upgrade_command(alloc)?)
+}
+
+fn with_serve<'a>(alloc: Global, command: Command<'a>) -> Result<Command<'a>, AllocError> {
+    command.subcommand(serve_command(alloc)?)
+}
+
+fn with_ask<'a>(alloc: Global, command: Command<'a>) -> Result<Command<'a>, AllocError> {
+    command.subcommand(ask_command(alloc)?)
+}
+
+/// The program's command line. No words at all are read as `run -`.
+pub fn command<'a>(alloc: Global) -> Result<Command<'a>, AllocError> {
+    let command = with_check(alloc, bare_command(alloc))?;
+    let command = with_run(alloc, with_draw(alloc, command)?)?;
+    let command = with_sample(alloc, command)?;
+    let command = with_upgrade(alloc, with_show(alloc, command)?)?;
+    let command = with_serve(alloc, command)?;
+    with_ask(alloc, command)
+}
+
+/// The number of the port. The parser lets no other words through.
+fn port_of(words: &ArgMatches<'_>) -> u16 {
+    words.get_one("PORT").unwrap_or_default()
+}
+
+/// The flags of a run.
+fn flags_of(words: &ArgMatches<'_>) -> RunFlags {
+    RunFlags {
+        checked: words.get_flag(CHECKED),
+        owed: words.get_flag(OWED),
+    }
+}
+
+/// What a random script is to be. The parser lets no other words through.
+fn sample_flags_of(words: &ArgMatches<'_>) -> SampleFlags {
+    SampleFlags {
+        seed: words.get_one(SEED).unwrap_or_default(),
+        begins: words.get_one(BEGINS).unwrap_or(USUAL_BEGINS),
+        cycle: words.get_flag(CYCLE),
+    }
+}
+
+/// Whether the words ask for the place of a fault in a text.
+pub fn wants_hints(matches: &ArgMatches<'_>) -> bool {
+    match matches.subcommand() {
+        Some((_, words)) => words.get_flag(HINTS),
+        None => false,
+    }
+}
+
+/// What the words ask for.
+pub fn job_of<'a>(matches: &ArgMatches<'a>) -> Result<Job<'a>, CommandFault>
+    ensures no_words { subcommand_name_of matches.now ≡ None → result ≡ Ok (Job.RunInput no_flags) }
+    ensures asked { AskedBy (subcommand_name_of matches.now) result }
+{
+    let Some((name, words)) = matches.subcommand() else {
+        return Ok(Job::RunInput { flags: NO_FLAGS });
+    };
+    let set = words.get_str("SET").unwrap_or(INPUT);
+    match name {
+        "check" => Ok(Job::Check {
+            set,
+            why: words.get_flag(WHY),
+        }),
+        "draw" => job_of_draw(set, words.get_str(SCRIPT), words.get_flag(WALK)),
+        "sample" => Ok(Job::Sample {
+            set,
+            flags: sample_flags_of(words),
+        }),
+        "run" => job_of_run(set, words.get_str(SCRIPT), flags_of(words)),
+        "show" => Ok(Job::Show {
+            store: words.get_str("STORE").unwrap_or(INPUT),
+        }),
+        "upgrade" => Ok(Job::Upgrade {
+            store: words.get_str("STORE").unwrap_or(INPUT),
+        }),
+        "serve" => Ok(Job::Serve {
+            set,
+            folder: words.get_str("DIR").unwrap_or(INPUT),
+            port: port_of(words),
+        }),
+        "ask" => Ok(Job::Ask {
+            set,
+            port: port_of(words),
+        }),
+        _ => Err(CommandFault::NoCommand),
+    }
+}

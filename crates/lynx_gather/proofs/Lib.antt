@@ -1,2 +1,0 @@
-pub mod Loadings
-pub mod Parted

@@ -1,5 +1,0 @@
-use Rattle.lynx_gather.proofs.Parted.{woven_in_order}
-use Rattle.lynx_gather.proofs.laws.woven_keeps_order.Goals as goal
-
-pub returns : goal.returns
-returns c = woven_in_order

@@ -1,3 +1,0 @@
-pub mod Gathering
-pub mod Parts
-pub mod inner

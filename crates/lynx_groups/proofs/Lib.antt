@@ -1,3 +1,0 @@
-pub mod Conflicts
-pub mod EdgesFrom
-pub mod Joining

@@ -1,0 +1,4 @@
+pub mod Printed
+pub mod Scripts
+pub mod Written
+pub mod inner

@@ -1,0 +1,14 @@
+//! The lines of scripts, the lines that are printed, and writing them out: docs/FORMATS.md has
+//! their forms.
+#![tactic(auto)]
+
+pub use printed::{
+    cell_line, chains_line, conflict_line, entry_line, outcome_line, push_chains, push_spaced,
+    push_values,
+};
+pub use script::parse_script;
+pub use writing::{WriteFailed, write_bytes};
+
+pub mod printed;
+pub mod script;
+pub mod writing;

@@ -1,7 +1,0 @@
-use Rattle.std.proofs.Common.{◌≡◌, ◌++◌, take}
-use Rattle.std.specs.String.{string_bytes}
-use Rattle.lynx_print.specs.Printed.{spaced}
-use Rattle.lynx_print.proofs.printed.push_spaced.Given as goal
-
-abbrev pub invariant-loop-value : goal.invariant-loop-value
-invariant-loop-value l = string_bytes l.text ≡ string_bytes l.initial.text ++ spaced (take l.value-index l.values)

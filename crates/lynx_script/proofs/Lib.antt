@@ -1,2 +1,0 @@
-pub mod SpelledLemmas
-pub mod EventLemmas

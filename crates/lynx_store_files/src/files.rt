@@ -1,0 +1,49 @@
+use crate::keeper::FileKeeper;
+use crate::stores::Stores;
+use lynx_names::ServerId;
+use lynx_set::ChainSet;
+use lynx_store::{SqlKeeper, StoreFault};
+use sqlite::Connection;
+use std::rt::HostRuntime;
+
+/// Stores in files: `server-0.lynx` in the folder and so on, each with its log beside it. A file is
+/// locked while it is open, so a second process gets [`StoreFault::Store`], and so does who names a
+/// folder that isn't there.
+#[derive(Drop)]
+pub struct Files {
+    rt: HostRuntime,
+}
+
+impl Files {
+    /// Stores among the files that this runtime reaches.
+    pub fn new(rt: HostRuntime) -> Files {
+        Files { rt }
+    }
+}
+
+impl Stores<FileKeeper> for Files {
+    fn open(
+        &self,
+        folder: &str,
+        set: &ChainSet,
+        server: ServerId,
+    ) -> Result<FileKeeper, StoreFault> {
+        let Ok(path) = format!(in self.rt.alloc(); "{folder}/server-{server}.lynx") else {
+            return Err(StoreFault::Memory);
+        };
+        let Ok(conn) = Connection::open(&self.rt, path.as_str()) else {
+            return Err(StoreFault::Store);
+        };
+        match SqlKeeper::open(self.rt.alloc(), conn, set, server) {
+            Ok(keeper) => Ok(FileKeeper::new(keeper)),
+            Err((fault, _)) => Err(fault),
+        }
+    }
+
+    fn close(&self, keeper: FileKeeper) -> Result<(), StoreFault> {
+        match keeper.into_inner().into_connection().close() {
+            Ok(()) => Ok(()),
+            Err(_) => Err(StoreFault::Store),
+        }
+    }
+}

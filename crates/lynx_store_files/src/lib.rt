@@ -1,0 +1,11 @@
+//! The stores of a folder: for each server of a set the file `server-N.lynx`, N being its number,
+//! and the keepers over them.
+#![tactic(auto)]
+
+pub use files::Files;
+pub use keeper::{FileKeeper, StoreKeeper};
+pub use stores::Stores;
+
+pub mod files;
+pub mod keeper;
+pub mod stores;

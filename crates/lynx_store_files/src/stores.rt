@@ -1,0 +1,14 @@
+use lynx_names::ServerId;
+use lynx_set::ChainSet;
+use lynx_store::StoreFault;
+
+/// Where the servers of a set have their keepers.
+pub trait Stores<K> {
+    /// The keeper of that server in the folder, which is made where there is none. Where it fails,
+    /// whatever was there stands.
+    fn open(&self, folder: &str, set: &ChainSet, server: ServerId) -> Result<K, StoreFault>;
+
+    /// Lets go of a keeper, once nothing more is to be kept. A fault tells that what was kept
+    /// stands, but not where it ought to stand: in a log beside the file, say.
+    fn close(&self, keeper: K) -> Result<(), StoreFault>;
+}

@@ -26,7 +26,7 @@ use Rattle.sqlite.proofs.Callers.{statement_of, runs_as}
 use Rattle.lynx_sql.specs.declared.acts.Acted.{Acted}
 use Rattle.lynx_sql.specs.declared.version.StoreVersion.{StoreVersion}
 use Rattle.lynx_sql.specs.declared.version.StoreVersion.TheVariants.{One, Two}
-use Rattle.lynx_sql.specs.Tables.{acted, store_schema}
+use Rattle.lynx_sql.specs.Tables.{acted, store_schema, acted_tree}
 use Rattle.lynx_sql.specs.Acts.{StoredAct, act_row, shown_act, HoldsActs, HoldsActed, version_of, with_acted, noted}
 use Rattle.lynx_sql.specs.Texts.{acted_insert_text}
 use Rattle.lynx_sql.specs.Steps.{GoesOn, AddsAct, AddsActs, NotesActed}
@@ -136,7 +136,7 @@ adds_none s up inside = record {
   meta = refl;
   entries = refl;
   cells = refl;
-  acted = λ before h. subst (HoldsActs (s.now.trees 4)) (sym (append-nil before)) h;
+  acted = λ before h. subst (HoldsActs (s.now.trees acted_tree)) (sym (append-nil before)) h;
   fit = tt;
 }
 
@@ -146,7 +146,7 @@ adds_then a b c acts act p q = record {
   meta = q.meta ∙ p.meta;
   entries = q.entries ∙ p.entries;
   cells = q.cells ∙ p.cells;
-  acted = λ before h. subst (HoldsActs (c.now.trees 4)) (append_assoc before acts (act ∷ [])) (q.acted (before ++ acts) (p.acted before h));
+  acted = λ before h. subst (HoldsActs (c.now.trees acted_tree)) (append_assoc before acts (act ∷ [])) (q.acted (before ++ acts) (p.acted before h));
   fit = all_last (λ (act : Acted). act.index < 2 ^ 64) acts act p.fit q.fit.0;
 }
 
@@ -167,7 +167,7 @@ notes_none s version up inside = record {
   fit = none_fit version;
 }
   where
-    kept : (before : Option (List Acted)) → version_of before ≡ version → HoldsActed (s.now.trees 4) before → HoldsActed (s.now.trees 4) (with_acted before None)
+    kept : (before : Option (List Acted)) → version_of before ≡ version → HoldsActed (s.now.trees acted_tree) before → HoldsActed (s.now.trees acted_tree) (with_acted before None)
     kept None is h = tt
     kept (Some acts) is h = h
 
@@ -185,7 +185,7 @@ notes_first s acted up inside = record {
   fit = tt;
 }
   where
-    kept : (before : Option (List Acted)) → version_of before ≡ One → HoldsActed (s.now.trees 4) before → HoldsActed (s.now.trees 4) (with_acted before acted)
+    kept : (before : Option (List Acted)) → version_of before ≡ One → HoldsActed (s.now.trees acted_tree) before → HoldsActed (s.now.trees acted_tree) (with_acted before acted)
     kept None is h = tt
     kept (Some acts) is h = absurd (let e = is in cc)
 
@@ -199,6 +199,6 @@ notes_second old new act did = record {
   fit = did.fit;
 }
   where
-    more : (before : Option (List Acted)) → version_of before ≡ Two → HoldsActed (old.now.trees 4) before → HoldsActed (new.now.trees 4) (with_acted before (Some act))
+    more : (before : Option (List Acted)) → version_of before ≡ Two → HoldsActed (old.now.trees acted_tree) before → HoldsActed (new.now.trees acted_tree) (with_acted before (Some act))
     more None is h = tt
     more (Some acts) is h = did.acted acts h

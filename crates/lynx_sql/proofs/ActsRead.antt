@@ -27,7 +27,7 @@ use Rattle.sqlite.proofs.Callers.{reads_as}
 use Rattle.lynx_sql.specs.declared.acts.Acted.{Acted}
 use Rattle.lynx_sql.specs.declared.version.StoreVersion.TheVariants.{Two}
 use Rattle.lynx_sql.specs.Contents.{Contents}
-use Rattle.lynx_sql.specs.Tables.{acted, column_of, store_schema}
+use Rattle.lynx_sql.specs.Tables.{acted, column_of, store_schema, acted_tree}
 use Rattle.lynx_sql.specs.Texts.{places_text}
 use Rattle.lynx_sql.specs.Acts.{StoredAct, act_row, shown_act, HoldsActs, HoldsActed, ArePlaced, acts_in, version_of}
 use Rattle.lynx_sql.specs.Shown.{natural}
@@ -84,9 +84,9 @@ pub places_shown : (old new : State) (rows : List Row) (contents : Contents) →
     → Shown places_text [] old new rows → rows ≡ map shown_act (acts_in contents.acted)
 places_shown old new rows contents has settled keeps h =
     go contents.acted (one_version (version_of contents.acted) Two (sym keeps.schema ∙ has))
-    (subst (λ d. HoldsActed (d.trees 4) contents.acted) (sym settled) keeps.tables.acted) keeps.tables.placed
+    (subst (λ d. HoldsActed (d.trees acted_tree) contents.acted) (sym settled) keeps.tables.acted) keeps.tables.placed
   where
-    go : {n : ℕ} (kept : Option (List Acted)) → version_of kept ≡ Two → HoldsActed (old.now.trees 4) kept → ArePlaced (acts_in kept) n → rows ≡ map shown_act (acts_in kept)
+    go : {n : ℕ} (kept : Option (List Acted)) → version_of kept ≡ Two → HoldsActed (old.now.trees acted_tree) kept → ArePlaced (acts_in kept) n → rows ≡ map shown_act (acts_in kept)
     go None two held placed = absurd (let e = two in cc)
     go {n} (Some acts) two held placed =
         let got = reads_as places_text [] old new (store_schema Two) has _ places_is.0 places_plain places_is.1 rows h in

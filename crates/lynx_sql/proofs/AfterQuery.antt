@@ -20,7 +20,7 @@ use Rattle.lynx_sql.specs.declared.acts.Acted.{Acted}
 use Rattle.lynx_sql.specs.declared.version.StoreVersion.{StoreVersion}
 use Rattle.lynx_sql.specs.declared.version.StoreVersion.TheVariants.{Two}
 use Rattle.lynx_sql.specs.Acts.{HoldsActs, ArePlaced, shown_act}
-use Rattle.lynx_sql.specs.Tables.{store_schema}
+use Rattle.lynx_sql.specs.Tables.{store_schema, acted_tree, cell_tree, entry_tree, meta_tree}
 use Rattle.lynx_sql.specs.Rows.{meta_rows, shown_meta, entry_rows, shown_entries}
 use Rattle.lynx_sql.specs.Cells.{HoldsCells}
 use Rattle.lynx_sql.specs.Shown.{AreCells, cells_in}
@@ -64,26 +64,26 @@ module _ {S : Type 0} (g : Ghosts S) (before after : Held S) (text : List ℕ) (
     rise = tables_rise (g.view before.store) (rising unchanged.0.was_open) version sound.lists
 
     pub title_kept : (title : Title) → IsAnswer titles_query (overlay (state g before).now.trees []) [] rows → rows ≡ shown_meta title
-        → (state g after).committed.trees 0 ≡ meta_rows title
+        → (state g after).committed.trees meta_tree ≡ meta_rows title
     title_kept title answer is =
-        ap (λ (d : Found). d.trees 0) same_committed
+        ap (λ (d : Found). d.trees meta_tree) same_committed
         ∙ title_back version (state g before).committed.trees sound rise rows title (subst (λ (d : Found). IsAnswer titles_query (overlay d.trees []) [] rows) (settled unchanged.0.was_open) answer) is
 
     pub entries_kept : (bodies : List (List ℕ)) → IsAnswer entries_query (overlay (state g before).now.trees []) [] rows → rows ≡ shown_entries 0 bodies
-        → (state g after).committed.trees 1 ≡ entry_rows 0 bodies
+        → (state g after).committed.trees entry_tree ≡ entry_rows 0 bodies
     entries_kept bodies answer is =
-        ap (λ (d : Found). d.trees 1) same_committed
+        ap (λ (d : Found). d.trees entry_tree) same_committed
         ∙ entries_back version (state g before).committed.trees sound rise rows bodies (subst (λ (d : Found). IsAnswer entries_query (overlay d.trees []) [] rows) (settled unchanged.0.was_open) answer) is
 
-    pub cells_kept : IsAnswer cells_query (overlay (state g before).now.trees []) [] rows → AreCells rows → HoldsCells ((state g after).committed.trees 2) (cells_in rows)
+    pub cells_kept : IsAnswer cells_query (overlay (state g before).now.trees []) [] rows → AreCells rows → HoldsCells ((state g after).committed.trees cell_tree) (cells_in rows)
     cells_kept answer are =
-        subst (λ (d : Found). HoldsCells (d.trees 2) (cells_in rows)) (sym same_committed)
+        subst (λ (d : Found). HoldsCells (d.trees cell_tree) (cells_in rows)) (sym same_committed)
         (cells_held version (state g before).committed.trees sound (rise 2 (omega arith)) rows (subst (λ (d : Found). IsAnswer cells_query (overlay d.trees []) [] rows) (settled unchanged.0.was_open) answer) are)
 
     pub acts_kept : version ≡ Two → (acts : List Acted) (places : ℕ) → ArePlaced acts places → IsAnswer places_query (overlay (state g before).now.trees []) [] rows → rows ≡ map shown_act acts
-        → HoldsActs ((state g after).committed.trees 4) acts
+        → HoldsActs ((state g after).committed.trees acted_tree) acts
     acts_kept two acts places placed answer is =
         let sure = subst (λ v. IsSound (store_schema v) (state g before).committed.trees) two sound in
-        subst (λ (d : Found). HoldsActs (d.trees 4) acts) (sym same_committed)
+        subst (λ (d : Found). HoldsActs (d.trees acted_tree) acts) (sym same_committed)
         (acts_held (state g before).committed.trees sure (acts_rise (g.view before.store) (rising unchanged.0.was_open) sure.lists) rows
         (subst (λ (d : Found). IsAnswer places_query (overlay d.trees []) [] rows) (settled unchanged.0.was_open) answer) acts places placed is)

@@ -8,6 +8,7 @@ use Rattle.std.specs.FinMap as finite
 use Rattle.lynx_sql.specs.Steps.{WritesCells, GoesOn}
 use Rattle.lynx_sql.proofs.MetaLemmas.{goes_on_then}
 use Rattle.lynx_sql.specs.Cells.{HoldsCells}
+use Rattle.lynx_sql.specs.Tables.{cell_tree}
 
 pub changes_none : (s : State) → IsTrue s.is_open → IsTrue s.in_transaction → WritesCells s s (λ db. db)
 changes_none s up inside = record {
@@ -28,7 +29,7 @@ changes_then a b c f g p q = record {
 }
 
 pub changes_same : (a b : State) (f g : Database → Database) → ((db : Database) → f db ≡ g db) → WritesCells a b f → WritesCells a b g
-changes_same a b f g same p = record { on = p.on; meta = p.meta; entries = p.entries; cells = λ db h. subst (HoldsCells (b.now.trees 2)) (same db) (p.cells db h); acted = p.acted }
+changes_same a b f g same p = record { on = p.on; meta = p.meta; entries = p.entries; cells = λ db h. subst (HoldsCells (b.now.trees cell_tree)) (same db) (p.cells db h); acted = p.acted }
 
 written-append : (es fs : List ((ℕ × ℕ) × ℕ)) (db : Database) → written (es ++ fs) db ≡ written fs (written es db)
 written-append [] fs db = refl

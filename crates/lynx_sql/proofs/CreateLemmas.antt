@@ -20,7 +20,7 @@ use Rattle.std.proofs.lemmas.List.Sorted.{IsPermutation-refl}
 use Rattle.sqlite.specs.Order.{Row}
 use Rattle.lynx_sql.specs.declared.version.StoreVersion.{StoreVersion}
 use Rattle.lynx_sql.specs.declared.version.StoreVersion.TheVariants.{One, Two}
-use Rattle.lynx_sql.specs.Tables.{meta_text, entry_text, cell_text, acted_text, meta, entry, cell, acted, store_schema, no_schema, meta_schema, entry_schema}
+use Rattle.lynx_sql.specs.Tables.{meta_text, entry_text, cell_text, acted_text, meta, entry, cell, acted, store_schema, no_schema, meta_schema, entry_schema, meta_tree}
 use Rattle.lynx_sql.specs.Acts.{HoldsActs, HoldsActed, ArePlaced, acts_in, version_of, no_acts}
 use Rattle.sqlite_catalog.specs.Listing.{Lists}
 use Rattle.sqlite_trees.specs.Objects.{catalog_tree}
@@ -144,7 +144,7 @@ new_store old one last version title made titles = record {
 
 module _ {S : Type 0} (g : Ghosts S) (old tx one last : Held S) (version : StoreVersion) (title : Title) (begun : tx ≡ record old { in_transaction = true })
     (first : IsTrue tx.in_transaction → tx.schema ≡ no_schema → MakesTables (state g tx) (state g one) version)
-    (second : IsTrue one.in_transaction → one.schema ≡ store_schema version → (state g one).now.trees 0 ≡ [] → WritesTitle (state g one) (state g last) title) where
+    (second : IsTrue one.in_transaction → one.schema ≡ store_schema version → (state g one).now.trees meta_tree ≡ [] → WritesTitle (state g one) (state g last) title) where
   pub store_made : old.schema ≡ no_schema → Holds (state g last).now.trees (titled version title) × ((state g last).now.schema ≡ store_schema (version_of (no_acts version)))
   store_made has =
       let a = first (ap (λ h. h.in_transaction) begun) (ap (λ h. h.schema) begun ∙ has) in

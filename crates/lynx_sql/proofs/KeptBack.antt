@@ -10,7 +10,7 @@ use Rattle.sqlite_trees.specs.Objects.{catalog_tree}
 use Rattle.lynx_sql.specs.declared.acts.Acted.{Acted}
 use Rattle.lynx_sql.specs.declared.version.StoreVersion.TheVariants.{One, Two}
 use Rattle.lynx_sql.specs.Contents.{Contents}
-use Rattle.lynx_sql.specs.Tables.{store_schema}
+use Rattle.lynx_sql.specs.Tables.{store_schema, acted_tree, cell_tree, entry_tree, meta_tree}
 use Rattle.lynx_sql.specs.Rows.{meta_rows, entry_rows}
 use Rattle.lynx_sql.specs.Cells.{HoldsCells}
 use Rattle.lynx_sql.specs.Acts.{HoldsActs, HoldsActed, ShowActed, ArePlaced, acts_in, version_of, shown_act}
@@ -27,8 +27,8 @@ keeps_over old new contents up same keeps = record {
 
 -- the hops were read first, then the title, the entries and the cells
 pub kept_back : (a b c new : State) (contents : Contents) → IsStore new → (a.now.schema ≡ store_schema (version_of contents.acted))
-    → HoldsActed (a.committed.trees 4) contents.acted → b.committed.trees 0 ≡ meta_rows contents.title → c.committed.trees 1 ≡ entry_rows 0 contents.bodies
-    → HoldsCells (new.committed.trees 2) contents.cells → ArePlaced (acts_in contents.acted) (length contents.bodies)
+    → HoldsActed (a.committed.trees acted_tree) contents.acted → b.committed.trees meta_tree ≡ meta_rows contents.title → c.committed.trees entry_tree ≡ entry_rows 0 contents.bodies
+    → HoldsCells (new.committed.trees cell_tree) contents.cells → ArePlaced (acts_in contents.acted) (length contents.bodies)
     → SameTables a b → SameTables b c → SameTables c new → Keeps new contents
 kept_back a b c new contents store first acted title entries cells placed ab bc cn =
     let schema : new.now.schema ≡ store_schema (version_of contents.acted) =
@@ -39,10 +39,10 @@ kept_back a b c new contents store first acted title entries cells placed ab bc 
       schema = schema;
       tables = record {
         catalog = subst (λ v. Lists (new.committed.trees catalog_tree) (store_schema v)) version store.catalog;
-        meta = ap (λ (d : Found). d.trees 0) (cn.1 ∙ bc.1) ∙ title;
-        entries = ap (λ (d : Found). d.trees 1) cn.1 ∙ entries;
+        meta = ap (λ (d : Found). d.trees meta_tree) (cn.1 ∙ bc.1) ∙ title;
+        entries = ap (λ (d : Found). d.trees entry_tree) cn.1 ∙ entries;
         cells = cells;
-        acted = subst (λ (d : Found). HoldsActed (d.trees 4) contents.acted) (sym (cn.1 ∙ bc.1 ∙ ab.1)) acted;
+        acted = subst (λ (d : Found). HoldsActed (d.trees acted_tree) contents.acted) (sym (cn.1 ∙ bc.1 ∙ ab.1)) acted;
         placed = placed;
       };
     }
@@ -56,7 +56,7 @@ first_shown s contents has keeps = go contents.acted (one_version (version_of co
     go (Some acts) is = absurd (let e = is in cc)
 
 pub first_back : (s : State) (acted : Option (List Acted)) → s.now.schema ≡ store_schema One → ShowActed None acted
-    → HoldsActed (s.committed.trees 4) acted × (s.now.schema ≡ store_schema (version_of acted))
+    → HoldsActed (s.committed.trees acted_tree) acted × (s.now.schema ≡ store_schema (version_of acted))
 first_back s None has shown = (tt, has)
 first_back s (Some acts) has shown = absurd shown
 
@@ -69,8 +69,8 @@ second_shown s contents rows has keeps shown = go contents.acted (one_version (v
     go (Some acts) is shown = shown
 
 pub second_back : (s : State) (acted : Option (List Acted)) (rows : Vec Row Global) (places : ℕ) → s.now.schema ≡ store_schema Two
-    → ((acts : List Acted) (places : ℕ) → ArePlaced acts places → rows.items ≡ map shown_act acts → HoldsActs (s.committed.trees 4) acts)
+    → ((acts : List Acted) (places : ℕ) → ArePlaced acts places → rows.items ≡ map shown_act acts → HoldsActs (s.committed.trees acted_tree) acts)
     → ArePlaced (acts_in acted) places → ShowActed (Some rows) acted
-    → HoldsActed (s.committed.trees 4) acted × (s.now.schema ≡ store_schema (version_of acted))
+    → HoldsActed (s.committed.trees acted_tree) acted × (s.now.schema ≡ store_schema (version_of acted))
 second_back s None rows places has back placed shown = absurd shown
 second_back s (Some acts) rows places has back placed shown = (back acts places placed shown, has)

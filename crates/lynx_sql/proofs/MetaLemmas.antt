@@ -16,7 +16,7 @@ use Rattle.sqlite.specs.State.{State, Shows, mode_of, Writes, Executes, Executes
 use Rattle.sqlite.proofs.Callers.{statement_of, runs_as}
 use Rattle.sqlite_trees.specs.Objects.{catalog_tree}
 use Rattle.lynx_sql.specs.declared.version.StoreVersion.{StoreVersion}
-use Rattle.lynx_sql.specs.Tables.{meta, store_schema}
+use Rattle.lynx_sql.specs.Tables.{meta, store_schema, meta_tree}
 use Rattle.lynx_sql.specs.Contents.{Title}
 use Rattle.lynx_sql.proofs.RowLemmas.{lower_id}
 use Rattle.lynx_sql.specs.Rows.{meta_row, meta_rows}
@@ -73,7 +73,7 @@ goes_on_then a b c p q = record {
 rows_put : (title : Title) → put_row (meta_row 3 title.set) (put_row (meta_row 2 title.server) (put_row (meta_row 1 title.version) [])) ≡ meta_rows title
 rows_put title = rw (lower_id 1 2 (omega arith)) (rw (lower_id 1 3 (omega arith)) (rw (lower_id 2 3 (omega arith)) refl))
 
-pub title_written : (old one two new : State) (version : StoreVersion) (title : Title) → IsTrue old.in_transaction → old.now.schema ≡ store_schema version → old.now.trees 0 ≡ []
+pub title_written : (old one two new : State) (version : StoreVersion) (title : Title) → IsTrue old.in_transaction → old.now.schema ≡ store_schema version → old.now.trees meta_tree ≡ []
     → (IsTrue old.in_transaction → old.now.schema ≡ store_schema version → AddsText old one 1 title.version)
     → (IsTrue one.in_transaction → one.now.schema ≡ store_schema version → AddsText one two 2 title.server)
     → (IsTrue two.in_transaction → two.now.schema ≡ store_schema version → AddsText two new 3 title.set)

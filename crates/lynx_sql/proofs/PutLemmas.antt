@@ -37,7 +37,7 @@ use Rattle.lynx_cells.proofs.Writes.{get-with_value, kept}
 use Rattle.sqlite_trees.specs.Objects.{catalog_tree}
 use Rattle.lynx_sql.specs.declared.version.StoreVersion.{StoreVersion}
 use Rattle.lynx_sql.specs.declared.version.StoreVersion.TheVariants.{One, Two}
-use Rattle.lynx_sql.specs.Tables.{cell, store_schema}
+use Rattle.lynx_sql.specs.Tables.{cell, store_schema, acted_tree, cell_tree, entry_tree, meta_tree}
 use Rattle.lynx_sql.specs.Cells.{Stored, cell_row, cell_of, find_stored, Fits, ComesBefore, HoldsCells}
 use Rattle.lynx_sql.specs.Texts.{put_text}
 use Rattle.lynx_sql.specs.Steps.{GoesOn, WritesCells}
@@ -141,13 +141,13 @@ module _ (version : StoreVersion) (limit : Option ℕ) (keys : Keys) (db : Trees
 
   -- a new row
   puts : (one : Written) → Puts task (cell_row new) db (Ok one) → (cells : Database) (h : HoldsCells (db 2) cells) → AllByRecursion (Misses (t, k)) h.stored
-      → (one.trees 0 ≡ db 0) × (one.trees 1 ≡ db 1) × HoldsCells (one.trees 2) (with_value cells t k v)
+      → (one.trees meta_tree ≡ db 0) × (one.trees entry_tree ≡ db 1) × HoldsCells (one.trees cell_tree) (with_value cells t k v)
   puts one did cells h none =
       let written = went did in
       let step = step_in version keys db written.0 (edit_of db cell [] Given 0 (cell_row new ∷ [])) written.1 in
       let trees : one.trees ≡ written.0 = ap (λ (it : Written). it.trees) (same_value written.2) in
       let at = λ (t : ℕ). ap (λ (all : Trees). all t) trees in
-      let rows : one.trees 2 ≡ put_row (cell_row new) (db 2) = at 2 ∙ step.rows ∙ ap (λ r. put_row r (db 2)) (cast_again new) in
+      let rows : one.trees cell_tree ≡ put_row (cell_row new) (db 2) = at 2 ∙ step.rows ∙ ap (λ r. put_row r (db 2)) (cast_again new) in
       (at 0 ∙ step.tables.0 (λ e. omega arith), at 1 ∙ step.tables.1.0 (λ e. omega arith), subst (λ rows. HoldsCells rows (with_value cells t k v)) (sym rows) (holds_more cells h none))
 
   abbrev given : ℤ → Row
@@ -163,7 +163,7 @@ module _ (version : StoreVersion) (limit : Option ℕ) (keys : Keys) (db : Trees
 
   -- a row that is there already
   updates : (one : Written) (cells : Database) (h : HoldsCells (db 2) cells) (p : Place h.stored (t, k)) → Updates task (record { lets = []; body = put_query }) (given p.at.id) db (Ok one)
-      → (one.trees 0 ≡ db 0) × (one.trees 1 ≡ db 1) × HoldsCells (one.trees 2) (with_value cells t k v)
+      → (one.trees meta_tree ≡ db 0) × (one.trees entry_tree ≡ db 1) × HoldsCells (one.trees cell_tree) (with_value cells t k v)
   updates one cells h p did =
       let up = subst (IsAscending ComesBefore) p.is h.apart in
       let has : db 2 ≡ map cell_row (p.front ++ p.at ∷ p.back) = h.rows_are ∙ ap (map cell_row) p.is in
@@ -199,11 +199,11 @@ module _ (version : StoreVersion) (limit : Option ℕ) (keys : Keys) (db : Trees
   clears one (x ∷ more) did = did
 
   upserts : (one : Written) → Upserts task Abort (cell_row new) db (put_clause ∷ []) (Ok one) → (cells : Database) → HoldsCells (db 2) cells
-      → (one.trees 0 ≡ db 0) × (one.trees 1 ≡ db 1) × HoldsCells (one.trees 2) (with_value cells t k v)
+      → (one.trees meta_tree ≡ db 0) × (one.trees entry_tree ≡ db 1) × HoldsCells (one.trees cell_tree) (with_value cells t k v)
   upserts one did cells h = go (place_of h.stored (t, k) h.apart) did.0 did.1 did.2
     where
       go : AllByRecursion (Misses (t, k)) h.stored ⊎ Place h.stored (t, k) → (found : List Row) → AreConflicts (Some (1 ∷ 2 ∷ [])) (store_schema version).indexes cell (db 2) (cell_row new) found
-          → Meets task (Upserts task Abort (cell_row new) db []) (cell_row new) db put_clause found (Ok one) → (one.trees 0 ≡ db 0) × (one.trees 1 ≡ db 1) × HoldsCells (one.trees 2) (with_value cells t k v)
+          → Meets task (Upserts task Abort (cell_row new) db []) (cell_row new) db put_clause found (Ok one) → (one.trees meta_tree ≡ db 0) × (one.trees entry_tree ≡ db 1) × HoldsCells (one.trees cell_tree) (with_value cells t k v)
       go (inl none) [] all meets = puts one (clears one meets.0 meets.2) cells h none
       go (inl none) (there ∷ more) all meets =
           let s = all.sound there (inl refl) in absurd (has_missed version new h.stored s.0 low h.fit none (subst (λ rows. Has rows s.0) h.rows_are s.1) s.2)
@@ -219,11 +219,11 @@ module _ (version : StoreVersion) (limit : Option ℕ) (keys : Keys) (db : Trees
           updates one cells h p (subst (λ r. Updates task (record { lets = []; body = put_query }) (params ++ rowid r ∷ Int new.id ∷ Int (pos t) ∷ Blob (to_be_bytes w64 k) ∷ Blob (to_be_bytes w64 v) ∷ []) db (Ok one)) there_is meets)
 
   tries : (one : Written) → Tries task Abort (put_clause ∷ []) (cell_row new) db (Ok one) → (cells : Database) → HoldsCells (db 2) cells
-      → (one.trees 0 ≡ db 0) × (one.trees 1 ≡ db 1) × HoldsCells (one.trees 2) (with_value cells t k v)
+      → (one.trees meta_tree ≡ db 0) × (one.trees entry_tree ≡ db 1) × HoldsCells (one.trees cell_tree) (with_value cells t k v)
   tries one (inl refused) cells h = absurd (let e = refused.1 in cc)
   tries one (inr judged) cells h = go judged.0 judged.2
     where
-      go : (verdict : Option Refusal) → Judged task Abort (put_clause ∷ []) (cell_row new) db verdict (Ok one) → (one.trees 0 ≡ db 0) × (one.trees 1 ≡ db 1) × HoldsCells (one.trees 2) (with_value cells t k v)
+      go : (verdict : Option Refusal) → Judged task Abort (put_clause ∷ []) (cell_row new) db verdict (Ok one) → (one.trees meta_tree ≡ db 0) × (one.trees entry_tree ≡ db 1) × HoldsCells (one.trees cell_tree) (with_value cells t k v)
       go None did = upserts one did cells h
       go (Some why) did = absurd (let e : Ok one ≡ Err (Some (edit_error why)) = did in cc)
 
@@ -233,7 +233,7 @@ module _ (version : StoreVersion) (limit : Option ℕ) (keys : Keys) (db : Trees
   job = record { limit = limit; keys = keys; schema = store_schema version; table = cell; params = params }
 
   abbrev Stays : Type 0
-  Stays = (one.trees 0 ≡ db 0) × (one.trees 1 ≡ db 1) × (one.trees catalog_tree ≡ db catalog_tree) × (one.trees 4 ≡ db 4)
+  Stays = (one.trees meta_tree ≡ db 0) × (one.trees entry_tree ≡ db 1) × (one.trees catalog_tree ≡ db catalog_tree) × (one.trees acted_tree ≡ db 4)
 
   stays_put : Puts job new db (Ok one) → Stays
   stays_put did =

@@ -23,7 +23,7 @@ use Rattle.sqlite.specs.Clock.{timed}
 use Rattle.sqlite.proofs.Callers.{IsPlain, reads_as, never_commits}
 use Rattle.sqlite.proofs.StateLemmas.{survives_weaker}
 use Rattle.lynx_cells.specs.Database.{Database}
-use Rattle.lynx_sql.specs.Tables.{store_schema, IsStoreSchema}
+use Rattle.lynx_sql.specs.Tables.{store_schema, IsStoreSchema, cell_tree, entry_tree, meta_tree}
 use Rattle.lynx_sql.specs.Acts.{version_of}
 use Rattle.lynx_sql.specs.Rows.{meta_rows, shown_meta, entry_row, entry_rows, shown_entries}
 use Rattle.lynx_sql.specs.Texts.{titles_text, entries_text, cells_text}
@@ -95,7 +95,7 @@ pub entries_shown : (old new : State) (rows : List Row) (contents : Contents) �
 entries_shown old new rows contents settled keeps h =
     let version = version_of contents.acted in
     let got = reads_as entries_text [] old new (store_schema version) keeps.schema _ (entries_is version).0 (entries_plain version) (entries_is version).1 rows h in
-    answers old.now.trees rows contents.bodies (got.answer Null) (ap (λ d. d.trees 1) settled ∙ keeps.tables.entries)
+    answers old.now.trees rows contents.bodies (got.answer Null) (ap (λ d. d.trees entry_tree) settled ∙ keeps.tables.entries)
 
 pub plain_in : (s : State) → IsStoreSchema s.now.schema → IsPlain (understood s.now.schema entries_text)
 plain_in s has = subst (λ schema. IsPlain (understood schema entries_text)) (sym has.is) (entries_plain has.version)
@@ -137,7 +137,7 @@ cells_shown old new rows contents settled keeps h =
     let version = version_of contents.acted in
     let got = reads_as cells_text [] old new (store_schema version) keeps.schema _ (cells_is version).0 (cells_plain version) (cells_is version).1 rows h in
     cell_answers old.now.trees rows contents.cells (got.answer Null)
-    (subst (λ d. HoldsCells (d.trees 2) contents.cells) (sym settled) keeps.tables.cells)
+    (subst (λ d. HoldsCells (d.trees cell_tree) contents.cells) (sym settled) keeps.tables.cells)
 
 -- ---- the title
 
@@ -173,4 +173,4 @@ pub title_shown : (old new : State) (rows : List Row) (contents : Contents) → 
 title_shown old new rows contents settled keeps h =
     let version = version_of contents.acted in
     let got = reads_as titles_text [] old new (store_schema version) keeps.schema _ (titles_is version).0 (titles_plain version) (titles_is version).1 rows h in
-    title_answers old.now.trees rows contents.title (got.answer Null) (ap (λ d. d.trees 0) settled ∙ keeps.tables.meta)
+    title_answers old.now.trees rows contents.title (got.answer Null) (ap (λ d. d.trees meta_tree) settled ∙ keeps.tables.meta)

@@ -14,6 +14,19 @@ use Rattle.sqlite.specs.Kind.TheVariants.{Integer, Text, Blob}
 use Rattle.lynx_sql.specs.declared.version.StoreVersion.{StoreVersion}
 use Rattle.lynx_sql.specs.declared.version.StoreVersion.TheVariants.{One, Two}
 
+-- the trees of the tables, by the numbers under which they are made
+abbrev pub meta_tree : ℕ
+meta_tree = 0
+
+abbrev pub entry_tree : ℕ
+entry_tree = 1
+
+abbrev pub cell_tree : ℕ
+cell_tree = 2
+
+abbrev pub acted_tree : ℕ
+acted_tree = 4
+
 abbrev pub meta_text : List ℕ
 meta_text = codes "CREATE TABLE meta(id INTEGER PRIMARY KEY, txt TEXT NOT NULL) STRICT"
 

@@ -1,10 +1,11 @@
 //! The rows of `acted`, which a store of version 2 has.
 ghost use Rattle.std.specs.Prelude.{◌≡◌, IsTrue, OnOk};
 ghost use Rattle.sqlite.specs.Held.{state};
-ghost use Rattle.sqlite.specs.State.{HasCleanDisk, Survives};
+ghost use Rattle.sqlite.specs.State.{Survives};
 ghost use Rattle.lynx_sql.specs.declared.version.StoreVersion.{StoreVersion};
 ghost use Rattle.lynx_sql.specs.Tables.{store_schema};
 ghost use Rattle.lynx_sql.specs.Steps.{AddsAct, AddsActs, NotesActed};
+ghost use Rattle.lynx_sql.specs.Steps.{InTransaction};
 
 use crate::version::StoreVersion;
 use sqlite::{Alter, Error, Transaction, params};
@@ -31,11 +32,10 @@ fn insert_row<S: Alter>(
     place: u32,
 ) -> Result<usize, Error>
     ensures same_reference { tx.new.conn.ghost_name ≡ tx.old.conn.ghost_name }
-    ensures ok { HasCleanDisk (state S.Store tx.new.conn.now)
-        → IsTrue (state S.Store tx.old.conn.now).in_transaction
-        → (state S.Store tx.old.conn.now).now.schema ≡ store_schema StoreVersion.Two
+    ensures ok { InTransaction (state S.Store tx.old.conn.now) (state S.Store tx.new.conn.now)
+        ((state S.Store tx.old.conn.now).now.schema ≡ store_schema StoreVersion.Two
         → OnOk result (AddsAct (state S.Store tx.old.conn.now) (state S.Store tx.new.conn.now)
-        (record { origin = origin; index = index; hop = hop; place = place })) }
+        (record { origin = origin; index = index; hop = hop; place = place }))) }
     ensures survives { Survives (state S.Store tx.old.conn.now) (state S.Store tx.new.conn.now)
         (λ _. ⊥) }
 {
@@ -49,11 +49,10 @@ fn insert_row<S: Alter>(
 /// Writes the row of a hop.
 pub fn insert_act<S: Alter>(tx: &mut Transaction<'_, S>, act: &Acted) -> Result<usize, Error>
     ensures same_reference { tx.new.conn.ghost_name ≡ tx.old.conn.ghost_name }
-    ensures ok { HasCleanDisk (state S.Store tx.new.conn.now)
-        → IsTrue (state S.Store tx.old.conn.now).in_transaction
-        → (state S.Store tx.old.conn.now).now.schema ≡ store_schema StoreVersion.Two
+    ensures ok { InTransaction (state S.Store tx.old.conn.now) (state S.Store tx.new.conn.now)
+        ((state S.Store tx.old.conn.now).now.schema ≡ store_schema StoreVersion.Two
         → OnOk result
-        (AddsAct (state S.Store tx.old.conn.now) (state S.Store tx.new.conn.now) act.now) }
+        (AddsAct (state S.Store tx.old.conn.now) (state S.Store tx.new.conn.now) act.now)) }
     ensures survives { Survives (state S.Store tx.old.conn.now) (state S.Store tx.new.conn.now)
         (λ _. ⊥) }
 {
@@ -63,12 +62,11 @@ pub fn insert_act<S: Alter>(tx: &mut Transaction<'_, S>, act: &Acted) -> Result<
 /// Writes the rows of hops, one after another.
 pub fn insert_acts<S: Alter>(tx: &mut Transaction<'_, S>, acts: &[Acted]) -> Result<(), Error>
     ensures same_reference { tx.new.conn.ghost_name ≡ tx.old.conn.ghost_name }
-    ensures ok { HasCleanDisk (state S.Store tx.new.conn.now)
-        → IsTrue (state S.Store tx.old.conn.now).is_open
-        → IsTrue (state S.Store tx.old.conn.now).in_transaction
+    ensures ok { InTransaction (state S.Store tx.old.conn.now) (state S.Store tx.new.conn.now)
+        (IsTrue (state S.Store tx.old.conn.now).is_open
         → (state S.Store tx.old.conn.now).now.schema ≡ store_schema StoreVersion.Two
         → OnOk result
-        (AddsActs (state S.Store tx.old.conn.now) (state S.Store tx.new.conn.now) acts.now) }
+        (AddsActs (state S.Store tx.old.conn.now) (state S.Store tx.new.conn.now) acts.now)) }
     ensures survives { Survives (state S.Store tx.old.conn.now) (state S.Store tx.new.conn.now)
         (λ _. ⊥) }
 {
@@ -86,12 +84,12 @@ pub fn note_acted<S: Alter>(
     acted: Option<Acted>,
 ) -> Result<(), Error>
     ensures same_reference { tx.new.conn.ghost_name ≡ tx.old.conn.ghost_name }
-    ensures ok { HasCleanDisk (state S.Store tx.new.conn.now)
-        → IsTrue (state S.Store tx.old.conn.now).is_open
-        → IsTrue (state S.Store tx.old.conn.now).in_transaction
+    ensures ok { InTransaction (state S.Store tx.old.conn.now) (state S.Store tx.new.conn.now)
+        (IsTrue (state S.Store tx.old.conn.now).is_open
         → (state S.Store tx.old.conn.now).now.schema ≡ store_schema version
         → OnOk result
-        (NotesActed (state S.Store tx.old.conn.now) (state S.Store tx.new.conn.now) version acted) }
+        (NotesActed (state S.Store tx.old.conn.now) (state S.Store tx.new.conn.now) version
+        acted)) }
     ensures survives { Survives (state S.Store tx.old.conn.now) (state S.Store tx.new.conn.now)
         (λ _. ⊥) }
 {

@@ -1,12 +1,13 @@
 //! The rows of cells.
 ghost use Rattle.std.specs.Prelude.{◌≡◌, ◌≢◌, IsTrue, OnOk, ◌^◌, ◌<◌};
 ghost use Rattle.sqlite.specs.Held.{state};
-ghost use Rattle.sqlite.specs.State.{HasCleanDisk, Survives};
+ghost use Rattle.sqlite.specs.State.{Survives};
 ghost use Rattle.lynx_cells.specs.Database.{Database, with_value, written};
 ghost use Rattle.lynx_cells.specs.Triples.{entries_of};
 ghost use Rattle.lynx_sql.specs.declared.version.StoreVersion.{StoreVersion};
 ghost use Rattle.lynx_sql.specs.Tables.{store_schema};
 ghost use Rattle.lynx_sql.specs.Steps.{WritesCells};
+ghost use Rattle.lynx_sql.specs.Steps.{InTransaction};
 
 use lynx_names::TableId;
 use sqlite::{Alter, Error, Transaction, params};
@@ -20,12 +21,12 @@ pub fn put_cell<S: Alter>(
 ) -> Result<usize, Error>
     requires { value ≢ 0 }
     ensures same_reference { tx.new.conn.ghost_name ≡ tx.old.conn.ghost_name }
-    ensures ok { HasCleanDisk (state S.Store tx.new.conn.now)
-        → IsTrue (state S.Store tx.old.conn.now).in_transaction → (version : StoreVersion)
+    ensures ok { InTransaction (state S.Store tx.old.conn.now) (state S.Store tx.new.conn.now)
+        ((version : StoreVersion)
         → (state S.Store tx.old.conn.now).now.schema ≡ store_schema version
         → OnOk result
         (WritesCells (state S.Store tx.old.conn.now) (state S.Store tx.new.conn.now)
-        (λ db. with_value db table key value)) }
+        (λ db. with_value db table key value))) }
     ensures survives { Survives (state S.Store tx.old.conn.now) (state S.Store tx.new.conn.now)
         (λ _. ⊥) }
 {
@@ -44,12 +45,12 @@ pub fn delete_cell<S: Alter>(
     key: u64,
 ) -> Result<usize, Error>
     ensures same_reference { tx.new.conn.ghost_name ≡ tx.old.conn.ghost_name }
-    ensures ok { HasCleanDisk (state S.Store tx.new.conn.now)
-        → IsTrue (state S.Store tx.old.conn.now).in_transaction → (version : StoreVersion)
+    ensures ok { InTransaction (state S.Store tx.old.conn.now) (state S.Store tx.new.conn.now)
+        ((version : StoreVersion)
         → (state S.Store tx.old.conn.now).now.schema ≡ store_schema version
         → OnOk result
         (WritesCells (state S.Store tx.old.conn.now) (state S.Store tx.new.conn.now)
-        (λ db. with_value db table key 0)) }
+        (λ db. with_value db table key 0))) }
     ensures survives { Survives (state S.Store tx.old.conn.now) (state S.Store tx.new.conn.now)
         (λ _. ⊥) }
 {
@@ -68,12 +69,12 @@ pub fn write_cell<S: Alter>(
     value: u64,
 ) -> Result<usize, Error>
     ensures same_reference { tx.new.conn.ghost_name ≡ tx.old.conn.ghost_name }
-    ensures ok { HasCleanDisk (state S.Store tx.new.conn.now)
-        → IsTrue (state S.Store tx.old.conn.now).in_transaction → (version : StoreVersion)
+    ensures ok { InTransaction (state S.Store tx.old.conn.now) (state S.Store tx.new.conn.now)
+        ((version : StoreVersion)
         → (state S.Store tx.old.conn.now).now.schema ≡ store_schema version
         → OnOk result
         (WritesCells (state S.Store tx.old.conn.now) (state S.Store tx.new.conn.now)
-        (λ db. with_value db table key value)) }
+        (λ db. with_value db table key value))) }
     ensures survives { Survives (state S.Store tx.old.conn.now) (state S.Store tx.new.conn.now)
         (λ _. ⊥) }
 {
@@ -90,13 +91,13 @@ pub fn write_cells<S: Alter>(
     changes: &[(TableId, u64, u64)],
 ) -> Result<(), Error>
     ensures same_reference { tx.new.conn.ghost_name ≡ tx.old.conn.ghost_name }
-    ensures ok { HasCleanDisk (state S.Store tx.new.conn.now)
-        → IsTrue (state S.Store tx.old.conn.now).is_open
-        → IsTrue (state S.Store tx.old.conn.now).in_transaction → (version : StoreVersion)
+    ensures ok { InTransaction (state S.Store tx.old.conn.now) (state S.Store tx.new.conn.now)
+        (IsTrue (state S.Store tx.old.conn.now).is_open
+        → (version : StoreVersion)
         → (state S.Store tx.old.conn.now).now.schema ≡ store_schema version
         → OnOk result
         (WritesCells (state S.Store tx.old.conn.now) (state S.Store tx.new.conn.now)
-        (written (entries_of changes.now))) }
+        (written (entries_of changes.now)))) }
     ensures survives { Survives (state S.Store tx.old.conn.now) (state S.Store tx.new.conn.now)
         (λ _. ⊥) }
 {

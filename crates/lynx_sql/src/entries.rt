@@ -1,10 +1,11 @@
 //! The rows of entries.
 ghost use Rattle.std.specs.Prelude.{◌≡◌, IsTrue, OnOk};
 ghost use Rattle.sqlite.specs.Held.{state};
-ghost use Rattle.sqlite.specs.State.{HasCleanDisk, Survives};
+ghost use Rattle.sqlite.specs.State.{Survives};
 ghost use Rattle.lynx_sql.specs.declared.version.StoreVersion.{StoreVersion};
 ghost use Rattle.lynx_sql.specs.Tables.{store_schema};
 ghost use Rattle.lynx_sql.specs.Steps.{AddsEntry};
+ghost use Rattle.lynx_sql.specs.Steps.{InTransaction};
 
 use sqlite::{Alter, Error, Transaction, params};
 
@@ -15,11 +16,12 @@ pub fn insert_entry<S: Alter>(
     body: &[u8],
 ) -> Result<usize, Error>
     ensures same_reference { tx.new.conn.ghost_name ≡ tx.old.conn.ghost_name }
-    ensures ok { HasCleanDisk (state S.Store tx.new.conn.now)
-        → IsTrue (state S.Store tx.old.conn.now).in_transaction → (version : StoreVersion)
+    ensures ok { InTransaction (state S.Store tx.old.conn.now) (state S.Store tx.new.conn.now)
+        ((version : StoreVersion)
         → (state S.Store tx.old.conn.now).now.schema ≡ store_schema version
         → OnOk result
-        (AddsEntry (state S.Store tx.old.conn.now) (state S.Store tx.new.conn.now) place body.now) }
+        (AddsEntry (state S.Store tx.old.conn.now) (state S.Store tx.new.conn.now) place
+        body.now)) }
     ensures survives { Survives (state S.Store tx.old.conn.now) (state S.Store tx.new.conn.now)
         (λ _. ⊥) }
 {

@@ -6,8 +6,9 @@ ghost use Rattle.sqlite.specs.Held.{state};
 ghost use Rattle.sqlite.specs.State.{HasCleanDisk, Survives};
 ghost use Rattle.lynx_sql.specs.declared.version.StoreVersion.{StoreVersion};
 ghost use Rattle.lynx_sql.specs.Contents.{title_of, titled};
-ghost use Rattle.lynx_sql.specs.Tables.{no_schema, meta_schema, entry_schema, store_schema};
+ghost use Rattle.lynx_sql.specs.Tables.{no_schema, meta_schema, entry_schema, store_schema, acted_tree, cell_tree, entry_tree, meta_tree};
 ghost use Rattle.lynx_sql.specs.Steps.{Keeps, Holds, Makes, MakesTables};
+ghost use Rattle.lynx_sql.specs.Steps.{InTransaction};
 
 use crate::meta::write_title;
 use crate::version::StoreVersion;
@@ -15,11 +16,10 @@ use sqlite::{Alter, Connection, Error, ErrorCode, Transaction};
 
 fn make_meta<S: Alter>(tx: &mut Transaction<'_, S>) -> Result<usize, Error>
     ensures same_reference { tx.new.conn.ghost_name ≡ tx.old.conn.ghost_name }
-    ensures ok { HasCleanDisk (state S.Store tx.new.conn.now)
-        → IsTrue (state S.Store tx.old.conn.now).in_transaction
-        → (state S.Store tx.old.conn.now).now.schema ≡ no_schema
+    ensures ok { InTransaction (state S.Store tx.old.conn.now) (state S.Store tx.new.conn.now)
+        ((state S.Store tx.old.conn.now).now.schema ≡ no_schema
         → OnOk result (Makes (state S.Store tx.old.conn.now) (state S.Store tx.new.conn.now)
-        no_schema meta_schema 0) }
+        no_schema meta_schema meta_tree)) }
     ensures survives { Survives (state S.Store tx.old.conn.now) (state S.Store tx.new.conn.now)
         (λ _. ⊥) }
 {
@@ -31,11 +31,10 @@ fn make_meta<S: Alter>(tx: &mut Transaction<'_, S>) -> Result<usize, Error>
 
 fn make_entry<S: Alter>(tx: &mut Transaction<'_, S>) -> Result<usize, Error>
     ensures same_reference { tx.new.conn.ghost_name ≡ tx.old.conn.ghost_name }
-    ensures ok { HasCleanDisk (state S.Store tx.new.conn.now)
-        → IsTrue (state S.Store tx.old.conn.now).in_transaction
-        → (state S.Store tx.old.conn.now).now.schema ≡ meta_schema
+    ensures ok { InTransaction (state S.Store tx.old.conn.now) (state S.Store tx.new.conn.now)
+        ((state S.Store tx.old.conn.now).now.schema ≡ meta_schema
         → OnOk result (Makes (state S.Store tx.old.conn.now) (state S.Store tx.new.conn.now)
-        meta_schema entry_schema 1) }
+        meta_schema entry_schema entry_tree)) }
     ensures survives { Survives (state S.Store tx.old.conn.now) (state S.Store tx.new.conn.now)
         (λ _. ⊥) }
 {
@@ -47,11 +46,10 @@ fn make_entry<S: Alter>(tx: &mut Transaction<'_, S>) -> Result<usize, Error>
 
 fn make_cell<S: Alter>(tx: &mut Transaction<'_, S>) -> Result<usize, Error>
     ensures same_reference { tx.new.conn.ghost_name ≡ tx.old.conn.ghost_name }
-    ensures ok { HasCleanDisk (state S.Store tx.new.conn.now)
-        → IsTrue (state S.Store tx.old.conn.now).in_transaction
-        → (state S.Store tx.old.conn.now).now.schema ≡ entry_schema
+    ensures ok { InTransaction (state S.Store tx.old.conn.now) (state S.Store tx.new.conn.now)
+        ((state S.Store tx.old.conn.now).now.schema ≡ entry_schema
         → OnOk result (Makes (state S.Store tx.old.conn.now) (state S.Store tx.new.conn.now)
-        entry_schema (store_schema StoreVersion.One) 2) }
+        entry_schema (store_schema StoreVersion.One) cell_tree)) }
     ensures survives { Survives (state S.Store tx.old.conn.now) (state S.Store tx.new.conn.now)
         (λ _. ⊥) }
 {
@@ -63,11 +61,10 @@ fn make_cell<S: Alter>(tx: &mut Transaction<'_, S>) -> Result<usize, Error>
 
 pub(crate) fn make_acted<S: Alter>(tx: &mut Transaction<'_, S>) -> Result<usize, Error>
     ensures same_reference { tx.new.conn.ghost_name ≡ tx.old.conn.ghost_name }
-    ensures ok { HasCleanDisk (state S.Store tx.new.conn.now)
-        → IsTrue (state S.Store tx.old.conn.now).in_transaction
-        → (state S.Store tx.old.conn.now).now.schema ≡ store_schema StoreVersion.One
+    ensures ok { InTransaction (state S.Store tx.old.conn.now) (state S.Store tx.new.conn.now)
+        ((state S.Store tx.old.conn.now).now.schema ≡ store_schema StoreVersion.One
         → OnOk result (Makes (state S.Store tx.old.conn.now) (state S.Store tx.new.conn.now)
-        (store_schema StoreVersion.One) (store_schema StoreVersion.Two) 4) }
+        (store_schema StoreVersion.One) (store_schema StoreVersion.Two) acted_tree)) }
     ensures survives { Survives (state S.Store tx.old.conn.now) (state S.Store tx.new.conn.now)
         (λ _. ⊥) }
 {
@@ -80,12 +77,11 @@ pub(crate) fn make_acted<S: Alter>(tx: &mut Transaction<'_, S>) -> Result<usize,
 /// Makes the three tables of version 1, which have no row yet.
 fn make_three<S: Alter>(tx: &mut Transaction<'_, S>) -> Result<(), Error>
     ensures same_reference { tx.new.conn.ghost_name ≡ tx.old.conn.ghost_name }
-    ensures ok { HasCleanDisk (state S.Store tx.new.conn.now)
-        → IsTrue (state S.Store tx.old.conn.now).in_transaction
-        → (state S.Store tx.old.conn.now).now.schema ≡ no_schema
+    ensures ok { InTransaction (state S.Store tx.old.conn.now) (state S.Store tx.new.conn.now)
+        ((state S.Store tx.old.conn.now).now.schema ≡ no_schema
         → OnOk result
         (MakesTables (state S.Store tx.old.conn.now) (state S.Store tx.new.conn.now)
-        StoreVersion.One) }
+        StoreVersion.One)) }
     ensures survives { Survives (state S.Store tx.old.conn.now) (state S.Store tx.new.conn.now)
         (λ _. ⊥) }
 {
@@ -98,11 +94,10 @@ fn make_three<S: Alter>(tx: &mut Transaction<'_, S>) -> Result<(), Error>
 /// Makes the tables of a version, which have no row yet.
 fn make_tables<S: Alter>(tx: &mut Transaction<'_, S>, tables: StoreVersion) -> Result<(), Error>
     ensures same_reference { tx.new.conn.ghost_name ≡ tx.old.conn.ghost_name }
-    ensures ok { HasCleanDisk (state S.Store tx.new.conn.now)
-        → IsTrue (state S.Store tx.old.conn.now).in_transaction
-        → (state S.Store tx.old.conn.now).now.schema ≡ no_schema
+    ensures ok { InTransaction (state S.Store tx.old.conn.now) (state S.Store tx.new.conn.now)
+        ((state S.Store tx.old.conn.now).now.schema ≡ no_schema
         → OnOk result
-        (MakesTables (state S.Store tx.old.conn.now) (state S.Store tx.new.conn.now) tables) }
+        (MakesTables (state S.Store tx.old.conn.now) (state S.Store tx.new.conn.now) tables)) }
     ensures survives { Survives (state S.Store tx.old.conn.now) (state S.Store tx.new.conn.now)
         (λ _. ⊥) }
 {

@@ -1,11 +1,12 @@
 //! The rows of `meta`.
 ghost use Rattle.std.specs.Prelude.{◌≡◌, [], IsTrue, OnOk};
 ghost use Rattle.sqlite.specs.Held.{state};
-ghost use Rattle.sqlite.specs.State.{HasCleanDisk, Survives};
+ghost use Rattle.sqlite.specs.State.{Survives};
 ghost use Rattle.lynx_sql.specs.Contents.{title_of};
 ghost use Rattle.lynx_sql.specs.declared.version.StoreVersion.{StoreVersion};
-ghost use Rattle.lynx_sql.specs.Tables.{store_schema};
+ghost use Rattle.lynx_sql.specs.Tables.{store_schema, meta_tree};
 ghost use Rattle.lynx_sql.specs.Steps.{AddsText, WritesTitle, SetsText};
+ghost use Rattle.lynx_sql.specs.Steps.{InTransaction};
 
 use sqlite::types::{ToSql, ValueRef};
 use sqlite::{Alter, Error, Transaction};
@@ -17,11 +18,10 @@ pub fn insert_text<S: Alter>(
     text: &[u8],
 ) -> Result<usize, Error>
     ensures same_reference { tx.new.conn.ghost_name ≡ tx.old.conn.ghost_name }
-    ensures ok { HasCleanDisk (state S.Store tx.new.conn.now)
-        → IsTrue (state S.Store tx.old.conn.now).in_transaction
-        → (tables : StoreVersion) → (state S.Store tx.old.conn.now).now.schema ≡ store_schema tables
+    ensures ok { InTransaction (state S.Store tx.old.conn.now) (state S.Store tx.new.conn.now)
+        ((tables : StoreVersion) → (state S.Store tx.old.conn.now).now.schema ≡ store_schema tables
         → OnOk result
-        (AddsText (state S.Store tx.old.conn.now) (state S.Store tx.new.conn.now) id text.now) }
+        (AddsText (state S.Store tx.old.conn.now) (state S.Store tx.new.conn.now) id text.now)) }
     ensures survives { Survives (state S.Store tx.old.conn.now) (state S.Store tx.new.conn.now)
         (λ _. ⊥) }
 {
@@ -39,12 +39,11 @@ pub fn write_title<S: Alter>(
     set: &[u8],
 ) -> Result<(), Error>
     ensures same_reference { tx.new.conn.ghost_name ≡ tx.old.conn.ghost_name }
-    ensures ok { HasCleanDisk (state S.Store tx.new.conn.now)
-        → IsTrue (state S.Store tx.old.conn.now).in_transaction
-        → (tables : StoreVersion) → (state S.Store tx.old.conn.now).now.schema ≡ store_schema tables
-        → (state S.Store tx.old.conn.now).now.trees 0 ≡ []
+    ensures ok { InTransaction (state S.Store tx.old.conn.now) (state S.Store tx.new.conn.now)
+        ((tables : StoreVersion) → (state S.Store tx.old.conn.now).now.schema ≡ store_schema tables
+        → (state S.Store tx.old.conn.now).now.trees meta_tree ≡ []
         → OnOk result (WritesTitle (state S.Store tx.old.conn.now) (state S.Store tx.new.conn.now)
-        (title_of version.now server.now set.now)) }
+        (title_of version.now server.now set.now))) }
     ensures survives { Survives (state S.Store tx.old.conn.now) (state S.Store tx.new.conn.now)
         (λ _. ⊥) }
 {
@@ -57,11 +56,10 @@ pub fn write_title<S: Alter>(
 /// Changes the text under a number.
 pub fn set_text<S: Alter>(tx: &mut Transaction<'_, S>, id: u32, text: &[u8]) -> Result<usize, Error>
     ensures same_reference { tx.new.conn.ghost_name ≡ tx.old.conn.ghost_name }
-    ensures ok { HasCleanDisk (state S.Store tx.new.conn.now)
-        → IsTrue (state S.Store tx.old.conn.now).in_transaction
-        → (tables : StoreVersion) → (state S.Store tx.old.conn.now).now.schema ≡ store_schema tables
+    ensures ok { InTransaction (state S.Store tx.old.conn.now) (state S.Store tx.new.conn.now)
+        ((tables : StoreVersion) → (state S.Store tx.old.conn.now).now.schema ≡ store_schema tables
         → OnOk result
-        (SetsText (state S.Store tx.old.conn.now) (state S.Store tx.new.conn.now) id text.now) }
+        (SetsText (state S.Store tx.old.conn.now) (state S.Store tx.new.conn.now) id text.now)) }
     ensures survives { Survives (state S.Store tx.old.conn.now) (state S.Store tx.new.conn.now)
         (λ _. ⊥) }
 {

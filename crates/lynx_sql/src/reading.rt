@@ -11,7 +11,7 @@ ghost use Rattle.lynx_sql.specs.Cells.{HoldsCells};
 ghost use Rattle.lynx_sql.specs.declared.acts.Acted.{Acted};
 ghost use Rattle.lynx_sql.specs.declared.version.StoreVersion.{StoreVersion};
 ghost use Rattle.lynx_sql.specs.Acts.{HoldsActs, HoldsActed, ShowActed, ArePlaced, shown_act, acts_in, version_of};
-ghost use Rattle.lynx_sql.specs.Tables.{store_schema};
+ghost use Rattle.lynx_sql.specs.Tables.{store_schema, acted_tree, cell_tree, entry_tree, meta_tree};
 ghost use Rattle.lynx_sql.specs.Shown.{AreCells, cells_in};
 ghost use Rattle.lynx_sql.specs.Reading.{IsStore, SameTables, ShowRows};
 
@@ -27,7 +27,7 @@ fn read_title<S: Rising>(conn: &mut Connection<S>) -> Result<Vec<Row>, Error>
         → Keeps (state S.Store conn.old) contents → rows.items ≡ shown_meta contents.title) }
     ensures back { HasCleanDisk (state S.Store conn.new) → IfOk result (λ rows. (title : Title)
         → rows.items ≡ shown_meta title
-        → (state S.Store conn.new).committed.trees 0 ≡ meta_rows title) }
+        → (state S.Store conn.new).committed.trees meta_tree ≡ meta_rows title) }
     ensures store { HasCleanDisk (state S.Store conn.new)
         → OnOk result (IsStore (state S.Store conn.new)) }
     ensures same { HasCleanDisk (state S.Store conn.new)
@@ -50,7 +50,7 @@ fn read_entries<S: Rising>(conn: &mut Connection<S>) -> Result<Vec<Row>, Error>
     ensures back { HasCleanDisk (state S.Store conn.new)
         → IfOk result (λ rows. (bodies : List (List ℕ))
         → rows.items ≡ shown_entries 0 bodies
-        → (state S.Store conn.new).committed.trees 1 ≡ entry_rows 0 bodies) }
+        → (state S.Store conn.new).committed.trees entry_tree ≡ entry_rows 0 bodies) }
     ensures store { HasCleanDisk (state S.Store conn.new)
         → OnOk result (IsStore (state S.Store conn.new)) }
     ensures same { HasCleanDisk (state S.Store conn.new)
@@ -71,7 +71,7 @@ fn read_cells<S: Rising>(conn: &mut Connection<S>) -> Result<Vec<Row>, Error>
     ensures ok { HasCleanDisk (state S.Store conn.new) → IfOk result (λ rows. (contents : Contents)
         → Keeps (state S.Store conn.old) contents → cells_in rows.items ≡ contents.cells) }
     ensures back { HasCleanDisk (state S.Store conn.new) → IfOk result (λ rows. AreCells rows.items
-        → HoldsCells ((state S.Store conn.new).committed.trees 2) (cells_in rows.items)) }
+        → HoldsCells ((state S.Store conn.new).committed.trees cell_tree) (cells_in rows.items)) }
     ensures store { HasCleanDisk (state S.Store conn.new)
         → OnOk result (IsStore (state S.Store conn.new)) }
     ensures same { HasCleanDisk (state S.Store conn.new)
@@ -98,7 +98,7 @@ fn read_places<S: Rising>(conn: &mut Connection<S>) -> Result<Vec<Row>, Error>
     ensures back { HasCleanDisk (state S.Store conn.new)
         → IfOk result (λ rows. (acts : List Acted) (places : ℕ)
         → ArePlaced acts places → rows.items ≡ map shown_act acts
-        → HoldsActs ((state S.Store conn.new).committed.trees 4) acts) }
+        → HoldsActs ((state S.Store conn.new).committed.trees acted_tree) acts) }
     ensures kept { HasCleanDisk (state S.Store conn.new) → OnOk result ((contents : Contents)
         → Keeps (state S.Store conn.old) contents → Keeps (state S.Store conn.new) contents) }
     ensures stop { HasCleanDisk (state S.Store conn.new) → (db : Trees)
@@ -123,7 +123,7 @@ fn read_acted<S: Rising>(conn: &mut Connection<S>) -> Result<Option<Vec<Row>>, E
     ensures back { HasCleanDisk (state S.Store conn.new)
         → IfOk result (λ rows. (acted : Option (List Acted)) (places : ℕ)
         → ArePlaced (acts_in acted) places → ShowActed rows acted
-        → HoldsActed ((state S.Store conn.new).committed.trees 4) acted
+        → HoldsActed ((state S.Store conn.new).committed.trees acted_tree) acted
         × ((state S.Store conn.new).now.schema ≡ store_schema (version_of acted))) }
     ensures kept { HasCleanDisk (state S.Store conn.new) → OnOk result ((contents : Contents)
         → Keeps (state S.Store conn.old) contents → Keeps (state S.Store conn.new) contents) }

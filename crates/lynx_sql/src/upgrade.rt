@@ -9,6 +9,7 @@ ghost use Rattle.lynx_sql.specs.Acts.{ArePlaced};
 ghost use Rattle.lynx_sql.specs.Contents.{Contents, upgraded};
 ghost use Rattle.lynx_sql.specs.Tables.{store_schema};
 ghost use Rattle.lynx_sql.specs.Steps.{Keeps, Holds, Retitles, AddsTable};
+ghost use Rattle.lynx_sql.specs.Steps.{InTransaction};
 
 use crate::acts::{Acted, insert_acts};
 use crate::making::make_acted;
@@ -18,11 +19,10 @@ use sqlite::{Alter, Connection, Error, ErrorCode, Transaction};
 /// Makes `acted` in a store of version 1, with the rows of these hops.
 fn add_acted<S: Alter>(tx: &mut Transaction<'_, S>, acts: &[Acted]) -> Result<(), Error>
     ensures same_reference { tx.new.conn.ghost_name ≡ tx.old.conn.ghost_name }
-    ensures ok { HasCleanDisk (state S.Store tx.new.conn.now)
-        → IsTrue (state S.Store tx.old.conn.now).in_transaction
-        → (state S.Store tx.old.conn.now).now.schema ≡ store_schema StoreVersion.One
+    ensures ok { InTransaction (state S.Store tx.old.conn.now) (state S.Store tx.new.conn.now)
+        ((state S.Store tx.old.conn.now).now.schema ≡ store_schema StoreVersion.One
         → OnOk result
-        (AddsTable (state S.Store tx.old.conn.now) (state S.Store tx.new.conn.now) acts.now) }
+        (AddsTable (state S.Store tx.old.conn.now) (state S.Store tx.new.conn.now) acts.now)) }
     ensures survives { Survives (state S.Store tx.old.conn.now) (state S.Store tx.new.conn.now)
         (λ _. ⊥) }
 {
@@ -33,12 +33,11 @@ fn add_acted<S: Alter>(tx: &mut Transaction<'_, S>, acts: &[Acted]) -> Result<()
 /// Changes the texts of the version and of the set.
 fn retitle<S: Alter>(tx: &mut Transaction<'_, S>, version: &[u8], set: &[u8]) -> Result<(), Error>
     ensures same_reference { tx.new.conn.ghost_name ≡ tx.old.conn.ghost_name }
-    ensures ok { HasCleanDisk (state S.Store tx.new.conn.now)
-        → IsTrue (state S.Store tx.old.conn.now).in_transaction
-        → (tables : StoreVersion) → (state S.Store tx.old.conn.now).now.schema ≡ store_schema tables
+    ensures ok { InTransaction (state S.Store tx.old.conn.now) (state S.Store tx.new.conn.now)
+        ((tables : StoreVersion) → (state S.Store tx.old.conn.now).now.schema ≡ store_schema tables
         → OnOk result
         (Retitles (state S.Store tx.old.conn.now) (state S.Store tx.new.conn.now) version.now
-        set.now) }
+        set.now)) }
     ensures survives { Survives (state S.Store tx.old.conn.now) (state S.Store tx.new.conn.now)
         (λ _. ⊥) }
 {

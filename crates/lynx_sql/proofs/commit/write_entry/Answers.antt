@@ -31,8 +31,8 @@ returns-clause-ok g c clean own =
     on_ok c.commit.result (λ done before keeps at.
     let there = made g.S.Store old tx mid late last begun version known c.args.place c.args.body.now c.args.changes.now c.args.acted own
     (λ on has. c.in_ok-insert_entry.ensures.ok mid_clean on version has)
-    (λ up on has. changes_applied (state g.S.Store mid) (state g.S.Store late) c.list.result.now c.args.changes.now c.list.ensures (c.in_ok-write_cells.ensures.ok late_clean up on version has))
-    (λ up on has. c.in_ok-note_acted.ensures.ok last_clean up on has)
+    (λ up on has. changes_applied (state g.S.Store mid) (state g.S.Store late) c.list.result.now c.args.changes.now c.list.ensures (c.in_ok-write_cells.ensures.ok late_clean on up version has))
+    (λ up on has. c.in_ok-note_acted.ensures.ok last_clean on up has)
     before keeps (c.is_autocommit.ensures.settled auto keeps.is_open) at in
     subst (λ h. Keeps (state g.S.Store h) (with_body before c.args.body.now c.args.changes.now c.args.acted)) same (kept_after (state g.S.Store last) (state g.S.Store end) _ done.1 there)) (c.commit.ensures.ok end_clean)
 
@@ -55,8 +55,8 @@ returns-clause-stop g c clean own before keeps at db may =
     let auto : IsTrue c.is_autocommit.result = search rules in
     let there = made g.S.Store old tx mid late last begun version known c.args.place c.args.body.now c.args.changes.now c.args.acted own
     (λ on has. c.in_ok-insert_entry.ensures.ok mid_clean on version has)
-    (λ up on has. changes_applied (state g.S.Store mid) (state g.S.Store late) c.list.result.now c.args.changes.now c.list.ensures (c.in_ok-write_cells.ensures.ok late_clean up on version has))
-    (λ up on has. c.in_ok-note_acted.ensures.ok last_clean up on has)
+    (λ up on has. changes_applied (state g.S.Store mid) (state g.S.Store late) c.list.result.now c.args.changes.now c.list.ensures (c.in_ok-write_cells.ensures.ok late_clean on up version has))
+    (λ up on has. c.in_ok-note_acted.ensures.ok last_clean on up has)
     before keeps (c.is_autocommit.ensures.settled auto keeps.is_open) at in
     let P = λ (trees : Trees). Holds trees (with_body before c.args.body.now c.args.changes.now c.args.acted) in
     let first = survives_then (state g.S.Store tx) (state g.S.Store mid) (state g.S.Store late) _ _ (λ _. ⊥) (λ _ db none. none) (λ _ db none. none) c.insert_entry.ensures.survives c.write_cells.ensures.survives in

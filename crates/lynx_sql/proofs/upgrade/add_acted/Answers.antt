@@ -12,4 +12,4 @@ returns-clause-ok g c clean inside has =
     let new = state g.S.Store c.insert_acts.new.tx.conn.now in
     let one_clean : HasCleanDisk one = omega (arith, c.insert_acts.ensures.survives.clean) in
     let made = c.in_ok-make_acted.ensures.ok one_clean inside has in
-    on_ok c.insert_acts.result (λ more. adds_table old one new c.args.acts.now made more) (c.insert_acts.ensures.ok clean made.shown.is_open made.shown.mode made.schema)
+    on_ok c.insert_acts.result (λ more. adds_table old one new c.args.acts.now made more) (c.insert_acts.ensures.ok clean made.shown.mode made.shown.is_open made.schema)

@@ -10,7 +10,7 @@ use Rattle.lynx_graph.specs.declared.nodes.Exit.{Exit}
 use Rattle.lynx_graph.specs.declared.nodes.Node.{Node}
 use Rattle.lynx_check.specs.declared.marks.Marks.{Marks}
 use Rattle.lynx_check.specs.declared.tracing.Arrival.{Arrival}
-use Rattle.lynx_check.specs.declared.tracing.Step.{Step}
+use Rattle.lynx_check.specs.declared.tracing.Traced.{Traced}
 use Rattle.lynx_graph.specs.declared.visit.Visit.{Visit}
 use Rattle.lynx_graph.specs.Walks.{NoWalkOffends}
 use Rattle.lynx_graph.specs.Tests.{joins}
@@ -51,7 +51,7 @@ onward nodes start table here arrival exit =
 is_some-step_by : (nodes : List Node) (start : Node) (table : List Marks) (here : Node) (arrival : Arrival) (exit : Exit) →
     is_some (step_by nodes start table here arrival exit) ≡ onward nodes start table here arrival exit
 is_some-step_by nodes start table here arrival exit =
-    is_some-option_map {Y = Step} (λ next. record { visit = record { program = here.place.program; entered = here.place.hop; left = exit.hop }; next = next })
+    is_some-option_map {Y = Traced} (λ next. record { visit = record { program = here.place.program; entered = here.place.hop; left = exit.hop }; next = next })
     (option_and_then (λ left. arrival_after table left crossed abroad) (slice_get nodes exit.node))
     ∙ by_left (slice_get nodes exit.node) refl
   where

@@ -9,7 +9,7 @@ use Rattle.lynx_set.specs.Set.{Set}
 use Rattle.lynx_graph.specs.declared.nodes.Node.{Node}
 use Rattle.lynx_check.specs.declared.marks.Marks.{Marks}
 use Rattle.lynx_check.specs.declared.tracing.Arrival.{Arrival}
-use Rattle.lynx_check.specs.declared.tracing.Step.{Step}
+use Rattle.lynx_check.specs.declared.tracing.Traced.{Traced}
 use Rattle.lynx_graph.specs.declared.visit.Visit.{Visit}
 use Rattle.lynx_graph.specs.Nodes.{nodes_of}
 use Rattle.lynx_check.specs.inner.Marks.{first_table, mark, mark_at, next_table, table_within}
@@ -45,7 +45,7 @@ Reads-first nodes start table level arrival at is e = record {
   marked = ap (λ (marks : List Marks). mark_at marks arrival.node arrival.crossed arrival.abroad) (sym is) ∙ arrival_after-marked table start false false arrival e;
 }
 
-pub Reads-step : (nodes : List Node) (start : Node) (visits : List Visit) (table : List Marks) (level before : ℕ) (arrival : Arrival) (step : Step) → Reads nodes start visits before arrival → Contains nodes start →
+pub Reads-step : (nodes : List Node) (start : Node) (visits : List Visit) (table : List Marks) (level before : ℕ) (arrival : Arrival) (step : Traced) → Reads nodes start visits before arrival → Contains nodes start →
     table ≡ table_within nodes start level → next_step nodes start table arrival ≡ Some step → Reads nodes start (visits ++ step.visit ∷ []) level step.next
 Reads-step nodes start visits table level before arrival step reads at is e = record {
   leads = λ set same. Leads-step set table start.place visits arrival step (reads.leads set same)

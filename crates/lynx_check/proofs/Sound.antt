@@ -11,7 +11,7 @@ use Rattle.lynx_graph.specs.declared.nodes.Exit.{Exit}
 use Rattle.lynx_graph.specs.declared.nodes.Node.{Node}
 use Rattle.lynx_check.specs.declared.marks.Marks.{Marks}
 use Rattle.lynx_check.specs.declared.tracing.Arrival.{Arrival}
-use Rattle.lynx_check.specs.declared.tracing.Step.{Step}
+use Rattle.lynx_check.specs.declared.tracing.Traced.{Traced}
 use Rattle.lynx_graph.specs.declared.visit.Visit.{Visit}
 use Rattle.lynx_graph.specs.Walks.{IsOffending}
 use Rattle.lynx_graph.specs.Tests.{joins}
@@ -91,19 +91,19 @@ or-false : (b : Bool) → b ≡ (b || false)
 or-false true = refl
 or-false false = refl
 
-record IsStep (nodes : List Node) (start : Node) (table : List Marks) (here : Node) (arrival : Arrival) (exits : List Exit) (step : Step) : Type 0 where
+record IsStep (nodes : List Node) (start : Node) (table : List Marks) (here : Node) (arrival : Arrival) (exits : List Exit) (step : Traced) : Type 0 where
   pub at : ℕ
   pub exit : Exit
   pub there : slice_get exits at ≡ Some exit
   pub gives : step_by nodes start table here arrival exit ≡ Some step
 
-first_step-Some : (nodes : List Node) (start : Node) (table : List Marks) (here : Node) (arrival : Arrival) (exits : List Exit) (step : Step) →
+first_step-Some : (nodes : List Node) (start : Node) (table : List Marks) (here : Node) (arrival : Arrival) (exits : List Exit) (step : Traced) →
     first_step nodes start table here arrival exits ≡ Some step → IsStep nodes start table here arrival exits step
 first_step-Some nodes start table here arrival [] step e = absurd (none-some step e)
 first_step-Some nodes start table here arrival (exit ∷ exits) step e =
     by_step (step_by nodes start table here arrival exit) refl e (first_step-Some nodes start table here arrival exits step)
   where
-    by_step : (o : Option Step) → step_by nodes start table here arrival exit ≡ o → option_or o (first_step nodes start table here arrival exits) ≡ Some step →
+    by_step : (o : Option Traced) → step_by nodes start table here arrival exit ≡ o → option_or o (first_step nodes start table here arrival exits) ≡ Some step →
         (first_step nodes start table here arrival exits ≡ Some step → IsStep nodes start table here arrival exits step) → IsStep nodes start table here arrival (exit ∷ exits) step
     by_step None is found later = let rest = later found in record { at = suc rest.at; exit = rest.exit; there = rest.there; gives = rest.gives }
     by_step (Some first) is found later = record { at = zero; exit = exit; there = refl; gives = is ∙ found }
@@ -122,7 +122,7 @@ exit_is set here left at exit there at_left =
     record { same = ap (λ (p : ℕ). let it : Place = record { program = p; hop = exit.hop } in it) program ∙ ap (λ (h : ℕ). let it : Place = record { program = of.place.program; hop = h } in it) hop ∙ place }
 
 -- the step by an exit
-step_leads : (set : Set) (table : List Marks) (start : Place) (visits : List Visit) (arrival : Arrival) (step : Step) (lead : Leads set start visits arrival) (at : ℕ) (exit : Exit) →
+step_leads : (set : Set) (table : List Marks) (start : Place) (visits : List Visit) (arrival : Arrival) (step : Traced) (lead : Leads set start visits arrival) (at : ℕ) (exit : Exit) →
     slice_get (at_place set lead.here).exits at ≡ Some exit → step_by (nodes_of set) (at_place set start) table (at_place set lead.here) arrival exit ≡ Some step →
     Leads set start (visits ++ step.visit ∷ []) step.next
 step_leads set table start visits arrival step lead at exit there gives =
@@ -130,13 +130,13 @@ step_leads set table start visits arrival step lead at exit there gives =
     let visit : Visit = record { program = here.program; entered = here.hop; left = exit.hop } in
     let crossed = arrival.crossed || not (here.hop == exit.hop) in
     let abroad = arrival.abroad || differs set (origin_of set start.program) visit in
-    let mapped = option_map-Some {Y = Step} (λ next. record { visit = visit; next = next })
+    let mapped = option_map-Some {Y = Traced} (λ next. record { visit = visit; next = next })
     (option_and_then (λ left. arrival_after table left crossed abroad) (slice_get (nodes_of set) exit.node)) step gives in
     let chained = option_and_then-Some (λ left. arrival_after table left crossed abroad) (slice_get (nodes_of set) exit.node) mapped.0 mapped.1 in
     let left = place_at set exit.node chained.0 chained.1 in
     let next = arrives set table left.0 crossed abroad mapped.0 (ap (λ (node : Node). arrival_after table node crossed abroad) (sym left.2) ∙ chained.2) in
     let from = exit_is set here left.0 at exit there left.1 in
-    subst (λ (s : Step). Leads set start (visits ++ s.visit ∷ []) s.next) mapped.2 (record {
+    subst (λ (s : Traced). Leads set start (visits ++ s.visit ∷ []) s.next) mapped.2 (record {
       here = next.here;
       there = next.there;
       trail = Trail-push set start visits visit next.here lead.trail (subst (λ (place : Place). Conflict set place next.here) (sym from.same) next.conflict);
@@ -147,7 +147,7 @@ step_leads set table start visits arrival step lead at exit there gives =
     })
 
 -- the least step that the tables allow leads on
-pub Leads-step : (set : Set) (table : List Marks) (start : Place) (visits : List Visit) (arrival : Arrival) (step : Step) → Leads set start visits arrival →
+pub Leads-step : (set : Set) (table : List Marks) (start : Place) (visits : List Visit) (arrival : Arrival) (step : Traced) → Leads set start visits arrival →
     next_step (nodes_of set) (at_place set start) table arrival ≡ Some step → Leads set start (visits ++ step.visit ∷ []) step.next
 Leads-step set table start visits arrival step lead e =
     let here = at_place set lead.here in
@@ -157,7 +157,7 @@ Leads-step set table start visits arrival step lead e =
     step_leads set table start visits arrival step lead by.at by.exit by.there by.gives
 
 -- the arrival after a step is marked
-pub next_step-marked : (nodes : List Node) (start : Node) (table : List Marks) (arrival : Arrival) (step : Step) → next_step nodes start table arrival ≡ Some step →
+pub next_step-marked : (nodes : List Node) (start : Node) (table : List Marks) (arrival : Arrival) (step : Traced) → next_step nodes start table arrival ≡ Some step →
     mark_at table step.next.node step.next.crossed step.next.abroad ≡ true
 next_step-marked nodes start table arrival step e =
     let of = option_and_then-Some (λ (node : Node). first_step nodes start table node arrival node.exits) (slice_get nodes arrival.node) step e in
@@ -165,10 +165,10 @@ next_step-marked nodes start table arrival step e =
     let by = first_step-Some nodes start table here arrival here.exits step of.2 in
     let crossed = arrival.crossed || not (here.place.hop == by.exit.hop) in
     let abroad = arrival.abroad || is_abroad start here in
-    let mapped = option_map-Some {Y = Step} (λ next. record { visit = record { program = here.place.program; entered = here.place.hop; left = by.exit.hop }; next = next })
+    let mapped = option_map-Some {Y = Traced} (λ next. record { visit = record { program = here.place.program; entered = here.place.hop; left = by.exit.hop }; next = next })
     (option_and_then (λ left. arrival_after table left crossed abroad) (slice_get nodes by.exit.node)) step by.gives in
     let chained = option_and_then-Some (λ left. arrival_after table left crossed abroad) (slice_get nodes by.exit.node) mapped.0 mapped.1 in
-    subst (λ (s : Step). mark_at table s.next.node s.next.crossed s.next.abroad ≡ true) mapped.2 (arrival_after-marked table chained.0 crossed abroad mapped.0 chained.2)
+    subst (λ (s : Traced). mark_at table s.next.node s.next.crossed s.next.abroad ≡ true) mapped.2 (arrival_after-marked table chained.0 crossed abroad mapped.0 chained.2)
 
 -- ---- the end
 

@@ -10,7 +10,7 @@ use lynx_graph::nodes::{Node, nodes_of};
 use lynx_graph::visit::{Visit, Walk};
 use lynx_names::{Items, Memory};
 use lynx_set::ChainSet;
-use lynx_walk_search::{Map, Step, least_walk};
+use lynx_walk_search::{FoundVisit, Map, least_walk};
 use std::alloc::Global;
 
 fn map_of(alloc: Global, nodes: &[Node]) -> Result<Map, Memory> {
@@ -27,7 +27,7 @@ fn map_of(alloc: Global, nodes: &[Node]) -> Result<Map, Memory> {
     Ok(map)
 }
 
-fn walk_of(alloc: Global, steps: &[Step]) -> Result<Walk, Memory> {
+fn walk_of(alloc: Global, steps: &[FoundVisit]) -> Result<Walk, Memory> {
     let mut walk = Items::new(alloc);
     for step in steps {
         walk.push(Visit {

@@ -22,7 +22,7 @@ pub(crate) struct Arrival {
 
 /// A visit, and the arrival after it.
 #[derive(Clone, Copy, Debug, PartialEq, Eq)]
-pub(crate) struct Step {
+pub(crate) struct Traced {
     pub visit: Visit,
     pub next: Arrival,
 }
@@ -58,7 +58,7 @@ fn step_by(
     here: &Node,
     arrival: &Arrival,
     exit: &Exit,
-) -> Option<Step>
+) -> Option<Traced>
     ensures { result ≡ step_by nodes.now start.now table.now here.now arrival.now exit.now }
 {
     let crossed = arrival.crossed || here.place.hop != exit.hop;
@@ -69,7 +69,7 @@ fn step_by(
         entered: here.place.hop,
         left: exit.hop,
     };
-    Some(Step { visit, next })
+    Some(Traced { visit, next })
 }
 
 /// The visit that was entered here and is left by the least hop with a marked arrival after it.
@@ -79,7 +79,7 @@ fn first_step(
     table: &[Marks],
     here: &Node,
     arrival: &Arrival,
-) -> Option<Step>
+) -> Option<Traced>
     ensures { result ≡ first_step nodes.now start.now table.now here.now arrival.now
         here.now.exits }
 {
@@ -93,7 +93,7 @@ fn first_step(
     None
 }
 
-fn next_step(nodes: &[Node], start: &Node, table: &[Marks], arrival: &Arrival) -> Option<Step>
+fn next_step(nodes: &[Node], start: &Node, table: &[Marks], arrival: &Arrival) -> Option<Traced>
     ensures { result ≡ next_step nodes.now start.now table.now arrival.now }
 {
     let here = nodes.get(arrival.node)?;

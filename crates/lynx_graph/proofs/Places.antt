@@ -14,9 +14,9 @@ use Rattle.lynx_foot.specs.Reaches.{reach_of, reaches_of}
 use Rattle.lynx_foot.specs.Conflicts.{MayConflict}
 use Rattle.lynx_graph.specs.declared.meeting.Place.{Place}
 use Rattle.lynx_graph.specs.declared.nodes.Node.{Node}
-use Rattle.lynx_graph.specs.Nodes.{places_in, places_of, found, meet, node_among, node_of, nodes_of, site_of, sites_of}
+use Rattle.lynx_graph.specs.Nodes.{places_in, places_of, found, meet, node_among, node_of, nodes_of, place_reaches_of, each_place_reaches}
 use Rattle.lynx_graph.specs.declared.nodes.Exit.{Exit}
-use Rattle.lynx_graph.specs.declared.site.Site.{Site}
+use Rattle.lynx_graph.specs.declared.place_reaches.PlaceReaches.{PlaceReaches}
 use Rattle.lynx_graph.specs.Tests.{joins}
 use Rattle.lynx_graph.proofs.Lists.{slice_get-flat_map, slice_get-mapped, slice_get-range}
 use Rattle.lynx_set.specs.Lookups.{hop_at, program_at, ranges_of}
@@ -78,39 +78,39 @@ node_at set n place there = slice_get-map (node_of set (places_of set)) (places_
 pub place_at : (set : Set) (n : ℕ) (node : Node) → slice_get (nodes_of set) n ≡ Some node → (place : Place) × (slice_get (places_of set) n ≡ Some place) × (node ≡ node_of set (places_of set) place)
 place_at set n node there = slice_get-mapped (node_of set (places_of set)) (places_of set) n node there
 
--- ---- nodes, told from sites
+-- ---- nodes, told from reached
 
--- what is found among sites, by a test and a making that see their places
-found-sites : {X : Type 0} (set : Set) (of_site : Site → Bool) (of_place : Place → Bool) (make : ℕ × Site → X) (make_place : ℕ × Place → X) →
-    ((place : Place) → of_site (site_of set place) ≡ of_place place) → ((n : ℕ) (place : Place) → make (n, site_of set place) ≡ make_place (n, place)) →
-    (first : ℕ) (places : List Place) → found of_site make first (map (site_of set) places) ≡ found of_place make_place first places
-found-sites set of_site of_place make make_place same_test same_made first [] = refl
-found-sites {X} set of_site of_place make make_place same_test same_made first (place ∷ places) =
-    ap (λ b. map make (cond b ((first, site_of set place) ∷ rest_sites) rest_sites)) (same_test place) ∙ by_test (of_place place) (found-sites set of_site of_place make make_place same_test same_made (first + 1) places)
+-- what is found among reached, by a test and a making that see their places
+found-reached : {X : Type 0} (set : Set) (of_reaches : PlaceReaches → Bool) (of_place : Place → Bool) (make : ℕ × PlaceReaches → X) (make_place : ℕ × Place → X) →
+    ((place : Place) → of_reaches (place_reaches_of set place) ≡ of_place place) → ((n : ℕ) (place : Place) → make (n, place_reaches_of set place) ≡ make_place (n, place)) →
+    (first : ℕ) (places : List Place) → found of_reaches make first (map (place_reaches_of set) places) ≡ found of_place make_place first places
+found-reached set of_reaches of_place make make_place same_test same_made first [] = refl
+found-reached {X} set of_reaches of_place make make_place same_test same_made first (place ∷ places) =
+    ap (λ b. map make (cond b ((first, place_reaches_of set place) ∷ rest_reached) rest_reached)) (same_test place) ∙ by_test (of_place place) (found-reached set of_reaches of_place make make_place same_test same_made (first + 1) places)
   where
-    rest_sites : List (ℕ × Site)
-    rest_sites = filter (λ numbered. of_site numbered.1) (enumerate_from (first + 1) (map (site_of set) places))
+    rest_reached : List (ℕ × PlaceReaches)
+    rest_reached = filter (λ numbered. of_reaches numbered.1) (enumerate_from (first + 1) (map (place_reaches_of set) places))
 
     rest_places : List (ℕ × Place)
     rest_places = filter (λ numbered. of_place numbered.1) (enumerate_from (first + 1) places)
 
-    by_test : (b : Bool) → map make rest_sites ≡ map make_place rest_places →
-        map make (cond b ((first, site_of set place) ∷ rest_sites) rest_sites) ≡ map make_place (cond b ((first, place) ∷ rest_places) rest_places)
+    by_test : (b : Bool) → map make rest_reached ≡ map make_place rest_places →
+        map make (cond b ((first, place_reaches_of set place) ∷ rest_reached) rest_reached) ≡ map make_place (cond b ((first, place) ∷ rest_places) rest_places)
     by_test true rest = cc (same_made first place, rest)
     by_test false rest = rest
 
-node_among-is : (set : Set) (places : List Place) (place : Place) → node_among set (map (site_of set) places) (site_of set place) ≡ node_of set places place
+node_among-is : (set : Set) (places : List Place) (place : Place) → node_among set (map (place_reaches_of set) places) (place_reaches_of set place) ≡ node_of set places place
 node_among-is set places place =
     cc (
-      found-sites {X = Exit} set (λ other. other.place.program == place.program) (λ other. other.program == place.program)
+      found-reached {X = Exit} set (λ other. other.place.program == place.program) (λ other. other.program == place.program)
           (λ numbered. record { hop = numbered.1.place.hop; node = numbered.0 }) (λ numbered. record { hop = numbered.1.hop; node = numbered.0 }) (λ _. refl) (λ _ _. refl) 0 places,
-      found-sites set (meet (site_of set place)) (joins set place) (λ numbered. numbered.0) (λ numbered. numbered.0) (λ _. refl) (λ _ _. refl) 0 places,
+      found-reached set (meet (place_reaches_of set place)) (joins set place) (λ numbered. numbered.0) (λ numbered. numbered.0) (λ _. refl) (λ _ _. refl) 0 places,
     )
 
-nodes_among-are : (set : Set) (all some : List Place) → map (node_among set (map (site_of set) all)) (map (site_of set) some) ≡ map (node_of set all) some
+nodes_among-are : (set : Set) (all some : List Place) → map (node_among set (map (place_reaches_of set) all)) (map (place_reaches_of set) some) ≡ map (node_of set all) some
 nodes_among-are set all [] = refl
 nodes_among-are set all (place ∷ some) = cc (node_among-is set all place, nodes_among-are set all some)
 
--- the nodes of a set are made from its sites
-pub nodes_of-sites : (set : Set) → map (node_among set (sites_of set)) (sites_of set) ≡ nodes_of set
-nodes_of-sites set = nodes_among-are set (places_of set) (places_of set)
+-- the nodes of a set are made from its reached
+pub nodes_of-reached : (set : Set) → map (node_among set (each_place_reaches set)) (each_place_reaches set) ≡ nodes_of set
+nodes_of-reached set = nodes_among-are set (places_of set) (places_of set)

@@ -9,7 +9,7 @@ use Rattle.lynx_foot.specs.Tests.{some_may_collide}
 use Rattle.lynx_graph.specs.declared.meeting.Place.{Place}
 use Rattle.lynx_graph.specs.declared.nodes.Exit.{Exit}
 use Rattle.lynx_graph.specs.declared.nodes.Node.{Node}
-use Rattle.lynx_graph.specs.declared.site.Site.{Site}
+use Rattle.lynx_graph.specs.declared.place_reaches.PlaceReaches.{PlaceReaches}
 use Rattle.lynx_graph.specs.Tests.{joins, same_server}
 
 -- the hops of a program
@@ -49,33 +49,33 @@ abbrev pub nodes_of : Set → List Node
 nodes_of set = map (node_of set (places_of set)) (places_of set)
 
 -- a hop with its server and its reaches
-abbrev pub site_of : Set → Place → Site
-site_of set place = record {
+abbrev pub place_reaches_of : Set → Place → PlaceReaches
+place_reaches_of set place = record {
   place = place;
   server = server_at set place.program place.hop;
   reaches = reaches_of set place.program place.hop;
 }
 
-abbrev pub sites_of : Set → List Site
-sites_of set = map (site_of set) (places_of set)
+abbrev pub each_place_reaches : Set → List PlaceReaches
+each_place_reaches set = map (place_reaches_of set) (places_of set)
 
 -- whether two hops may conflict, and the surroundings of a hop, told from such
-abbrev pub meet : Site → Site → Bool
+abbrev pub meet : PlaceReaches → PlaceReaches → Bool
 meet left right =
     same_server left.server right.server && some_may_collide left.reaches right.reaches
 
-abbrev pub exits_among : List Site → Place → List Exit
-exits_among sites place =
+abbrev pub exits_among : List PlaceReaches → Place → List Exit
+exits_among reached place =
     found (λ other. other.place.program == place.program)
-    (λ numbered. record { hop = numbered.1.place.hop; node = numbered.0 }) 0 sites
+    (λ numbered. record { hop = numbered.1.place.hop; node = numbered.0 }) 0 reached
 
-abbrev pub neighbours_among : List Site → Site → List ℕ
-neighbours_among sites site = found (meet site) (λ numbered. numbered.0) 0 sites
+abbrev pub neighbours_among : List PlaceReaches → PlaceReaches → List ℕ
+neighbours_among reached one = found (meet one) (λ numbered. numbered.0) 0 reached
 
-abbrev pub node_among : Set → List Site → Site → Node
-node_among set sites site = record {
-  place = site.place;
-  origin = origin_of set site.place.program;
-  exits = exits_among sites site.place;
-  neighbours = neighbours_among sites site;
+abbrev pub node_among : Set → List PlaceReaches → PlaceReaches → Node
+node_among set reached one = record {
+  place = one.place;
+  origin = origin_of set one.place.program;
+  exits = exits_among reached one.place;
+  neighbours = neighbours_among reached one;
 }

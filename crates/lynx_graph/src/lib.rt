@@ -22,6 +22,6 @@ pub mod holds;
 pub mod meeting;
 pub mod members;
 pub mod nodes;
-mod site;
+mod place_reaches;
 pub mod tables;
 pub mod visit;

@@ -5,7 +5,7 @@ ghost use Rattle.lynx_names.specs.declared.limits.TheConstants.{MAX_PROGRAMS};
 ghost use Rattle.lynx_graph.specs.Nodes.{places_in, places_of, exits_among, neighbours_among, node_among, nodes_of};
 
 use crate::meeting::Place;
-use crate::site::{Site, meet, sites_of};
+use crate::place_reaches::{PlaceReaches, each_place_reaches, meet};
 use lynx_names::{Items, Memory, ProgramId, ServerId};
 use lynx_set::ChainSet;
 use std::alloc::Global;
@@ -27,10 +27,10 @@ pub struct Node {
     pub neighbours: Items<usize>,
 }
 
-fn exits_of(alloc: Global, sites: &[Site], place: &Place) -> Result<Vec<Exit>, Memory>
-    ensures { IfOk result (λ exits. exits.items ≡ exits_among sites.now place.now) }
+fn exits_of(alloc: Global, reached: &[PlaceReaches], place: &Place) -> Result<Vec<Exit>, Memory>
+    ensures { IfOk result (λ exits. exits.items ≡ exits_among reached.now place.now) }
 {
-    let exits = sites
+    let exits = reached
         .iter()
         .enumerate()
         .filter(|(_, other)| other.place.program == place.program)
@@ -42,26 +42,35 @@ fn exits_of(alloc: Global, sites: &[Site], place: &Place) -> Result<Vec<Exit>, M
     Ok(exits)
 }
 
-fn neighbours_of(alloc: Global, sites: &[Site], site: &Site) -> Result<Vec<usize>, Memory>
-    ensures { IfOk result (λ neighbours. neighbours.items ≡ neighbours_among sites.now site.now) }
+fn neighbours_of(
+    alloc: Global,
+    reached: &[PlaceReaches],
+    one: &PlaceReaches,
+) -> Result<Vec<usize>, Memory>
+    ensures { IfOk result (λ neighbours. neighbours.items ≡ neighbours_among reached.now one.now) }
 {
-    let neighbours = sites
+    let neighbours = reached
         .iter()
         .enumerate()
-        .filter(|(_, other)| meet(site, other))
+        .filter(|(_, other)| meet(one, other))
         .map(|(node, _)| node)
         .collect(alloc)?;
     Ok(neighbours)
 }
 
-fn node_of(alloc: Global, set: &ChainSet, sites: &[Site], site: &Site) -> Result<Node, Memory>
-    ensures { IfOk result (λ node. node ≡ node_among set.now sites.now site.now) }
+fn node_of(
+    alloc: Global,
+    set: &ChainSet,
+    reached: &[PlaceReaches],
+    one: &PlaceReaches,
+) -> Result<Node, Memory>
+    ensures { IfOk result (λ node. node ≡ node_among set.now reached.now one.now) }
 {
     Ok(Node {
-        place: site.place,
-        origin: set.origin(site.place.program),
-        exits: Items::from_vec(exits_of(alloc, sites, &site.place)?),
-        neighbours: Items::from_vec(neighbours_of(alloc, sites, site)?),
+        place: one.place,
+        origin: set.origin(one.place.program),
+        exits: Items::from_vec(exits_of(alloc, reached, &one.place)?),
+        neighbours: Items::from_vec(neighbours_of(alloc, reached, one)?),
     })
 }
 
@@ -101,11 +110,11 @@ pub fn places_of(alloc: Global, set: &ChainSet) -> Result<Items<Place>, Memory>
 pub fn nodes_of(alloc: Global, set: &ChainSet) -> Result<Items<Node>, Memory>
     ensures { IfOk result (λ nodes. nodes ≡ nodes_of set.now) }
 {
-    let all = sites_of(alloc, set)?;
-    let sites = all.as_slice();
+    let all = each_place_reaches(alloc, set)?;
+    let reached = all.as_slice();
     let mut nodes = Items::new(alloc);
-    for site in sites {
-        nodes.push(node_of(alloc, set, sites, site)?)?;
+    for one in reached {
+        nodes.push(node_of(alloc, set, reached, one)?)?;
     }
     Ok(nodes)
 }

@@ -1,5 +1,5 @@
 //! From which arrivals a walk can be closed, level by level of further visits.
-use crate::map::{Map, Stop};
+use crate::map::{Map, Node};
 use crate::marks::{Marks, WAYS};
 use crate::row::Row;
 use lynx_names::{Items, Memory};
@@ -10,7 +10,7 @@ const MAX_LEVELS: usize = 2_048;
 
 /// Arrivals that close the walk with no further visit: at a hop of the start's program, from
 /// abroad, and at another hop than the start unless some visit crossed.
-fn goals(map: &Map, start: &Stop, place: usize) -> Marks {
+fn goals(map: &Map, start: &Node, place: usize) -> Marks {
     let mut goals = Marks::none();
     let home = map.hops_of(start.program);
     goals.at_mut(true, true).add(&home);
@@ -24,9 +24,9 @@ fn meeting(map: &Map, row: &Row) -> Row {
     let mut met = Row::none();
     let mut rest = *row;
     for _ in 0..row.count() {
-        let stop = rest.take_first().and_then(|place| map.stop(place));
-        if let Some(stop) = stop {
-            met.add(&stop.meets);
+        let node = rest.take_first().and_then(|place| map.node(place));
+        if let Some(node) = node {
+            met.add(&node.meets);
         }
     }
     met
@@ -46,13 +46,13 @@ fn leaving(map: &Map, arrivals: &Marks) -> Marks {
 /// this way.
 fn add_arrivals(
     map: &Map,
-    start: &Stop,
+    start: &Node,
     place: usize,
     crossed: bool,
     abroad: bool,
     arrivals: &mut Marks,
 ) {
-    let Some(left) = map.stop(place) else {
+    let Some(left) = map.node(place) else {
         return;
     };
     let is_abroad = left.origin != start.origin;
@@ -72,7 +72,7 @@ fn add_arrivals(
 }
 
 /// Arrivals after which the program that was entered may be left by a marked hop.
-fn arrivals(map: &Map, start: &Stop, leaving: &Marks) -> Marks {
+fn arrivals(map: &Map, start: &Node, leaving: &Marks) -> Marks {
     let mut arrivals = Marks::none();
     for (crossed, abroad) in WAYS {
         let mut rest = *leaving.at(crossed, abroad);
@@ -91,7 +91,7 @@ fn arrivals(map: &Map, start: &Stop, leaving: &Marks) -> Marks {
 pub(crate) fn levels_of(
     alloc: Global,
     map: &Map,
-    start: &Stop,
+    start: &Node,
     place: usize,
     limit: Option<usize>,
 ) -> Result<Option<Items<Marks>>, Memory> {

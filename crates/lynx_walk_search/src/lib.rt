@@ -4,7 +4,7 @@
 #![tactic(auto)]
 
 pub use map::Map;
-pub use searching::{Step, least_walk};
+pub use searching::{FoundVisit, least_walk};
 
 mod closing;
 pub mod map;

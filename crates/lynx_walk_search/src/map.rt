@@ -5,7 +5,7 @@ use std::alloc::Global;
 
 /// A hop, and what a search asks of it.
 #[derive(Clone, Copy, Debug)]
-pub(crate) struct Stop {
+pub(crate) struct Node {
     pub program: ProgramId,
     pub hop: usize,
     pub origin: Option<ServerId>,
@@ -16,7 +16,7 @@ pub(crate) struct Stop {
 /// The hops of a set, named by their places in its list of hops.
 #[derive(Debug, Drop)]
 pub struct Map {
-    pub(crate) stops: Vec<Stop>,
+    pub(crate) nodes: Vec<Node>,
     /// The hops of each program, by its number.
     pub(crate) programs: Vec<Row>,
 }
@@ -25,7 +25,7 @@ impl Map {
     /// The map of no hops. It takes no memory.
     pub fn new(alloc: Global) -> Map {
         Map {
-            stops: Vec::new(alloc),
+            nodes: Vec::new(alloc),
             programs: Vec::new(alloc),
         }
     }
@@ -39,12 +39,12 @@ impl Map {
         origin: Option<ServerId>,
         neighbours: &[usize],
     ) -> Result<(), Memory> {
-        let place = self.stops.len();
+        let place = self.nodes.len();
         let mut meets = Row::none();
         for neighbour in neighbours {
             meets.insert(*neighbour);
         }
-        self.stops.push(Stop {
+        self.nodes.push(Node {
             program,
             hop,
             origin,
@@ -59,8 +59,8 @@ impl Map {
         Ok(())
     }
 
-    pub(crate) fn stop(&self, place: usize) -> Option<&Stop> {
-        self.stops.as_slice().get(place)
+    pub(crate) fn node(&self, place: usize) -> Option<&Node> {
+        self.nodes.as_slice().get(place)
     }
 
     /// The hops of that program.

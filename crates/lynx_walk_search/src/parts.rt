@@ -1,14 +1,14 @@
 //! The parts of a map: hops of one program are in one part, and so are hops that may conflict.
-use crate::map::{Map, Stop};
+use crate::map::{Map, Node};
 use crate::row::Row;
 use lynx_names::Memory;
 use std::alloc::Global;
 
 impl Map {
     /// The hops of its program, and those with which it may conflict.
-    fn around(&self, stop: &Stop) -> Row {
-        let mut around = self.hops_of(stop.program);
-        around.add(&stop.meets);
+    fn around(&self, node: &Node) -> Row {
+        let mut around = self.hops_of(node.program);
+        around.add(&node.meets);
         around
     }
 
@@ -16,11 +16,11 @@ impl Map {
     fn part_of(&self, place: usize) -> Row {
         let mut part = Row::only(place);
         let mut fresh = part;
-        for _ in 0..self.stops.len() {
-            let Some(stop) = fresh.take_first().and_then(|next| self.stop(next)) else {
+        for _ in 0..self.nodes.len() {
+            let Some(node) = fresh.take_first().and_then(|next| self.node(next)) else {
                 break;
             };
-            let mut more = self.around(stop);
+            let mut more = self.around(node);
             more.remove(&part);
             part.add(&more);
             fresh.add(&more);
@@ -31,14 +31,14 @@ impl Map {
     /// For each hop the first hop of its part.
     pub fn parts(&self, alloc: Global) -> Result<Vec<usize>, Memory> {
         let mut parts = Vec::new(alloc);
-        for place in 0..self.stops.len() {
+        for place in 0..self.nodes.len() {
             parts.push(place)?;
         }
         let mut rest = Row::none();
-        for place in 0..self.stops.len() {
+        for place in 0..self.nodes.len() {
             rest.insert(place);
         }
-        for _ in 0..self.stops.len() {
+        for _ in 0..self.nodes.len() {
             let Some(first) = rest.take_first() else {
                 break;
             };

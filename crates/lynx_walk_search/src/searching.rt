@@ -6,7 +6,7 @@ use std::alloc::Global;
 
 /// A visit of a walk: the program is entered at one hop and left by one.
 #[derive(Clone, Copy, Debug, PartialEq, Eq)]
-pub struct Step {
+pub struct FoundVisit {
     pub program: ProgramId,
     pub entered: usize,
     pub left: usize,
@@ -18,9 +18,9 @@ pub struct Step {
 ///
 /// For each of at most 512 hops it goes once through at most 2,048 marks, each with a row of 512
 /// bits.
-pub fn least_walk(alloc: Global, map: &Map) -> Result<Option<Items<Step>>, Memory> {
-    let mut best: Option<Items<Step>> = None;
-    for (place, start) in map.stops.as_slice().iter().enumerate() {
+pub fn least_walk(alloc: Global, map: &Map) -> Result<Option<Items<FoundVisit>>, Memory> {
+    let mut best: Option<Items<FoundVisit>> = None;
+    for (place, start) in map.nodes.as_slice().iter().enumerate() {
         let limit = match &best {
             Some(walk) => Some(walk.len().saturating_sub(2)),
             None => None,

@@ -1,8 +1,8 @@
 //! The least walk, read off the levels of its start.
-use crate::map::{Map, Stop};
+use crate::map::{Map, Node};
 use crate::marks::Marks;
 use crate::row::Row;
-use crate::searching::Step;
+use crate::searching::FoundVisit;
 use lynx_names::{Items, Memory};
 use std::alloc::Global;
 
@@ -15,7 +15,7 @@ struct Arrival {
 }
 
 /// The first marked arrival for a walk that leaves at this hop.
-fn arrival_after(level: &Marks, left: &Stop, crossed: bool, abroad: bool) -> Option<Arrival> {
+fn arrival_after(level: &Marks, left: &Node, crossed: bool, abroad: bool) -> Option<Arrival> {
     let mut marked: Row = *level.at(crossed, abroad);
     marked.keep(&left.meets);
     let place = marked.take_first()?;
@@ -27,15 +27,20 @@ fn arrival_after(level: &Marks, left: &Stop, crossed: bool, abroad: bool) -> Opt
 }
 
 /// The visit that is left by the least hop with a marked arrival after it, and that arrival.
-fn step_from(map: &Map, start: &Stop, level: &Marks, arrival: &Arrival) -> Option<(Step, Arrival)> {
-    let here = map.stop(arrival.place)?;
+fn step_from(
+    map: &Map,
+    start: &Node,
+    level: &Marks,
+    arrival: &Arrival,
+) -> Option<(FoundVisit, Arrival)> {
+    let here = map.node(arrival.place)?;
     let abroad = arrival.abroad || here.origin != start.origin;
     let mut exits = map.hops_of(here.program);
     for _ in 0..exits.count() {
-        let exit = map.stop(exits.take_first()?)?;
+        let exit = map.node(exits.take_first()?)?;
         let crossed = arrival.crossed || exit.hop != here.hop;
         if let Some(next) = arrival_after(level, exit, crossed, abroad) {
-            let step = Step {
+            let step = FoundVisit {
                 program: here.program,
                 entered: here.hop,
                 left: exit.hop,
@@ -51,9 +56,9 @@ fn step_from(map: &Map, start: &Stop, level: &Marks, arrival: &Arrival) -> Optio
 pub(crate) fn read_walk(
     alloc: Global,
     map: &Map,
-    start: &Stop,
+    start: &Node,
     levels: &[Marks],
-) -> Result<Option<Items<Step>>, Memory> {
+) -> Result<Option<Items<FoundVisit>>, Memory> {
     let mut steps = Vec::new(alloc);
     let Some(mut arrival) = levels
         .last()
@@ -71,10 +76,10 @@ pub(crate) fn read_walk(
         steps.push(step)?;
         arrival = next;
     }
-    let Some(last) = map.stop(arrival.place) else {
+    let Some(last) = map.node(arrival.place) else {
         return Ok(None);
     };
-    let first = Step {
+    let first = FoundVisit {
         program: start.program,
         entered: last.hop,
         left: start.hop,

@@ -10,7 +10,7 @@ use Rattle.lynx_graph.specs.declared.nodes.Exit.{Exit}
 use Rattle.lynx_graph.specs.declared.nodes.Node.{Node}
 use Rattle.lynx_check.specs.declared.marks.Marks.{Marks}
 use Rattle.lynx_check.specs.declared.tracing.Arrival.{Arrival}
-use Rattle.lynx_check.specs.declared.tracing.Step.{Step}
+use Rattle.lynx_check.specs.declared.tracing.Traced.{Traced}
 use Rattle.lynx_check.specs.inner.Marks.{is_abroad, leaves, mark_at, table_within}
 
 -- the first marked arrival for a walk that leaves at this node
@@ -20,7 +20,7 @@ arrival_after table left crossed abroad =
     (find (λ next. mark_at table next crossed abroad) left.neighbours)
 
 -- the visit that was entered here and is left by that exit, where a marked arrival follows
-abbrev pub step_by : List Node → Node → List Marks → Node → Arrival → Exit → Option Step
+abbrev pub step_by : List Node → Node → List Marks → Node → Arrival → Exit → Option Traced
 step_by nodes start table here arrival exit =
     option_map (λ next.
     record {
@@ -37,13 +37,13 @@ step_by nodes start table here arrival exit =
     (slice_get nodes exit.node))
 
 -- the visit that is left by the first of these exits with a marked arrival after it
-abbrev pub first_step : List Node → Node → List Marks → Node → Arrival → List Exit → Option Step
+abbrev pub first_step : List Node → Node → List Marks → Node → Arrival → List Exit → Option Traced
 first_step nodes start table here arrival [] = None
 first_step nodes start table here arrival (exit ∷ exits) =
     option_or (step_by nodes start table here arrival exit)
     (first_step nodes start table here arrival exits)
 
-abbrev pub next_step : List Node → Node → List Marks → Arrival → Option Step
+abbrev pub next_step : List Node → Node → List Marks → Arrival → Option Traced
 next_step nodes start table arrival =
     option_and_then (λ here. first_step nodes start table here arrival here.exits)
     (slice_get nodes arrival.node)

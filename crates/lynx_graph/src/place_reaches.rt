@@ -4,7 +4,7 @@ ghost use Rattle.std.specs.Prelude.{◌≡◌, IfOk};
 ghost use Rattle.std.specs.List.{list_any};
 ghost use Rattle.lynx_foot.specs.Tests.{may_collide, some_may_collide};
 ghost use Rattle.lynx_set.specs.Lookups.{server_at};
-ghost use Rattle.lynx_graph.specs.Nodes.{meet, site_of, sites_of};
+ghost use Rattle.lynx_graph.specs.Nodes.{meet, place_reaches_of, each_place_reaches};
 
 use crate::meeting::{Place, same_server};
 use crate::nodes::places_of;
@@ -15,7 +15,7 @@ use std::alloc::Global;
 
 /// A hop, its server and its reaches.
 #[derive(Debug, Drop)]
-pub(crate) struct Site {
+pub(crate) struct PlaceReaches {
     pub place: Place,
     pub server: Option<ServerId>,
     pub reaches: Items<Reach>,
@@ -37,7 +37,7 @@ fn some_may_collide(lefts: &[Reach], rights: &[Reach]) -> bool
 }
 
 /// Whether the hops may conflict.
-pub(crate) fn meet(left: &Site, right: &Site) -> bool
+pub(crate) fn meet(left: &PlaceReaches, right: &PlaceReaches) -> bool
     ensures { result ≡ meet left.now right.now }
 {
     same_server(left.server, right.server)
@@ -51,10 +51,10 @@ fn server_at(set: &ChainSet, place: &Place) -> Option<ServerId>
     Some(hop.server)
 }
 
-fn site_of(alloc: Global, set: &ChainSet, place: &Place) -> Result<Site, Memory>
-    ensures { IfOk result (λ site. site ≡ site_of set.now place.now) }
+fn place_reaches_of(alloc: Global, set: &ChainSet, place: &Place) -> Result<PlaceReaches, Memory>
+    ensures { IfOk result (λ one. one ≡ place_reaches_of set.now place.now) }
 {
-    Ok(Site {
+    Ok(PlaceReaches {
         place: *place,
         server: server_at(set, place),
         reaches: Items::from_vec(reaches(alloc, set, place.program, place.hop)?),
@@ -62,14 +62,17 @@ fn site_of(alloc: Global, set: &ChainSet, place: &Place) -> Result<Site, Memory>
 }
 
 /// All hops of the set, by program and then by number.
-pub(crate) fn sites_of(alloc: Global, set: &ChainSet) -> Result<Items<Site>, Memory>
-    ensures { IfOk result (λ sites. sites ≡ sites_of set.now) }
+pub(crate) fn each_place_reaches(
+    alloc: Global,
+    set: &ChainSet,
+) -> Result<Items<PlaceReaches>, Memory>
+    ensures { IfOk result (λ reached. reached ≡ each_place_reaches set.now) }
 {
     let all = places_of(alloc, set)?;
     let places = all.as_slice();
-    let mut sites = Items::new(alloc);
+    let mut reached = Items::new(alloc);
     for place in places {
-        sites.push(site_of(alloc, set, place)?)?;
+        reached.push(place_reaches_of(alloc, set, place)?)?;
     }
-    Ok(sites)
+    Ok(reached)
 }

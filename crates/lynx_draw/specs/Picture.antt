@@ -12,7 +12,7 @@ use Rattle.lynx_graph.specs.Together.{AreLed}
 use Rattle.lynx_graph.specs.declared.members.Member.{Member}
 use Rattle.lynx_draw.specs.Steps.{steps_of}
 use Rattle.lynx_draw.specs.Shown.{shown_edges, shown_programs, walk_in}
-use Rattle.lynx_draw.specs.declared.shown.Shown.{Shown}
+use Rattle.lynx_draw.specs.declared.shown.Extent.{Extent}
 use Rattle.lynx_draw.specs.declared.boxes.Boxes.{Boxes}
 use Rattle.lynx_draw.specs.Boxes.{boxes_of}
 use Rattle.lynx_draw.specs.Programs.{programs_text}
@@ -42,7 +42,7 @@ style_of (Accepted own) = accepted_style own.excused
 style_of (Offending walk blocks) = STEPS.now
 
 -- the programs, the conflicts by which no step goes, and the steps
-abbrev pub picture_with : Shown → Set → Verdict → Boxes → List Edge → List Step → List ℕ
+abbrev pub picture_with : Extent → Set → Verdict → Boxes → List Edge → List Step → List ℕ
 picture_with shown set verdict boxes edges steps =
     HEAD.now ++ caption verdict ++ LEGEND.now
     ++ programs_text set boxes edges (shown_programs shown set verdict)
@@ -50,12 +50,12 @@ picture_with shown set verdict boxes edges steps =
     ++ style_of verdict ++ step_lines set 1 steps ++ codes "}\n"
 
 -- the same where programs have these leaders
-abbrev pub picture_of : Shown → Set → Verdict → List Member → List ℕ
+abbrev pub picture_of : Extent → Set → Verdict → List Member → List ℕ
 picture_of shown set verdict members =
     picture_with shown set verdict (boxes_of set members) (edges_of set)
     (steps_in (edges_of set) verdict)
 
 -- the picture of a set and of a verdict: each program's leader is the least of its group
-abbrev pub IsPicture : Shown → Set → Verdict → List ℕ → Type 0
+abbrev pub IsPicture : Extent → Set → Verdict → List ℕ → Type 0
 IsPicture shown set verdict text =
     (members : List Member) × AreLed set members × (text ≡ picture_of shown set verdict members)

@@ -6,8 +6,8 @@ use Rattle.lynx_graph.specs.declared.visit.Visit.{Visit}
 use Rattle.lynx_check.specs.declared.verdict.Verdict.{Verdict}
 use Rattle.lynx_check.specs.declared.verdict.Verdict.TheVariants.{Accepted, Offending}
 use Rattle.lynx_graph.specs.declared.edges.Edge.{Edge}
-use Rattle.lynx_draw.specs.declared.shown.Shown.{Shown}
-use Rattle.lynx_draw.specs.declared.shown.Shown.TheVariants.{All, Walk}
+use Rattle.lynx_draw.specs.declared.shown.Extent.{Extent}
+use Rattle.lynx_draw.specs.declared.shown.Extent.TheVariants.{All, Walk}
 use Rattle.lynx_draw.specs.declared.boxes.Boxes.{Boxes}
 use Rattle.lynx_draw.specs.Boxes.{is_boxed}
 use Rattle.lynx_draw.specs.Steps.{visits}
@@ -18,21 +18,21 @@ walk_in (Accepted own) = unwrap_or own.excused []
 walk_in (Offending walk blocks) = walk
 
 -- whether a program is drawn
-abbrev pub shows : Shown → Verdict → ℕ → Bool
+abbrev pub shows : Extent → Verdict → ℕ → Bool
 shows All verdict program = true
 shows Walk verdict program = visits (walk_in verdict) program
 
 -- the programs that are drawn, in the order of the set
-abbrev pub shown_programs : Shown → Set → Verdict → List ℕ
+abbrev pub shown_programs : Extent → Set → Verdict → List ℕ
 shown_programs shown set verdict =
     filter (shows shown verdict) (range_with_len 0 (length set.programs))
 
 -- whether both ends of an edge are drawn, and it isn't within a box: both ends are of one group
-abbrev pub shows_edge : Shown → Verdict → Boxes → Edge → Bool
+abbrev pub shows_edge : Extent → Verdict → Boxes → Edge → Bool
 shows_edge shown verdict boxes edge =
     shows shown verdict edge.left.program && shows shown verdict edge.right.program && not
     (is_boxed boxes edge.left.program)
 
 -- the edges that are drawn
-abbrev pub shown_edges : Shown → Verdict → Boxes → List Edge → List Edge
+abbrev pub shown_edges : Extent → Verdict → Boxes → List Edge → List Edge
 shown_edges shown verdict boxes edges = filter (shows_edge shown verdict boxes) edges

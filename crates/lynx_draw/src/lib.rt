@@ -3,7 +3,7 @@
 
 pub use colours::colour_at;
 pub use picture::draw;
-pub use shown::Shown;
+pub use shown::Extent;
 
 mod boxes;
 mod clusters;

@@ -12,7 +12,7 @@ ghost use Rattle.lynx_draw.specs.Shown.{shown_edges, shown_programs};
 use crate::boxes::{Boxes, boxes_of};
 use crate::lines::{put_conflicts, put_steps};
 use crate::programs::put_programs;
-use crate::shown::{Shown, shown_edges, shown_programs, walk_in};
+use crate::shown::{Extent, shown_edges, shown_programs, walk_in};
 use crate::steps::{Step, steps_of};
 use lynx_check::Verdict;
 use lynx_graph::{Edge, conflict_edges, members_of};
@@ -86,7 +86,7 @@ fn put_shown_programs(
     set: &ChainSet,
     verdict: &Verdict,
     boxes: &Boxes,
-    shown: Shown,
+    shown: Extent,
     edges: &[Edge],
 ) -> Result<(), Memory>
     ensures { OnOk result
@@ -104,7 +104,7 @@ fn put_shown_conflicts(
     set: &ChainSet,
     verdict: &Verdict,
     boxes: &Boxes,
-    shown: Shown,
+    shown: Extent,
     edges: &[Edge],
     steps: &[Step],
 ) -> Result<(), Memory>
@@ -132,7 +132,7 @@ pub fn draw(
     alloc: Global,
     set: &ChainSet,
     verdict: &Verdict,
-    shown: Shown,
+    shown: Extent,
 ) -> Result<Vec<u8>, Memory>
     ensures { IfOk result (λ text. IsPicture shown set.now verdict.now text.items) }
 {
@@ -149,7 +149,7 @@ fn draw_with(
     alloc: Global,
     set: &ChainSet,
     verdict: &Verdict,
-    shown: Shown,
+    shown: Extent,
     edges: &[Edge],
     boxes: &Boxes,
     steps: &[Step],

@@ -12,7 +12,7 @@ use std::alloc::Global;
 
 /// Which programs of a set are drawn.
 #[derive(Clone, Copy, Debug, PartialEq, Eq)]
-pub enum Shown {
+pub enum Extent {
     /// All of them.
     All,
     /// Those alone that the closed walk visits which offends, excused or not: none where no walk
@@ -34,12 +34,12 @@ pub(crate) fn walk_in(verdict: &Verdict) -> &[Visit]
 }
 
 /// Whether the program is drawn.
-fn shows(shown: Shown, verdict: &Verdict, program: ProgramId) -> bool
+fn shows(shown: Extent, verdict: &Verdict, program: ProgramId) -> bool
     ensures { result ≡ shows shown verdict.now program }
 {
     match shown {
-        Shown::All => true,
-        Shown::Walk => visits(walk_in(verdict), program),
+        Extent::All => true,
+        Extent::Walk => visits(walk_in(verdict), program),
     }
 }
 
@@ -48,7 +48,7 @@ pub(crate) fn shown_programs(
     alloc: Global,
     set: &ChainSet,
     verdict: &Verdict,
-    shown: Shown,
+    shown: Extent,
 ) -> Result<Vec<ProgramId>, Memory>
     ensures { IfOk result (λ programs. programs.items
         ≡ shown_programs shown set.now verdict.now) }
@@ -64,7 +64,7 @@ pub(crate) fn shown_programs(
 }
 
 /// Whether both ends of the edge are drawn, and it isn't within a box.
-fn shows_edge(shown: Shown, verdict: &Verdict, boxes: &Boxes, edge: &Edge) -> bool
+fn shows_edge(shown: Extent, verdict: &Verdict, boxes: &Boxes, edge: &Edge) -> bool
     ensures { result ≡ shows_edge shown verdict.now boxes.now edge.now }
 {
     shows(shown, verdict, edge.left.program)
@@ -78,7 +78,7 @@ pub(crate) fn shown_edges(
     edges: &[Edge],
     verdict: &Verdict,
     boxes: &Boxes,
-    shown: Shown,
+    shown: Extent,
 ) -> Result<Vec<Edge>, Memory>
     ensures { IfOk result (λ drawn. drawn.items
         ≡ shown_edges shown verdict.now boxes.now edges.now) }

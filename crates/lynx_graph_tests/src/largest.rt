@@ -1,7 +1,7 @@
 //! Sets of as many programs and hops as there may be.
 use crate::verdicts::gives;
 use lynx_check::Verdict;
-use lynx_draw::{Shown, draw};
+use lynx_draw::{Extent, draw};
 use lynx_fixtures::texts::set_of;
 use lynx_graph::{BlockWalk, Walk, conflict_edges};
 use lynx_names::Memory;
@@ -72,7 +72,7 @@ fn counts(alloc: Global, text: &str) -> Result<(usize, usize), Memory> {
         alloc,
         Verdict::Offending(Walk::new(alloc), BlockWalk::new(alloc)),
     )?;
-    let picture = draw(alloc, &set, &verdict, Shown::All)?;
+    let picture = draw(alloc, &set, &verdict, Extent::All)?;
     let lines = picture.iter().filter(|byte| **byte == b'\n').count();
     Ok((edges.len(), lines))
 }

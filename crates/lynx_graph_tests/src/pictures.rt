@@ -2,7 +2,7 @@
 use crate::expected::PAY_AND_NOTE_LINES;
 use crate::walks::judged;
 use lynx_check::Verdict;
-use lynx_draw::{Shown, draw};
+use lynx_draw::{Extent, draw};
 use lynx_fixtures::texts::{PAY_AND_NOTE, TRIP, set_of};
 use lynx_graph::{BlockWalk, Visit, Walk};
 use lynx_names::{Memory, ProgramId};
@@ -23,7 +23,7 @@ fn text_of(alloc: Global, lines: &[&str]) -> Result<String, Memory> {
 fn is_drawn(alloc: Global) -> Result<bool, Memory> {
     let set = set_of(alloc, PAY_AND_NOTE)?;
     let verdict = judged(alloc, &set)?;
-    let picture = draw(alloc, &set, &verdict, Shown::All)?;
+    let picture = draw(alloc, &set, &verdict, Extent::All)?;
     let want = text_of(alloc, PAY_AND_NOTE_LINES)?;
     Ok(picture.as_slice() == want.as_bytes())
 }
@@ -53,7 +53,7 @@ fn three_visits(alloc: Global) -> Result<Box<Verdict>, Memory> {
 fn three_visits_end(alloc: Global, text: &str, lines: &[&str]) -> Result<bool, Memory> {
     let set = set_of(alloc, text)?;
     let verdict = three_visits(alloc)?;
-    let picture = draw(alloc, &set, &verdict, Shown::All)?;
+    let picture = draw(alloc, &set, &verdict, Extent::All)?;
     let want = text_of(alloc, lines)?;
     Ok(picture.as_slice().ends_with(want.as_bytes()))
 }

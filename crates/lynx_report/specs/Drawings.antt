@@ -8,8 +8,8 @@ use Rattle.lynx_set.specs.Rules.{IsSet}
 use Rattle.lynx_set.specs.Set.{Set}
 use Rattle.lynx_set.specs.Text.{text_of}
 use Rattle.lynx_draw.specs.Picture.{IsPicture}
-use Rattle.lynx_draw.specs.declared.shown.Shown.{Shown}
-use Rattle.lynx_draw.specs.declared.shown.Shown.TheVariants.{All, Walk}
+use Rattle.lynx_draw.specs.declared.shown.Extent.{Extent}
+use Rattle.lynx_draw.specs.declared.shown.Extent.TheVariants.{All, Walk}
 use Rattle.lynx_report.specs.declared.run.RunFault.{RunFault}
 use Rattle.lynx_report.specs.declared.run.RunFault.TheVariants.{Set as SetFault, Script as ScriptFault, Write, Memory}
 use Rattle.lynx_report.specs.declared.verdict.Finding.{Finding}
@@ -25,7 +25,7 @@ finding_of (AcceptedVerdict own) = Accepted (reason_of own.excused)
 finding_of (OffendingVerdict walk blocks) = Offending
 
 -- the programs of the walk alone are shown, or all
-abbrev pub shown_by : Bool → Shown
+abbrev pub shown_by : Bool → Extent
 shown_by walk = if walk then Walk else All
 
 -- the picture shows the set and a verdict on it, and the finding is the verdict's

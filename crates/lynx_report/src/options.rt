@@ -7,7 +7,7 @@ ghost use Rattle.lynx_report.specs.Runs.{IsLate};
 
 use crate::owed::write_owed;
 use crate::run::RunFault;
-use lynx_draw::Shown;
+use lynx_draw::Extent;
 use lynx_world::World;
 use std::alloc::Global;
 use std::io::Write;
@@ -37,10 +37,10 @@ pub struct DrawOptions {
 
 impl DrawOptions {
     /// Which programs are drawn.
-    pub(crate) fn shown(self) -> Shown
+    pub(crate) fn shown(self) -> Extent
         ensures { result ≡ shown_by self.walk }
     {
-        if self.walk { Shown::Walk } else { Shown::All }
+        if self.walk { Extent::Walk } else { Extent::All }
     }
 }
 

@@ -1,6 +1,6 @@
 use Rattle.std.proofs.Common.{subst}
 use Rattle.lynx_draw.specs.Picture.{IsPicture}
-use Rattle.lynx_draw.specs.declared.shown.Shown.{Shown}
+use Rattle.lynx_draw.specs.declared.shown.Extent.{Extent}
 use Rattle.lynx_report.proofs.drawing.drawing_of.Goals as goal
 
 pub returns : goal.returns
@@ -10,5 +10,5 @@ returns c =
       verdict,
       c.in_ok-verdict.ensures,
       c.finding_of.ensures,
-      subst (λ (shown : Shown). IsPicture shown set verdict c.in_ok-picture.picture.items) c.shown.ensures c.in_ok-picture.ensures,
+      subst (λ (shown : Extent). IsPicture shown set verdict c.in_ok-picture.picture.items) c.shown.ensures c.in_ok-picture.ensures,
     )

@@ -6,12 +6,11 @@ ghost use Rattle.lynx_names.specs.declared.limits.TheConstants.{MAX_SERVERS};
 use crate::fault::Fault;
 use crate::idling::idle;
 use crate::load::{Load, Measured, measure};
+use lynx_cluster::Host;
 use lynx_names::limits::MAX_SERVERS;
 use std::alloc::Global;
 use std::fmt;
-use std::sync::Wait;
-use std::thread::Threads;
-use std::time::{Clock, Duration};
+use std::time::Duration;
 
 /// What a cluster is started for.
 #[derive(Clone, Copy, Debug)]
@@ -82,11 +81,7 @@ impl ClusterWork {
     }
 
     /// Starts a cluster for it, and closes that.
-    pub fn run<R: Threads + Wait + Clock + Copy + Send + Sync + 'static>(
-        self,
-        rt: R,
-        alloc: Global,
-    ) -> Result<ClusterDone, Fault> {
+    pub fn run<R: Host>(self, rt: R, alloc: Global) -> Result<ClusterDone, Fault> {
         match self {
             ClusterWork::Carry(load) => { Ok(ClusterDone::Carried(measure(rt, alloc, load)?)) }
             ClusterWork::Idle { servers, seconds } => {

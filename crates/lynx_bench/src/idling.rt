@@ -1,20 +1,14 @@
 //! A cluster that has nothing to do.
 use crate::load_fault::LoadFault;
 use crate::starting::start;
+use lynx_cluster::Host;
 use std::alloc::Global;
-use std::sync::Wait;
 use std::thread;
-use std::thread::Threads;
-use std::time::{Clock, Duration};
+use std::time::Duration;
 
 /// Has a cluster of so many servers, 1 to 16, run for so many seconds with nothing to do, and
 /// closes it. So the time of the processor that it takes can be measured from outside.
-pub fn idle<R: Threads + Wait + Clock + Copy + Send + Sync + 'static>(
-    rt: R,
-    alloc: Global,
-    servers: u8,
-    seconds: u64,
-) -> Result<(), LoadFault> {
+pub fn idle<R: Host>(rt: R, alloc: Global, servers: u8, seconds: u64) -> Result<(), LoadFault> {
     let cluster = start(rt, alloc, servers)?;
     thread::sleep(&rt, Duration::from_secs(seconds));
     cluster.close(&rt, alloc, Vec::new(alloc))?;

@@ -5,7 +5,7 @@ use crate::load_fault::LoadFault;
 use crate::payer::{Payer, begun_now, payers};
 use crate::starting::start;
 use crate::texts::{last_hop, payment, seed};
-use lynx_cluster::{Front, Gate, Session};
+use lynx_cluster::{Front, Gate, Host, Session};
 use lynx_codec::Looked;
 use lynx_keep::Keeper;
 use lynx_names::ChainId;
@@ -245,11 +245,7 @@ fn check_sum(alloc: Global, world: &World, load: Load) -> Result<(), LoadFault> 
 /// Carries a load over a cluster that it starts over keepers in memory and closes, and measures how
 /// long it takes. All payments begin, all come to their ends, what the sessions were told stands,
 /// and an order of all chains explains what the servers did; else it is a fault.
-pub fn measure<R: Threads + Wait + Clock + Copy + Send + Sync + 'static>(
-    rt: R,
-    alloc: Global,
-    load: Load,
-) -> Result<Measured, LoadFault> {
+pub fn measure<R: Host>(rt: R, alloc: Global, load: Load) -> Result<Measured, LoadFault> {
     if load.threads == 0 {
         return Err(LoadFault::Threads);
     }

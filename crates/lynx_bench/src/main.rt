@@ -12,9 +12,6 @@
 
 use std::process::ExitCode;
 use std::rt::Env;
-use std::sync::Wait;
-use std::thread::Threads;
-use std::time::Clock;
 use std::{env, fmt};
 
 mod clusters;
@@ -34,6 +31,7 @@ mod texts;
 
 use clusters::ClusterWork;
 use fault::Fault;
+use lynx_cluster::Host;
 use measure::{Work, measure};
 use shape::Shape;
 
@@ -126,11 +124,7 @@ fn report<T: fmt::Display + Drop>(rt: &HostRuntime, done: Result<T, Fault>) -> u
 }
 
 /// Does what the words ask for, and gives the status.
-fn obey<R: Threads + Wait + Clock + Copy + Send + Sync + 'static>(
-    host: &HostRuntime,
-    rt: R,
-    words: &[String],
-) -> u8 {
+fn obey<R: Host>(host: &HostRuntime, rt: R, words: &[String]) -> u8 {
     match asked(words) {
         Some(Job::Work { work, count }) => report(host, measure(host, work, count)),
         Some(Job::Cluster(work)) => report(host, work.run(rt, host.alloc())),

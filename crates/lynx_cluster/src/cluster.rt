@@ -1,13 +1,11 @@
 //! A cluster, and the front of it that threads are lent.
-ghost use Rattle.std.specs.Prelude.{◌≡◌, ◌++◌, ◌↔◌, [], IfOk, IfSome, IsTrue, OnErr};
-ghost use Rattle.lynx_weave.specs.Told.{greatest_told};
-ghost use Rattle.lynx_codec.specs.Ranges.{IsAnswerInRange, IsLookedInRange};
-ghost use Rattle.lynx_cluster.specs.Answers.{FitsRequest, IsAbove};
+ghost use Rattle.std.specs.Prelude.{◌≡◌, ◌↔◌, [], IfOk, IfSome, IsTrue, OnErr};
+ghost use Rattle.lynx_codec.specs.Ranges.{IsLookedInRange};
+ghost use Rattle.lynx_cluster.specs.Calls.{AnswersBegin};
 ghost use Rattle.lynx_cluster.specs.Clusters.{IsOf, home_of};
 ghost use Rattle.lynx_cluster.specs.Looks.{Looks};
-ghost use Rattle.lynx_cluster.specs.Sessions.{told_by};
 
-use crate::gate::{Gate, Step};
+use crate::gate::{Gate, Passage};
 use crate::session::Session;
 use lynx_codec::Looked;
 use lynx_entry::{Answer, Entry, Request};
@@ -97,11 +95,7 @@ impl<K: Keeper, G: Gate> Cluster<K, G> {
         session: &mut Session,
         request: Request,
     ) -> Answer
-        ensures told { session.new ≡ record session.old
-            { told = session.old.told ++ told_by (home_of self.now.set request) request result } }
-        ensures above { IsAbove (greatest_told session.old.told) result }
-        ensures fits { FitsRequest self.now.set (home_of self.now.set request) request result }
-        ensures range { IsAnswerInRange result }
+        ensures { AnswersBegin self.now.set session.old request result session.new }
     {
         self.front.begin(rt, alloc, session, request)
     }
@@ -169,25 +163,21 @@ impl<K: Keeper, G: Gate> Front<K, G> {
         session: &mut Session,
         request: Request,
     ) -> Answer
-        ensures told { session.new ≡ record session.old
-            { told = session.old.told ++ told_by (home_of self.now.set request) request result } }
-        ensures above { IsAbove (greatest_told session.old.told) result }
-        ensures fits { FitsRequest self.now.set (home_of self.now.set request) request result }
-        ensures range { IsAnswerInRange result }
+        ensures { AnswersBegin self.now.set session.old request result session.new }
     {
         let server = self.home_of(&request);
         let Some(state) = self.states.as_slice().get(server.index()) else {
             return Answer::Stopped;
         };
         let mut state = state.lock(rt);
-        self.gate.enter(server, Step::Begin);
+        self.gate.enter(server, Passage::Begin);
         let answer = if is_of(&state, &self.set, server) {
             session.begin_at(alloc, &mut state, request)
         } else {
             Answer::Stopped
         };
         drop(state);
-        self.gate.leave(server, Step::Begin);
+        self.gate.leave(server, Passage::Begin);
         answer
     }
 

@@ -1,9 +1,9 @@
 //! Gates: what is told of each step, on both sides of its lock.
 use lynx_names::ServerId;
 
-/// A step on the state behind a server's lock.
+/// What a step on the state behind a server's lock does there.
 #[derive(Clone, Copy, Debug, PartialEq, Eq)]
-pub enum Step {
+pub enum Passage {
     /// A begin of a session.
     Begin,
     /// A delivery of a message, or a wake while messages are held.
@@ -14,10 +14,10 @@ pub enum Step {
 /// wait for another.
 pub trait Gate {
     /// A step is about to be made. It is called with that server's lock taken.
-    fn enter(&self, server: ServerId, step: Step);
+    fn enter(&self, server: ServerId, passage: Passage);
 
     /// The step was made. It is called after that server's lock was given back.
-    fn leave(&self, server: ServerId, step: Step);
+    fn leave(&self, server: ServerId, passage: Passage);
 }
 
 /// Lets every step pass, and does nothing.
@@ -25,7 +25,7 @@ pub trait Gate {
 pub struct OpenGate;
 
 impl Gate for OpenGate {
-    fn enter(&self, _server: ServerId, _step: Step) {}
+    fn enter(&self, _server: ServerId, _passage: Passage) {}
 
-    fn leave(&self, _server: ServerId, _step: Step) {}
+    fn leave(&self, _server: ServerId, _passage: Passage) {}
 }

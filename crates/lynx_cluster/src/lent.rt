@@ -1,6 +1,6 @@
 //! The steps of a server behind its lock.
 use crate::cluster::is_of;
-use crate::gate::{Gate, Step};
+use crate::gate::{Gate, Passage};
 use crate::steps::{Arrived, Due, Owed, Receipt, Steps};
 use lynx_entry::{Delivered, Entry, Message};
 use lynx_keep::Keeper;
@@ -219,7 +219,7 @@ impl<K: Keeper, G: Gate> Steps for Lent<K, G> {
         let mut state = self.state.lock(rt);
         let delivers = brings_message(inbox) || !state.held().is_empty();
         if delivers {
-            self.gate.enter(self.server, Step::Deliver);
+            self.gate.enter(self.server, Passage::Deliver);
         }
         if is_of(&state, &self.set, self.server) {
             serve_some(rt, alloc, &mut state, inbox, &mut receipts);
@@ -228,7 +228,7 @@ impl<K: Keeper, G: Gate> Steps for Lent<K, G> {
         }
         drop(state);
         if delivers {
-            self.gate.leave(self.server, Step::Deliver);
+            self.gate.leave(self.server, Passage::Deliver);
         }
         receipts
     }

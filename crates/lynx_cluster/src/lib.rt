@@ -5,7 +5,8 @@
 pub use closing::Closed;
 pub use cluster::{Cluster, Front};
 pub use fault::{CloseFault, StartFault};
-pub use gate::{Gate, OpenGate, Step};
+pub use gate::{Gate, OpenGate, Passage};
+pub use host::Host;
 pub use lent::Lent;
 pub use resending::RESEND_MILLIS;
 pub use session::Session;
@@ -18,6 +19,7 @@ pub mod closing;
 pub mod cluster;
 pub mod fault;
 pub mod gate;
+pub mod host;
 pub mod lent;
 mod looking;
 mod opening;

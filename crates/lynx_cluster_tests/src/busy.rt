@@ -2,7 +2,7 @@
 use crate::keepers::empty;
 use crate::talk::{Asked, is_explained, talk};
 use crate::trouble::Trouble;
-use lynx_cluster::{Cluster, Front, Gate, Session, Step};
+use lynx_cluster::{Cluster, Front, Gate, Passage, Session};
 use lynx_fixtures::parts::{AnswerParts, RequestParts};
 use lynx_fixtures::texts::{TRIP, set_of};
 use lynx_keep::Keeper;
@@ -26,8 +26,8 @@ struct Barrier<R: Clock> {
 }
 
 impl<R: Clock> Gate for Barrier<R> {
-    fn enter(&self, server: ServerId, step: Step) {
-        if step != Step::Deliver || server.index() != 1 {
+    fn enter(&self, server: ServerId, passage: Passage) {
+        if passage != Passage::Deliver || server.index() != 1 {
             return;
         }
         for _ in 0..MOST_TURNS {
@@ -38,7 +38,7 @@ impl<R: Clock> Gate for Barrier<R> {
         }
     }
 
-    fn leave(&self, _server: ServerId, _step: Step) {}
+    fn leave(&self, _server: ServerId, _passage: Passage) {}
 }
 
 /// A barrier that isn't open, and its mark.

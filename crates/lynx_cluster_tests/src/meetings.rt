@@ -4,7 +4,7 @@ use crate::keepers::{began, empty, stores};
 use crate::talk::{Asked, is_explained, talk, talked};
 use crate::texts::{GO_AND_COME, PUTS};
 use crate::trouble::Trouble;
-use lynx_cluster::{Closed, Cluster, Front, Gate, Session, Step};
+use lynx_cluster::{Closed, Cluster, Front, Gate, Passage, Session};
 use lynx_fixtures::cells::are_cells;
 use lynx_fixtures::made::server;
 use lynx_fixtures::parts::{AnswerParts, RequestParts};
@@ -96,7 +96,7 @@ fn begins_meet<
     K: Keeper + Send + Drop + 'static,
 >(rt: R, alloc: Global, keepers: Vec<K>) -> Result<bool, Trouble> {
     let set = set_of(alloc, PUTS)?;
-    let (gate, marks) = make_crossing(rt, alloc, Step::Begin)?;
+    let (gate, marks) = make_crossing(rt, alloc, Passage::Begin)?;
     let cluster = Cluster::start(rt, alloc, &set, keepers, gate)?;
     let (sessions, is_right) = match both_begin(&rt, alloc, cluster.front()) {
         Ok(begun) => begun,
@@ -170,7 +170,7 @@ fn deliveries_meet<
     K: Keeper + Send + Drop + 'static,
 >(rt: R, alloc: Global, keepers: Vec<K>) -> Result<bool, Trouble> {
     let set = set_of(alloc, GO_AND_COME)?;
-    let (gate, marks) = make_crossing(rt, alloc, Step::Deliver)?;
+    let (gate, marks) = make_crossing(rt, alloc, Passage::Deliver)?;
     let cluster = Cluster::start(rt, alloc, &set, keepers, gate)?;
     let (sessions, is_right) = match talked(&rt, alloc, cluster.front(), ARRIVALS) {
         Ok(told) => told,

@@ -1,7 +1,7 @@
 //! Calls on texts and sets, which stay as they are.
 use crate::tried::{Called, Tried, ended, made_again, of_result};
 use lynx_check::check;
-use lynx_draw::{Shown, draw};
+use lynx_draw::{Extent, draw};
 use lynx_fixtures::made::program;
 use lynx_fixtures::rows::PAYMENT;
 use lynx_fixtures::texts::{CROSSING, read};
@@ -39,7 +39,7 @@ fn read_so<T: Drop>(answer: Result<T, TextFault>) -> Called {
 /// The picture of a set.
 fn picture(alloc: Global, set: &ChainSet) -> Result<Vec<u8>, Memory> {
     let verdict = check(alloc, set)?;
-    draw(alloc, set, &verdict, Shown::All)
+    draw(alloc, set, &verdict, Extent::All)
 }
 
 /// Makes it once.

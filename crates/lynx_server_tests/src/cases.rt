@@ -1,5 +1,5 @@
 //! Cases: a server of a set, and rows of steps.
-use crate::steps::{Step, comes_out};
+use crate::steps::{Call, comes_out};
 use lynx_fixtures::made::{self, boxed};
 use lynx_fixtures::texts::set_of;
 use lynx_keep::{FaultKeeper, MemoryKeeper, Planned};
@@ -8,7 +8,7 @@ use lynx_server::Server;
 use std::alloc::Global;
 
 /// A step, and how many entries and how many held messages the server has then.
-pub type Row = (Step, usize, usize);
+pub type Row = (Call, usize, usize);
 
 /// A server of a set, and what is done to it.
 #[derive(Clone, Copy)]

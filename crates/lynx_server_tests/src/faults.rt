@@ -1,7 +1,7 @@
 //! Servers whose keeper answers one commit by a fault.
 use crate::cases::{Case, Row, lives};
 use crate::payments::NEXT;
-use crate::steps::Step;
+use crate::steps::Call;
 use lynx_fixtures::parts::{AnswerParts, DeliveredParts};
 use lynx_fixtures::payments::{
     DONE_AT_FOUR, DONE_AT_THREE, PAY, PAY_BEGUN, PAY_BEGUN_AGAIN, REPEATED_AT_THREE, SEED,
@@ -12,62 +12,62 @@ use lynx_keep::Planned;
 
 /// The same request begins with the index and the stamp that it would have had.
 const BEGUN_WITHOUT_MEMORY: &[Row] = &[
-    (Step::Begin(SEED, 0, SEED_BEGUN), 1, 0),
-    (Step::Begin(PAY, 0, AnswerParts::Memory), 1, 0),
-    (Step::Begin(PAY, 0, PAY_BEGUN), 2, 0),
+    (Call::Begin(SEED, 0, SEED_BEGUN), 1, 0),
+    (Call::Begin(PAY, 0, AnswerParts::Memory), 1, 0),
+    (Call::Begin(PAY, 0, PAY_BEGUN), 2, 0),
 ];
 
 /// After the failed commit all is answered so, also a request that is recorded, and nothing is
 /// added.
 const STOPPED_BY_A_BEGIN: &[Row] = &[
-    (Step::Begin(SEED, 0, SEED_BEGUN), 1, 0),
-    (Step::Begin(PAY, 0, AnswerParts::Stopped), 1, 0),
-    (Step::Begin(PAY, 0, AnswerParts::Stopped), 1, 0),
-    (Step::Begin(SEED, 0, AnswerParts::Stopped), 1, 0),
-    (Step::Deliver(SENT, DeliveredParts::Stopped), 1, 0),
-    (Step::Idle, 1, 0),
+    (Call::Begin(SEED, 0, SEED_BEGUN), 1, 0),
+    (Call::Begin(PAY, 0, AnswerParts::Stopped), 1, 0),
+    (Call::Begin(PAY, 0, AnswerParts::Stopped), 1, 0),
+    (Call::Begin(SEED, 0, AnswerParts::Stopped), 1, 0),
+    (Call::Deliver(SENT, DeliveredParts::Stopped), 1, 0),
+    (Call::Idle, 1, 0),
 ];
 
 /// The restarted server begins the payment where nothing of it was kept.
-const BEGUN_THEN: &[Row] = &[(Step::Begin(PAY, 0, PAY_BEGUN), 2, 0)];
+const BEGUN_THEN: &[Row] = &[(Call::Begin(PAY, 0, PAY_BEGUN), 2, 0)];
 
 /// It answers from the record where the whole entry was kept.
-const RECORDED_THEN: &[Row] = &[(Step::Begin(PAY, 0, PAY_BEGUN_AGAIN), 2, 0)];
+const RECORDED_THEN: &[Row] = &[(Call::Begin(PAY, 0, PAY_BEGUN_AGAIN), 2, 0)];
 
 const DELIVERED_WITHOUT_MEMORY: &[Row] = &[
-    (Step::Deliver(SENT, DeliveredParts::Memory), 0, 0),
-    (Step::Deliver(SENT, DONE_AT_THREE), 1, 0),
+    (Call::Deliver(SENT, DeliveredParts::Memory), 0, 0),
+    (Call::Deliver(SENT, DONE_AT_THREE), 1, 0),
 ];
 
 const STOPPED_BY_A_DELIVERY: &[Row] = &[
-    (Step::Deliver(SENT, DeliveredParts::Stopped), 0, 0),
-    (Step::Deliver(SENT, DeliveredParts::Stopped), 0, 0),
-    (Step::Deliver(NEXT, DeliveredParts::Stopped), 0, 0),
-    (Step::Begin(SEED, 0, AnswerParts::Stopped), 0, 0),
+    (Call::Deliver(SENT, DeliveredParts::Stopped), 0, 0),
+    (Call::Deliver(SENT, DeliveredParts::Stopped), 0, 0),
+    (Call::Deliver(NEXT, DeliveredParts::Stopped), 0, 0),
+    (Call::Begin(SEED, 0, AnswerParts::Stopped), 0, 0),
 ];
 
-const DONE_THEN: &[Row] = &[(Step::Deliver(SENT, DONE_AT_THREE), 1, 0)];
+const DONE_THEN: &[Row] = &[(Call::Deliver(SENT, DONE_AT_THREE), 1, 0)];
 
-const REPEATED_THEN: &[Row] = &[(Step::Deliver(SENT, REPEATED_AT_THREE), 1, 0)];
+const REPEATED_THEN: &[Row] = &[(Call::Deliver(SENT, REPEATED_AT_THREE), 1, 0)];
 
 /// The message whose delivery failed stays held.
 const STOPPED_BY_A_WAKING: &[Row] = &[
-    (Step::Deliver(NEXT, DeliveredParts::Held), 0, 1),
-    (Step::Deliver(SENT, DONE_AT_THREE), 1, 1),
-    (Step::Wake(2, 1, DeliveredParts::Stopped), 1, 1),
-    (Step::Wake(2, 1, DeliveredParts::Stopped), 1, 1),
-    (Step::Deliver(SENT, DeliveredParts::Stopped), 1, 1),
+    (Call::Deliver(NEXT, DeliveredParts::Held), 0, 1),
+    (Call::Deliver(SENT, DONE_AT_THREE), 1, 1),
+    (Call::Wake(2, 1, DeliveredParts::Stopped), 1, 1),
+    (Call::Wake(2, 1, DeliveredParts::Stopped), 1, 1),
+    (Call::Deliver(SENT, DeliveredParts::Stopped), 1, 1),
 ];
 
 const NEXT_DONE_THEN: &[Row] = &[
-    (Step::Idle, 1, 0),
-    (Step::Deliver(NEXT, DONE_AT_FOUR), 2, 0),
+    (Call::Idle, 1, 0),
+    (Call::Deliver(NEXT, DONE_AT_FOUR), 2, 0),
 ];
 
 const NEXT_REPEATED_THEN: &[Row] = &[
-    (Step::Idle, 2, 0),
+    (Call::Idle, 2, 0),
     (
-        Step::Deliver(
+        Call::Deliver(
             NEXT,
             DeliveredParts::Repeat {
                 time: 4,

@@ -1,7 +1,7 @@
 //! Messages that may not run: those that nobody can have sent, those out of turn, and those past
 //! the last stamp.
 use crate::cases::{Case, NEVER, Row, come_out, made};
-use crate::steps::Step;
+use crate::steps::Call;
 use lynx_entry::Delivered;
 use lynx_fixtures::made::message;
 use lynx_fixtures::parts::{AnswerParts, DeliveredParts, MessageParts, RequestParts};
@@ -209,7 +209,7 @@ const NOBODY_SENT: Forged = Forged {
         Change::Results(&[&[]]),
         Change::Results(&[&[0, 0]]),
     ],
-    after: &[(Step::Deliver(THERE, DONE), 1, 0)],
+    after: &[(Call::Deliver(THERE, DONE), 1, 0)],
 };
 
 /// Messages to server 0, where the first move begins: for its first hop, which no message is for,
@@ -218,8 +218,8 @@ const BEGUN_OTHERWISE: Forged = Forged {
     name: "chains that began otherwise",
     server: 0,
     before: &[
-        (Step::Deliver(BACK, DeliveredParts::Malformed), 0, 0),
-        (Step::Begin(ASKED, 0, BEGUN), 1, 0),
+        (Call::Deliver(BACK, DeliveredParts::Malformed), 0, 0),
+        (Call::Begin(ASKED, 0, BEGUN), 1, 0),
     ],
     message: BACK,
     changes: &[
@@ -229,7 +229,7 @@ const BEGUN_OTHERWISE: Forged = Forged {
         Change::Args(&[1000, 31]),
         Change::Numbers(&[(0, 0), (1, 1)]),
     ],
-    after: &[(Step::Deliver(BACK, DONE_AT_THREE), 2, 0)],
+    after: &[(Call::Deliver(BACK, DONE_AT_THREE), 2, 0)],
 };
 
 /// A hop runs once, on one message. A round keeps its turn, so the turn forbids none of the others;
@@ -238,8 +238,8 @@ const RAN_BEFORE: Forged = Forged {
     name: "a hop that ran before",
     server: 1,
     before: &[
-        (Step::Deliver(ROUND, ROUND_DONE), 1, 0),
-        (Step::Deliver(ROUND, ROUND_REPEATED), 1, 0),
+        (Call::Deliver(ROUND, ROUND_DONE), 1, 0),
+        (Call::Deliver(ROUND, ROUND_REPEATED), 1, 0),
     ],
     message: ROUND,
     changes: &[
@@ -249,8 +249,8 @@ const RAN_BEFORE: Forged = Forged {
         Change::Results(&[&[1]]),
     ],
     after: &[
-        (Step::Deliver(NEXT, DeliveredParts::Held), 1, 1),
-        (Step::Idle, 1, 1),
+        (Call::Deliver(NEXT, DeliveredParts::Held), 1, 1),
+        (Call::Idle, 1, 1),
     ],
 };
 
@@ -260,15 +260,15 @@ const TURNS: Forged = Forged {
     name: "turns",
     server: 1,
     before: &[
-        (Step::Deliver(NEXT, DeliveredParts::Held), 0, 1),
-        (Step::Idle, 0, 1),
-        (Step::Deliver(THERE, DONE), 1, 1),
+        (Call::Deliver(NEXT, DeliveredParts::Held), 0, 1),
+        (Call::Idle, 0, 1),
+        (Call::Deliver(THERE, DONE), 1, 1),
     ],
     message: NEXT,
     changes: &[Change::Numbers(&[(0, 1), (1, 0)])],
     after: &[
-        (Step::Deliver(LATER, DeliveredParts::Held), 1, 2),
-        (Step::Wake(1, 1, NEXT_DONE), 2, 1),
+        (Call::Deliver(LATER, DeliveredParts::Held), 1, 2),
+        (Call::Wake(1, 1, NEXT_DONE), 2, 1),
     ],
 };
 
@@ -277,17 +277,17 @@ const TURNS: Forged = Forged {
 const LAST_STAMPS: Forged = Forged {
     name: "the last stamps",
     server: 1,
-    before: &[(Step::Deliver(TOO_LATE, DeliveredParts::Full), 0, 0)],
+    before: &[(Call::Deliver(TOO_LATE, DeliveredParts::Full), 0, 0)],
     message: TOO_LATE,
     changes: &[Change::Program(2)],
     after: &[
-        (Step::Deliver(NEXT, DeliveredParts::Held), 0, 1),
-        (Step::Deliver(LATE, LATE_DONE), 1, 1),
-        (Step::Deliver(LATE, LATE_REPEATED), 1, 1),
-        (Step::Wake(1, 1, DeliveredParts::Full), 1, 1),
-        (Step::Deliver(NEXT, DeliveredParts::Full), 1, 1),
-        (Step::Deliver(TURN_OVER, DeliveredParts::Malformed), 1, 1),
-        (Step::Deliver(LATER, DeliveredParts::Held), 1, 2),
+        (Call::Deliver(NEXT, DeliveredParts::Held), 0, 1),
+        (Call::Deliver(LATE, LATE_DONE), 1, 1),
+        (Call::Deliver(LATE, LATE_REPEATED), 1, 1),
+        (Call::Wake(1, 1, DeliveredParts::Full), 1, 1),
+        (Call::Deliver(NEXT, DeliveredParts::Full), 1, 1),
+        (Call::Deliver(TURN_OVER, DeliveredParts::Malformed), 1, 1),
+        (Call::Deliver(LATER, DeliveredParts::Held), 1, 2),
     ],
 };
 

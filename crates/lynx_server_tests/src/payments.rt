@@ -1,6 +1,6 @@
 //! Payments, trips and the last stamp, as one server sees them.
 use crate::cases::{Case, NEVER, Row, lives};
-use crate::steps::Step;
+use crate::steps::Call;
 use lynx_fixtures::parts::{AnswerParts, DeliveredParts, MessageParts, RequestParts};
 use lynx_fixtures::payments::{
     DONE_AT_FOUR, DONE_AT_THREE, PAY, PAY_BEGUN, PAY_BEGUN_AGAIN, REPEATED_AT_THREE, SEED,
@@ -38,18 +38,18 @@ const TOO_MUCH: RequestParts = RequestParts {
 
 /// What is asked before the server restarts.
 const PAYING: &[Row] = &[
-    (Step::Begin(SEED, 0, SEED_BEGUN), 1, 0),
-    (Step::Begin(PAY, 0, PAY_BEGUN), 2, 0),
-    (Step::Begin(PAY, 0, PAY_BEGUN_AGAIN), 2, 0),
-    (Step::Begin(OTHER_SEED, 0, AnswerParts::Clash), 2, 0),
+    (Call::Begin(SEED, 0, SEED_BEGUN), 1, 0),
+    (Call::Begin(PAY, 0, PAY_BEGUN), 2, 0),
+    (Call::Begin(PAY, 0, PAY_BEGUN_AGAIN), 2, 0),
+    (Call::Begin(OTHER_SEED, 0, AnswerParts::Clash), 2, 0),
     (
-        Step::Begin(NO_PROGRAM, 0, AnswerParts::UnknownProgram),
+        Call::Begin(NO_PROGRAM, 0, AnswerParts::UnknownProgram),
         2,
         0,
     ),
-    (Step::Begin(TWO_AMOUNTS, 0, AnswerParts::ArgCount), 2, 0),
+    (Call::Begin(TWO_AMOUNTS, 0, AnswerParts::ArgCount), 2, 0),
     (
-        Step::Begin(
+        Call::Begin(
             TOO_MUCH,
             0,
             AnswerParts::Refused {
@@ -62,7 +62,7 @@ const PAYING: &[Row] = &[
         0,
     ),
     (
-        Step::Begin(
+        Call::Begin(
             TOO_MUCH,
             0,
             AnswerParts::Refused {
@@ -74,28 +74,28 @@ const PAYING: &[Row] = &[
         3,
         0,
     ),
-    (Step::Cell(0, 70), 3, 0),
-    (Step::Owes(0, 1, SENT), 3, 0),
-    (Step::Owes(1, 1, SENT), 3, 0),
-    (Step::OwesNothing(2), 3, 0),
-    (Step::OwesNothing(u64::MAX), 3, 0),
+    (Call::Cell(0, 70), 3, 0),
+    (Call::Owes(0, 1, SENT), 3, 0),
+    (Call::Owes(1, 1, SENT), 3, 0),
+    (Call::OwesNothing(2), 3, 0),
+    (Call::OwesNothing(u64::MAX), 3, 0),
     // What no entry here sends can't be acknowledged: a first hop, one after the last, a chain that
     // didn't begin.
-    (Step::Acknowledge(1, 0), 3, 0),
-    (Step::Acknowledge(1, 2), 3, 0),
-    (Step::Acknowledge(7, 1), 3, 0),
-    (Step::Owes(0, 1, SENT), 3, 0),
-    (Step::Acknowledge(1, 1), 3, 0),
-    (Step::OwesNothing(0), 3, 0),
+    (Call::Acknowledge(1, 0), 3, 0),
+    (Call::Acknowledge(1, 2), 3, 0),
+    (Call::Acknowledge(7, 1), 3, 0),
+    (Call::Owes(0, 1, SENT), 3, 0),
+    (Call::Acknowledge(1, 1), 3, 0),
+    (Call::OwesNothing(0), 3, 0),
 ];
 
 /// What it is asked then: acknowledgements are forgotten, and a stamp is above what the session was
 /// told.
 const PAYING_ON: &[Row] = &[
-    (Step::Begin(PAY, 0, PAY_BEGUN_AGAIN), 3, 0),
-    (Step::Owes(0, 1, SENT), 3, 0),
+    (Call::Begin(PAY, 0, PAY_BEGUN_AGAIN), 3, 0),
+    (Call::Owes(0, 1, SENT), 3, 0),
     (
-        Step::Begin(
+        Call::Begin(
             RequestParts {
                 number: 4,
                 args: &[20],
@@ -114,7 +114,7 @@ const PAYING_ON: &[Row] = &[
         0,
     ),
     (
-        Step::Owes(
+        Call::Owes(
             2,
             3,
             MessageParts {
@@ -129,7 +129,7 @@ const PAYING_ON: &[Row] = &[
         4,
         0,
     ),
-    (Step::Cell(0, 50), 4, 0),
+    (Call::Cell(0, 50), 4, 0),
 ];
 
 /// The message of a payment of 20 behind that of 30.
@@ -144,26 +144,26 @@ pub const NEXT: MessageParts = MessageParts {
 
 /// The second payment comes first, and waits.
 const WAITING: &[Row] = &[
-    (Step::Begin(PAY, 0, AnswerParts::WrongOrigin), 0, 0),
-    (Step::Deliver(NEXT, DeliveredParts::Held), 0, 1),
-    (Step::Idle, 0, 1),
+    (Call::Begin(PAY, 0, AnswerParts::WrongOrigin), 0, 0),
+    (Call::Deliver(NEXT, DeliveredParts::Held), 0, 1),
+    (Call::Idle, 0, 1),
 ];
 
 /// A restart forgot it. It waits again until the first one came, which comes twice.
 const ARRIVING: &[Row] = &[
-    (Step::Idle, 0, 0),
-    (Step::Deliver(NEXT, DeliveredParts::Held), 0, 1),
-    (Step::Deliver(SENT, DONE_AT_THREE), 1, 1),
-    (Step::Deliver(SENT, REPEATED_AT_THREE), 1, 1),
-    (Step::Wake(2, 1, DONE_AT_FOUR), 2, 0),
-    (Step::Idle, 2, 0),
-    (Step::Cell(1000, 50), 2, 0),
+    (Call::Idle, 0, 0),
+    (Call::Deliver(NEXT, DeliveredParts::Held), 0, 1),
+    (Call::Deliver(SENT, DONE_AT_THREE), 1, 1),
+    (Call::Deliver(SENT, REPEATED_AT_THREE), 1, 1),
+    (Call::Wake(2, 1, DONE_AT_FOUR), 2, 0),
+    (Call::Idle, 2, 0),
+    (Call::Cell(1000, 50), 2, 0),
 ];
 
 /// A key of server 0, and one of server 1.
 const PUTTING: &[Row] = &[
     (
-        Step::Begin(
+        Call::Begin(
             RequestParts {
                 program: 2,
                 args: &[1000],
@@ -176,7 +176,7 @@ const PUTTING: &[Row] = &[
         0,
     ),
     (
-        Step::Begin(
+        Call::Begin(
             RequestParts {
                 program: 2,
                 args: &[999],
@@ -220,11 +220,11 @@ const BACK: MessageParts = MessageParts {
 
 /// No second trip begins until the first one has returned.
 const TRIPS: &[Row] = &[
-    (Step::Begin(FIRST_TRIP, 0, SEED_BEGUN), 1, 0),
-    (Step::Begin(SECOND_TRIP, 0, AnswerParts::Busy), 1, 0),
-    (Step::Deliver(BACK, DONE_AT_THREE), 2, 0),
+    (Call::Begin(FIRST_TRIP, 0, SEED_BEGUN), 1, 0),
+    (Call::Begin(SECOND_TRIP, 0, AnswerParts::Busy), 1, 0),
+    (Call::Deliver(BACK, DONE_AT_THREE), 2, 0),
     (
-        Step::Begin(
+        Call::Begin(
             SECOND_TRIP,
             0,
             AnswerParts::Begun {
@@ -242,7 +242,7 @@ const TRIPS: &[Row] = &[
 
 const TURNING_ROUND: &[Row] = &[
     (
-        Step::Deliver(
+        Call::Deliver(
             THERE,
             DeliveredParts::Done {
                 time: 2,
@@ -253,13 +253,13 @@ const TURNING_ROUND: &[Row] = &[
         1,
         0,
     ),
-    (Step::Owes(0, 0, BACK), 1, 0),
+    (Call::Owes(0, 0, BACK), 1, 0),
 ];
 
 /// The last stamp is taken; then the server is full, and still answers from the record.
 const LAST_STAMP: &[Row] = &[
     (
-        Step::Begin(
+        Call::Begin(
             SEED,
             STAMP_LIMIT - 2,
             AnswerParts::Begun {
@@ -273,9 +273,9 @@ const LAST_STAMP: &[Row] = &[
         1,
         0,
     ),
-    (Step::Begin(PAY, 0, AnswerParts::Full), 1, 0),
+    (Call::Begin(PAY, 0, AnswerParts::Full), 1, 0),
     (
-        Step::Begin(
+        Call::Begin(
             SEED,
             0,
             AnswerParts::Begun {

@@ -9,7 +9,7 @@ use std::alloc::Global;
 
 /// Something that is done to a server, and what it answers. All chains are of server 0.
 #[derive(Clone, Copy)]
-pub enum Step {
+pub enum Call {
     /// A request comes, of a session that was told that stamp.
     Begin(RequestParts, u64, AnswerParts),
     /// A message comes.
@@ -108,20 +108,20 @@ fn owes(
 pub fn comes_out(
     alloc: Global,
     server: &mut Server<FaultKeeper>,
-    step: &Step,
+    step: &Call,
 ) -> Result<bool, Memory> {
     match *step {
-        Step::Begin(asked, seen, want) => begins(alloc, server, asked, seen, want),
-        Step::Deliver(sent, want) => delivers(alloc, server, sent, want),
-        Step::Wake(index, hop, want) => wakes(alloc, server, index, hop, want),
-        Step::Idle => Ok(woken(alloc, server)?.is_none()),
-        Step::Acknowledge(index, hop) => {
+        Call::Begin(asked, seen, want) => begins(alloc, server, asked, seen, want),
+        Call::Deliver(sent, want) => delivers(alloc, server, sent, want),
+        Call::Wake(index, hop, want) => wakes(alloc, server, index, hop, want),
+        Call::Idle => Ok(woken(alloc, server)?.is_none()),
+        Call::Acknowledge(index, hop) => {
             server.acknowledge(chain(0, index)?, hop);
             Ok(true)
         }
-        Step::Owes(from, place, want) => owes(alloc, server, from, place, want),
-        Step::OwesNothing(from) => Ok(due(alloc, server, from)?.is_none()),
-        Step::Cell(key, value) => {
+        Call::Owes(from, place, want) => owes(alloc, server, from, place, want),
+        Call::OwesNothing(from) => Ok(due(alloc, server, from)?.is_none()),
+        Call::Cell(key, value) => {
             let table = TableId::new(0).ok_or(Memory)?;
             Ok(server.cells().get(table, key) == value)
         }

@@ -18,7 +18,8 @@ pub struct ClientDesk<'a, R: Wait, K: Keeper, G: Gate> {
 }
 
 impl<'a, R: Wait, K: Keeper, G: Gate> Desk for ClientDesk<'a, R, K, G> {
-    ghost use Rattle.lynx_service.specs.Desks.{AnswersBegin, AnswersLook};
+    ghost use Rattle.lynx_cluster.specs.Calls.{AnswersBegin};
+    ghost use Rattle.lynx_service.specs.Desks.{AnswersLook};
 
     ghost begins = { λ old request answer new. AnswersBegin old.front.now.set old.session request
         answer new.session };

@@ -7,7 +7,7 @@ use crate::closing::end;
 use crate::fault::ServeFault;
 use crate::opening::{listen, open_keepers};
 use crate::progress::Progress;
-use lynx_cluster::{Cluster, OpenGate, Session};
+use lynx_cluster::{Cluster, Host, OpenGate, Session};
 use lynx_keep::Keeper;
 use lynx_lines::write_bytes;
 use lynx_order::Explained;
@@ -77,14 +77,7 @@ fn serve_when_told<
 /// The close takes about as long, and as much memory, as opening the stores did; the answers of a
 /// session, and what its looks found, are kept until then.
 pub fn serve_stores<
-    R: Threads
-        + Wait
-        + Clock
-        + Net<Listener = TcpListener, Stream = TcpStream>
-        + Copy
-        + Send
-        + Sync
-        + 'static,
+    R: Host + Net<Listener = TcpListener, Stream = TcpStream>,
     K: Keeper + Send + Drop + 'static,
     S: Stores<K>,
     W: Write,

@@ -3,8 +3,10 @@
     import lynx
 
     bank = lynx.Client(7000, 'payment.set')
-    paid = bank.begin('pay', 30)              # Begun(chain=Chain(0, 1), stamp=2, results=[100], again=False)
+    paid = bank.begin('pay', 30)              # Begun(chain=Chain(0, 1), stamp=2, results=[100], again=False, number=1)
+    paid.named['x']                           # 100: results by the names that the set gives them
     done = bank.look(paid.chain, 1, wait=5)   # Found(stamp=3, results=[]), or None after five seconds
+    paid.wait(5)                              # the results of all its hops, once the last is done: [[100], []]
     bank.shut()                               # the service checks all that it told, and ends
 
 A request is known by its client's id and its number: whatever is asked under the same id and number is done once, and
@@ -18,9 +20,9 @@ import secrets
 import socket
 import struct
 import time
-from dataclasses import dataclass, field
+from dataclasses import dataclass, field, replace
 
-__all__ = ['Begun', 'Busy', 'Chain', 'Clash', 'Client', 'Found', 'Full', 'Lost', 'LynxError', 'Outside', 'Program',
+__all__ = ['Begun', 'Busy', 'ByeLost', 'Chain', 'Clash', 'Client', 'Found', 'Full', 'Lost', 'LynxError', 'Outside', 'Program',
            'Refused', 'Stopped', 'Wanting', 'Wrong', 'programs_of']
 
 MAX_WORD = 2 ** 64 - 1
@@ -29,9 +31,11 @@ REQUEST, LOOK, QUIT, SHUT, ANSWER, LOOKED, BYE = 0x01, 0x02, 0x03, 0x04, 0x11, 0
 
 
 class LynxError(Exception):
-    """Why a request was not done. `reason` is the word of docs/FORMATS.md."""
+    """Why a request was not done. `reason` is the word of docs/FORMATS.md, and `number` the request's, where it had
+    one: what is asked again is asked under it."""
 
     reason = 'error'
+    number = None
 
     def __init__(self, text=None):
         super().__init__(text or self.reason)
@@ -87,6 +91,12 @@ class Lost(LynxError):
         super().__init__(text)
 
 
+class ByeLost(LynxError):
+    """The end was asked for, and the service's bye was lost. It ends, unless what was asked didn't come there: then it
+    still listens."""
+    reason = 'bye lost'
+
+
 @dataclass(frozen=True)
 class Chain:
     """A chain's name: its origin, and its index among the chains that began there."""
@@ -107,21 +117,38 @@ class Chain:
 
 @dataclass(frozen=True)
 class Begun:
-    """The chain began, and its first hop gave these results. `again`: it had begun before, by this very request."""
+    """The chain began, and its first hop gave these results, `named` by what the set calls them. `again`: it had begun
+    before, by this very request."""
     chain: Chain
     stamp: int
     results: list = field(hash=False)
     again: bool
     number: int
+    named: dict = field(default_factory=dict, hash=False, compare=False, repr=False)
+    client: object = field(default=None, hash=False, compare=False, repr=False)
+    hops: int = field(default=1, hash=False, compare=False, repr=False)
+
+    def wait(self, wait=10.0):
+        """The results of all its hops, hop 0 first, once the last is done; None where it isn't within `wait` seconds."""
+        until = time.monotonic() + wait
+        results = [self.results]
+        for hop in range(1, self.hops):
+            found = self.client.look(self.chain, hop, max(0.0, until - time.monotonic()))
+            if found is None:
+                return None
+            results.append(found.results)
+        return results
 
 
 @dataclass(frozen=True)
 class Refused:
-    """The first hop refused: this `need` of it, counted from 0, wasn't met. It counts as an answer, not as a fault."""
+    """The first hop refused: this `need` of it, counted from 0, wasn't met; `text` is how the set has it. It counts as
+    an answer, not as a fault."""
     need: int
     stamp: int
     again: bool
     number: int
+    text: str = field(default='', compare=False)
 
 
 @dataclass(frozen=True)
@@ -133,24 +160,36 @@ class Found:
 
 @dataclass(frozen=True)
 class Program:
-    """A program of a set: its number, its parameters and how many hops it has."""
+    """A program of a set: its number, its parameters, how many hops it has, and of its first hop the names of its
+    results and the needs."""
     number: int
     parameters: tuple
     hops: int
+    names: tuple = ()
+    needs: tuple = ()
+
+
+def _program_of(number, words):
+    """The program of the words of its lines, but for the one that ends it."""
+    at = [place for place, line in enumerate(words) if line[0] == 'hop'] + [len(words)]
+    first = words[at[0]:at[1]] if len(at) > 1 else []
+    names = tuple(line[1] for line in first if line[0] == 'get' and len(line) > 1)
+    needs = tuple(' '.join(line) for line in first if line[0] == 'need')
+    return Program(number, tuple(words[0][2:]), len(at) - 1, names, needs)
 
 
 def programs_of(text):
     """The programs of a set's text, by name. The text is not judged: the service has judged its own."""
-    programs, name, parameters, hops = {}, None, (), 0
+    programs, lines = {}, []
     for line in text.split('\n'):
         words = line.split(' ')
         if words[0] == 'program' and len(words) > 1:
-            name, parameters, hops = words[1], tuple(words[2:]), 0
-        elif words[0] == 'hop' and name is not None:
-            hops += 1
-        elif words == ['end'] and name is not None:
-            programs[name] = Program(len(programs), parameters, hops)
-            name = None
+            lines = [words]
+        elif words == ['end'] and lines:
+            programs[lines[0][1]] = _program_of(len(programs), lines)
+            lines = []
+        elif lines:
+            lines.append(words)
     return programs
 
 
@@ -199,6 +238,8 @@ class Client:
             with open(set_path, encoding='ascii') as file:
                 set_text = file.read()
         self.programs = programs_of(set_text or '')
+        self.numbered = {program.number: program for program in self.programs.values()}
+        self.owed = []
         self.client = secrets.randbits(64) if client is None else _word(client, 'the client')
         self.next_number = _word(first, 'the first number')
         self.address = (host, port)
@@ -223,10 +264,16 @@ class Client:
         body = struct.pack('>QQBB', self.client, _word(number, 'the number'), kind, len(args))
         body += b''.join(struct.pack('>Q', _word(arg, 'an argument')) for arg in args)
         try:
-            answer = self._ask(REQUEST, body, ANSWER)
+            answer = self._answer_of(self._ask(REQUEST, body, ANSWER), number, kind)
+        except LynxError as fault:
+            fault.number = number
+            raise
         except OSError as fault:
+            self._drop()
             raise Lost(str(fault), number) from fault
-        return self._answer_of(answer, number)
+        if isinstance(answer, Begun) and answer.hops > 1:
+            self.owed.append(answer)
+        return answer
 
     def look(self, chain, hop, wait=0.0):
         """What that hop of the chain did: Found, or None where it isn't done yet, also not within `wait` seconds."""
@@ -237,11 +284,12 @@ class Client:
         until, pause = time.monotonic() + wait, 0.001
         while True:
             try:
-                answer = self._ask(LOOK, body, LOOKED)
+                found = self._found_of(self._ask(LOOK, body, LOOKED))
             except OSError as fault:
+                self._drop()
                 raise Lost(str(fault)) from fault
-            if answer.take('>B'):
-                return Found(answer.take('>Q'), answer.values())
+            if found is not None:
+                return found
             left = until - time.monotonic()
             if left <= 0:
                 return None
@@ -251,14 +299,17 @@ class Client:
     def wait_for(self, begun, program, wait=10.0):
         """The results of all hops of a chain that began, hop 0 first, once its last is done; None where it isn't within
         `wait` seconds."""
+        return replace(begun, client=self, hops=self.programs[program].hops).wait(wait)
+
+    def settle(self, wait=10.0):
+        """Whether all chains that this client began are done, within `wait` seconds."""
         until = time.monotonic() + wait
-        results = [begun.results]
-        for hop in range(1, self.programs[program].hops):
-            found = self.look(begun.chain, hop, max(0.0, until - time.monotonic()))
-            if found is None:
-                return None
-            results.append(found.results)
-        return results
+        while self.owed:
+            last = self.owed[-1]
+            if self.look(last.chain, last.hops - 1, max(0.0, until - time.monotonic())) is None:
+                return False
+            self.owed.pop()
+        return True
 
     def close(self):
         """Leaves. A request begins a new connection."""
@@ -270,13 +321,27 @@ class Client:
             self._drop()
 
     def shut(self):
-        """Has the service end: it takes no more clients, checks all that it told, and says whether it stood."""
+        """Has the service end: it takes no more clients, checks all that it told, and says whether it stood. Raises
+        Lost where it couldn't be asked, and ByeLost where it was and its bye didn't come."""
         try:
-            self._ask(SHUT, b'', BYE)
+            self._sent(SHUT)
+            self._answer(BYE).end()
         except OSError as fault:
-            raise Lost(str(fault)) from fault
+            raise ByeLost(f'bye lost: {fault}') from fault
         finally:
             self._drop()
+
+    def _sent(self, tag):
+        """Sends an item without a body, over a new connection where the old one takes nothing."""
+        for attempt in range(self.tries):
+            try:
+                self._send(tag, b'')
+                return
+            except OSError as fault:
+                self._drop()
+                if attempt + 1 == self.tries:
+                    raise Lost(str(fault)) from fault
+                time.sleep(min(0.02 * 2 ** min(attempt + 1, 6), 1.0))
 
     def _number_of(self, name, args):
         program = self.programs.get(name)
@@ -286,18 +351,30 @@ class Client:
             raise Wrong('arg-count')
         return program.number
 
-    @staticmethod
-    def _answer_of(body, number):
-        kind = body.take('>B')
-        if kind == 0:
+    def _answer_of(self, body, number, kind):
+        program = self.numbered.get(kind, Program(kind, (), 1))
+        answer = body.take('>B')
+        if answer == 0:
             origin, index, stamp, again = body.take('>BQQB')
-            return Begun(Chain(origin, index), stamp, body.values(), bool(again), number)
-        if kind == 8:
+            results = body.values()
+            body.end()
+            named = dict(zip(program.names, results))
+            return Begun(Chain(origin, index), stamp, results, bool(again), number, named, self, program.hops)
+        if answer == 8:
             need, stamp, again = body.take('>BQB')
-            return Refused(need, stamp, bool(again), number)
-        if kind in _WRONG:
-            raise Wrong(_WRONG[kind])
-        raise _FAULTS.get(kind, LynxError)()
+            body.end()
+            text = program.needs[need] if need < len(program.needs) else ''
+            return Refused(need, stamp, bool(again), number, text)
+        body.end()
+        if answer in _WRONG:
+            raise Wrong(_WRONG[answer])
+        raise _FAULTS.get(answer, LynxError)()
+
+    @staticmethod
+    def _found_of(body):
+        found = Found(body.take('>Q'), body.values()) if body.take('>B') else None
+        body.end()
+        return found
 
     def _ask(self, tag, body, wanted):
         """Asks, over a new connection where the old one is lost: the same request is never done twice."""
@@ -313,10 +390,16 @@ class Client:
         raise ConnectionError('not tried')
 
     def _exchange(self, tag, body, wanted):
+        self._send(tag, body)
+        return self._answer(wanted)
+
+    def _send(self, tag, body):
         if self.socket is None:
             self.socket = socket.create_connection(self.address, self.timeout)
             self.socket.setsockopt(socket.IPPROTO_TCP, socket.TCP_NODELAY, 1)
         self.socket.sendall(struct.pack('>BI', tag, len(body)) + body)
+
+    def _answer(self, wanted):
         found, length = struct.unpack('>BI', self._read(5))
         if found != wanted or length > MAX_BODY_BYTES:
             raise ConnectionError('what came is no answer')

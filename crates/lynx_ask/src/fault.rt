@@ -32,7 +32,12 @@ impl AskFault {
     pub(crate) fn of_line(line: usize, kind: FaultKind) -> AskFault {
         match kind {
             FaultKind::Memory => AskFault::Memory,
-            kind => AskFault::Line(TextFault { kind, line }),
+            // What was read isn't this line: it isn't told which word is at fault.
+            kind => AskFault::Line(TextFault {
+                kind,
+                line,
+                word: 0,
+            }),
         }
     }
 }

@@ -1,7 +1,7 @@
 //! Words, lines, numbers and names of texts, and the faults of texts.
 #![tactic(auto)]
 
-pub use fault::{FaultKind, TextFault};
+pub use fault::{FaultKind, TextFault, WordFault, at};
 pub use name::Name;
 
 pub mod fault;

@@ -66,7 +66,7 @@ fn is_printable_line(line: &[u8]) -> bool
 }
 
 /// The first word of a line, and what follows the space behind it.
-fn first_word(line: &[u8]) -> (&[u8], Option<&[u8]>)
+pub fn first_word(line: &[u8]) -> (&[u8], Option<&[u8]>)
     ensures last { IfNone result.1 (slice_split is_space line.now ≡ result.0.now ∷ []) }
     ensures more { IfSome result.1 (λ rest. slice_split is_space line.now
         ≡ result.0.now ∷ slice_split is_space rest.now) }

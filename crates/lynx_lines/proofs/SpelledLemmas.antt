@@ -1,5 +1,5 @@
 -- What was read, and what nothing spells.
-use Rattle.std.proofs.Common.{◌≡◌, ℕ, zero, suc, ◌^◌, ◌<◌, ◌≤◌, true, false, cond, ltb, List, [], ◌∷◌, ◌++◌, map, length, get_or, Option, Some, None, refl, sym, ap, ◌∙◌, inl, inr, arith}
+use Rattle.std.proofs.Common.{◌≡◌, ◌≢◌, subst, ℕ, zero, suc, ◌^◌, ◌<◌, ◌≤◌, true, false, cond, ltb, List, [], ◌∷◌, ◌++◌, map, length, get_or, Option, Some, None, refl, sym, ap, ◌∙◌, inl, inr, arith}
 use Rattle.std.specs.Prelude.{decimal, Result, Ok, Err, IfOk, IfErr}
 use Rattle.std.specs.Borrow.{Bor}
 use Rattle.std.specs.List.{AllByRecursion, slice_split, join_with_byte, position_or_len}
@@ -40,6 +40,11 @@ fails_so LimitPassed only then so h = so h
 fails_so LiteralElsewhere only then so h = so h
 fails_so (Shard fault) only then so h = so h
 fails_so Memory only then so h = h
+
+-- a fault that is answered means that nothing that fits is spelled so
+pub read_err : {X W : Type 0} (fits : X → Type 0) (spelling : X → W) (written : W) (kind : FaultKind) (r : Result X FaultKind) → Err kind ≡ r → IsRead fits spelling written r
+    → MeansUnread kind ((value : X) → fits value → written ≢ spelling value)
+read_err fits spelling written kind r is read = subst (λ s. IsRead fits spelling written s) (sym is) read
 
 -- a word spells one number
 pub one_number : (word : List ℕ) (n m : ℕ) → n < 2 ^ 64 → m < 2 ^ 64 → word ≡ decimal n → word ≡ decimal m → n ≡ m

@@ -12,7 +12,7 @@ ghost use Rattle.lynx_set.specs.Lookups.{program_names};
 use lynx_entry::{Event, Request};
 use lynx_lex::lines::{next_line, words_of};
 use lynx_lex::number::number;
-use lynx_lex::{FaultKind, Name, TextFault};
+use lynx_lex::{FaultKind, Name, TextFault, WordFault, at};
 use lynx_names::limits::{MAX_PARAMETERS, MAX_TEXT_BYTES};
 use lynx_names::{ChainId, ClientId, Items, ProgramId, ServerId, Stamp, Values};
 use lynx_set::ChainSet;
@@ -34,6 +34,7 @@ pub fn parse_script(alloc: Global, set: &ChainSet, text: &[u8]) -> Result<Vec<Ev
         return Err(TextFault {
             kind: FaultKind::TooLong,
             line: 0,
+            word: 0,
         });
     }
     let mut events = Vec::new(alloc);
@@ -43,7 +44,7 @@ pub fn parse_script(alloc: Global, set: &ChainSet, text: &[u8]) -> Result<Vec<Ev
         line = line.saturating_add(1);
         rest = match read_line(alloc, set, rest, &mut events) {
             Ok(rest) => rest,
-            Err(kind) => return Err(TextFault { kind, line }),
+            Err(fault) => return Err(fault.on(line)),
         };
     }
     Ok(events)
@@ -55,7 +56,7 @@ fn read_line<'a>(
     set: &ChainSet,
     text: &'a [u8],
     events: &mut Vec<Event>,
-) -> Result<&'a [u8], FaultKind>
+) -> Result<&'a [u8], WordFault>
     ensures found { IfOk result (λ rest. (event : Event) × FitsEvent set.now event
         × (events.new.items ≡ events.old.items ++ event ∷ [])
         × (text.now ≡ line (event_words (program_names set.now) event) ++ rest.now)) }
@@ -67,7 +68,7 @@ fn read_line<'a>(
     ensures shrinks { IfOk result (λ rest. length rest.now < length text.now) }
 {
     let Some((line, rest)) = next_line(text) else {
-        return Err(FaultKind::BadLine);
+        return Err(WordFault::new(FaultKind::BadLine, 0));
     };
     let words = words_of(alloc, line)?;
     let event = read_event(alloc, set, words.as_slice())?;
@@ -76,12 +77,12 @@ fn read_line<'a>(
 }
 
 /// The event of a line of these words.
-fn read_event(alloc: Global, set: &ChainSet, words: &[&[u8]]) -> Result<Event, FaultKind>
+fn read_event(alloc: Global, set: &ChainSet, words: &[&[u8]]) -> Result<Event, WordFault>
     ensures { IsRead (FitsEvent set.now) (event_words (program_names set.now))
         (texts words.now) result }
 {
     let Some((verb, words)) = words.split_first() else {
-        return Err(FaultKind::BadLine);
+        return Err(WordFault::new(FaultKind::BadLine, 0));
     };
     if *verb == b"begin".as_slice() {
         let (server, request) = read_begin(alloc, set, words)?;
@@ -103,17 +104,17 @@ fn read_event(alloc: Global, set: &ChainSet, words: &[&[u8]]) -> Result<Event, F
         let restarted = read_one_server(set, words)?;
         Ok(Event::Restart { server: restarted })
     } else {
-        Err(FaultKind::BadLine)
+        Err(WordFault::new(FaultKind::BadLine, 1))
     }
 }
 
 /// `SERVER`
-fn read_one_server(set: &ChainSet, words: &[&[u8]]) -> Result<ServerId, FaultKind>
+fn read_one_server(set: &ChainSet, words: &[&[u8]]) -> Result<ServerId, WordFault>
     ensures { IsRead (FitsServer set.now) (λ server. decimal server ∷ []) (texts words.now) result }
 {
     match words {
-        [word] => read_server(set, word),
-        _ => Err(FaultKind::BadLine),
+        [word] => at(2, read_server(set, word)),
+        _ => Err(WordFault::new(FaultKind::BadLine, 0)),
     }
 }
 
@@ -122,22 +123,22 @@ fn read_begin(
     alloc: Global,
     set: &ChainSet,
     words: &[&[u8]],
-) -> Result<(ServerId, Request), FaultKind>
+) -> Result<(ServerId, Request), WordFault>
     ensures { IsRead (λ begin. FitsBegin set.now begin.0 begin.1 0) (λ begin.
         begin_words (program_names set.now) begin.0 begin.1) (texts words.now) result }
 {
     if words.len() < 4 {
-        return Err(FaultKind::BadLine);
+        return Err(WordFault::new(FaultKind::BadLine, 0));
     }
     let (server, client, number, program) = (words[0], words[1], words[2], words[3]);
     let args = &words[4..];
     if args.len() > MAX_PARAMETERS {
-        return Err(FaultKind::LimitPassed);
+        return Err(WordFault::new(FaultKind::LimitPassed, MAX_PARAMETERS + 6));
     }
-    let server = read_server(set, server)?;
-    let client = ClientId::new(read_number(client)?);
-    let number = read_number(number)?;
-    let program = read_program(set, program)?;
+    let server = at(2, read_server(set, server))?;
+    let client = ClientId::new(at(3, read_number(client))?);
+    let number = at(4, read_number(number))?;
+    let program = at(5, read_program(set, program))?;
     let args = read_numbers(alloc, args)?;
     let request = Request {
         client,
@@ -148,28 +149,29 @@ fn read_begin(
     Ok((server, request))
 }
 
-/// Numbers, one for each word.
-fn read_numbers(alloc: Global, words: &[&[u8]]) -> Result<Values, FaultKind>
+/// The arguments of a begin, one for each word.
+fn read_numbers(alloc: Global, words: &[&[u8]]) -> Result<Values, WordFault>
     ensures { IsRead (AllByRecursion (λ number. number < 2 ^ 64)) (map decimal)
         (texts words.now) result }
 {
     let mut numbers = Items::new(alloc);
     for word in words {
-        numbers.push(read_number(word)?)?;
+        let number = at(numbers.len().saturating_add(6), read_number(word))?;
+        numbers.push(number)?;
     }
     Ok(numbers)
 }
 
 /// `ORIGIN:INDEX HOP`
-fn read_message(set: &ChainSet, words: &[&[u8]]) -> Result<(ChainId, u8), FaultKind>
+fn read_message(set: &ChainSet, words: &[&[u8]]) -> Result<(ChainId, u8), WordFault>
     ensures { IsRead (λ message. FitsMessage set.now message.0 message.1) (λ message.
         message_words message.0 message.1) (texts words.now) result }
 {
     if words.len() != 2 {
-        return Err(FaultKind::BadLine);
+        return Err(WordFault::new(FaultKind::BadLine, 0));
     }
-    let chain = read_chain(set, words[0])?;
-    let hop = read_hop(words[1])?;
+    let chain = at(2, read_chain(set, words[0]))?;
+    let hop = at(3, read_hop(words[1]))?;
     Ok((chain, hop))
 }
 

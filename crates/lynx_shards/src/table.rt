@@ -65,6 +65,16 @@ impl TableShards {
         self.last == Some(u64::MAX)
     }
 
+    /// Whether the next shard has to begin with this key.
+    pub fn is_next(&self, key: u64) -> bool
+        ensures { result ≡ (next_key (last_key None self.now) == key) }
+    {
+        match self.last {
+            None => key == 0,
+            Some(end) => end.checked_add(1) == Some(key),
+        }
+    }
+
     /// Adds the next range. An error leaves the table as it was.
     pub fn add(&mut self, servers: u8, range: Range) -> Result<(), ShardFault>
         requires { servers ≤ MAX_SERVERS }

@@ -9,7 +9,7 @@ ghost use Rattle.lynx_text.specs.Reading.{operator_of, relation_of, binding, pla
 
 use crate::lines::{four_words, three_words};
 use crate::scope::Scope;
-use lynx_lex::{FaultKind, Name};
+use lynx_lex::{FaultKind, Name, WordFault, at};
 use lynx_names::TableId;
 use lynx_set::{Action, Key, Operand, Operator, Relation, Update, Version};
 
@@ -22,13 +22,13 @@ pub(crate) struct ActionLine {
 
 /// The action of a line's words.
 #[tactic(auto, unfolding(crate::specs::Reading::action_of))]
-pub(crate) fn read_action(words: &[&[u8]], scope: &Scope) -> Result<ActionLine, FaultKind>
+pub(crate) fn read_action(words: &[&[u8]], scope: &Scope) -> Result<ActionLine, WordFault>
     ensures value { Gives (λ line. line) result
         (action_of (plain_scope scope.now) (texts words.now)) }
     ensures room { OnOk result (scope.now.actions < MAX_ACTIONS) }
 {
     let [verb, rest @ ..] = words else {
-        return Err(FaultKind::BadLine);
+        return Err(WordFault::new(FaultKind::BadLine, 0));
     };
     if *verb == b"get".as_slice() {
         read_get(rest, scope)
@@ -43,27 +43,27 @@ pub(crate) fn read_action(words: &[&[u8]], scope: &Scope) -> Result<ActionLine, 
 
 /// `get NAME TABLE KEY`
 #[tactic(auto, using(crate::proofs::Shapes::get_of_other), unfolding(crate::specs::Reading::get_of))]
-fn read_get(words: &[&[u8]], scope: &Scope) -> Result<ActionLine, FaultKind>
+fn read_get(words: &[&[u8]], scope: &Scope) -> Result<ActionLine, WordFault>
     ensures value { Gives (λ line. line) result (get_of (plain_scope scope.now) (texts words.now)) }
     ensures room { OnOk result (scope.now.actions < MAX_ACTIONS) }
 {
     let (name, table, key) = three_words(words)?;
     scope.has_room()?;
-    let name = scope.new_name(name)?;
-    let table = scope.table(table)?;
-    let key = scope.key(key)?;
-    scope.is_home(table, key)?;
+    let name = at(2, scope.new_name(name))?;
+    let table = at(3, scope.table(table))?;
+    let key = at(4, scope.key(key))?;
+    at(4, scope.is_home(table, key))?;
     Ok(binding(name, Action::Get { table, key }))
 }
 
 /// `set TABLE KEY VALUE`, or with `add`, `sub` or, in version 2, `max`.
 #[tactic(auto, unfolding(crate::specs::Reading::update_of))]
-fn read_update(verb: &[u8], words: &[&[u8]], scope: &Scope) -> Result<ActionLine, FaultKind>
+fn read_update(verb: &[u8], words: &[&[u8]], scope: &Scope) -> Result<ActionLine, WordFault>
     ensures value { Gives (λ line. line) result (update_of (plain_scope scope.now) verb.now
         (texts words.now)) }
     ensures room { OnOk result (scope.now.actions < MAX_ACTIONS) }
 {
-    let update = update_named(scope.set.version(), verb)?;
+    let update = at(1, update_named(scope.set.version(), verb))?;
     let (table, key, value) = read_change(words, scope)?;
     Ok(plain(Action::Update {
         update,
@@ -92,32 +92,32 @@ fn update_named(version: Version, word: &[u8]) -> Result<Update, FaultKind>
 
 /// `TABLE KEY VALUE`, what changes a cell.
 #[tactic(auto, using(crate::proofs::Shapes::change_of_other), unfolding(crate::specs::Reading::change_of))]
-fn read_change(words: &[&[u8]], scope: &Scope) -> Result<(TableId, Key, Operand), FaultKind>
+fn read_change(words: &[&[u8]], scope: &Scope) -> Result<(TableId, Key, Operand), WordFault>
     ensures value { Gives (λ change. change) result (change_of (plain_scope scope.now)
         (texts words.now)) }
     ensures room { OnOk result (scope.now.actions < MAX_ACTIONS) }
 {
     let (table, key, value) = three_words(words)?;
     scope.has_room()?;
-    let table = scope.table(table)?;
-    let key = scope.key(key)?;
-    let value = scope.operand(value)?;
-    scope.is_home(table, key)?;
+    let table = at(2, scope.table(table))?;
+    let key = at(3, scope.key(key))?;
+    let value = at(4, scope.operand(value))?;
+    at(3, scope.is_home(table, key))?;
     Ok((table, key, value))
 }
 
 /// `let NAME VALUE + VALUE`, or with `-`.
 #[tactic(auto, using(crate::proofs::Shapes::let_of_other), unfolding(crate::specs::Reading::let_of))]
-fn read_let(words: &[&[u8]], scope: &Scope) -> Result<ActionLine, FaultKind>
+fn read_let(words: &[&[u8]], scope: &Scope) -> Result<ActionLine, WordFault>
     ensures value { Gives (λ line. line) result (let_of (plain_scope scope.now) (texts words.now)) }
     ensures room { OnOk result (scope.now.actions < MAX_ACTIONS) }
 {
     let (name, left, operator, right) = four_words(words)?;
-    let operator = operator_of(operator)?;
+    let operator = at(4, operator_of(operator))?;
     scope.has_room()?;
-    let name = scope.new_name(name)?;
-    let left = scope.operand(left)?;
-    let right = scope.operand(right)?;
+    let name = at(2, scope.new_name(name))?;
+    let left = at(3, scope.operand(left))?;
+    let right = at(5, scope.operand(right))?;
     Ok(binding(
         name,
         Action::Let {
@@ -130,19 +130,19 @@ fn read_let(words: &[&[u8]], scope: &Scope) -> Result<ActionLine, FaultKind>
 
 /// `need VALUE RELATION VALUE`
 #[tactic(auto, using(crate::proofs::Shapes::need_of_other), unfolding(crate::specs::Reading::need_of))]
-fn read_need(words: &[&[u8]], scope: &Scope) -> Result<ActionLine, FaultKind>
+fn read_need(words: &[&[u8]], scope: &Scope) -> Result<ActionLine, WordFault>
     ensures value { Gives (λ line. line) result
         (need_of (plain_scope scope.now) (texts words.now)) }
     ensures room { OnOk result (scope.now.actions < MAX_ACTIONS) }
 {
     let (left, relation, right) = three_words(words)?;
-    let relation = relation_of(relation)?;
+    let relation = at(3, relation_of(relation))?;
     if !scope.is_first {
-        return Err(FaultKind::NeedNotFirst);
+        return Err(WordFault::new(FaultKind::NeedNotFirst, 1));
     }
     scope.has_room()?;
-    let left = scope.operand(left)?;
-    let right = scope.operand(right)?;
+    let left = at(2, scope.operand(left))?;
+    let right = at(4, scope.operand(right))?;
     Ok(plain(Action::Need {
         left,
         relation,

@@ -14,3 +14,4 @@ pub mod printing;
 mod range_line;
 pub mod reading;
 mod scope;
+mod table_lines;

@@ -5,8 +5,8 @@ ghost use Rattle.lynx_lex.specs.Gives.{Gives};
 ghost use Rattle.lynx_lex.specs.Lines.{is_feed, only_if, texts};
 ghost use Rattle.lynx_text.specs.Pieces.{after_version, begins, ends, next_piece, one_after, until, next_words, version_of, version_told};
 
-use lynx_lex::FaultKind;
 use lynx_lex::lines::{next_line, place_of_byte, words_of};
+use lynx_lex::{FaultKind, WordFault};
 use lynx_set::Version;
 use std::alloc::Global;
 use std::marker::Model;
@@ -35,13 +35,13 @@ fn version_of(line: &[u8]) -> Option<Version>
 }
 
 /// The word after this first one, where there are two.
-pub fn one_after<'a>(first: &[u8], words: &[&'a [u8]]) -> Result<&'a [u8], FaultKind>
+pub fn one_after<'a>(first: &[u8], words: &[&'a [u8]]) -> Result<&'a [u8], WordFault>
     ensures { Gives (λ word. word.now) result (one_after first.now (texts words.now)) }
 {
-    if words.len() == 2 && words[0] == first {
-        Ok(words[1])
-    } else {
-        Err(FaultKind::BadLine)
+    match words {
+        [word, other] if *word == first => Ok(*other),
+        [word, ..] if *word != first => Err(WordFault::new(FaultKind::BadLine, 1)),
+        _ => Err(WordFault::new(FaultKind::BadLine, 0)),
     }
 }
 
@@ -178,13 +178,13 @@ impl<'a> Lines<'a> {
     }
 
     /// Wants that no line is left.
-    pub fn end(&mut self) -> Result<(), FaultKind>
+    pub fn end(&mut self) -> Result<(), WordFault>
         ensures { Gives (λ x. x) result (only_if (ends self.old) tt) }
     {
         if self.rest.is_empty() {
             return Ok(());
         }
         self.line = self.line.saturating_add(1);
-        Err(FaultKind::BadLine)
+        Err(WordFault::new(FaultKind::BadLine, 1))
     }
 }

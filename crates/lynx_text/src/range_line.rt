@@ -7,7 +7,7 @@ ghost use Rattle.lynx_text.specs.Ranges.{begins_with_dots, cut_at_dots, ends_of,
 
 use crate::lines::three_words;
 use crate::scope::{known_name, number_of};
-use lynx_lex::{FaultKind, Name};
+use lynx_lex::{FaultKind, Name, WordFault, at};
 use lynx_set::{Interval, ParameterRange};
 
 /// `range PARAMETER LOW..HIGH`, where the program has these parameters, and these ranges of them
@@ -17,23 +17,23 @@ pub(crate) fn read_range_line(
     words: &[&[u8]],
     names: &[Name],
     ranges: &[ParameterRange],
-) -> Result<ParameterRange, FaultKind>
+) -> Result<ParameterRange, WordFault>
     ensures value { Gives (λ range. range) result
         (range_line names.now (next_parameter ranges.now) (texts words.now)) }
 {
     let (word, parameter, interval) = three_words(words)?;
     if word != b"range".as_slice() {
-        return Err(FaultKind::BadLine);
+        return Err(WordFault::new(FaultKind::BadLine, 1));
     }
-    let (low, high) = ends_of(interval)?;
-    let parameter = known_name(names, parameter)?;
+    let (low, high) = at(3, ends_of(interval))?;
+    let parameter = at(2, known_name(names, parameter))?;
     if usize::from(parameter) < next_parameter(ranges) {
-        return Err(FaultKind::Repeated);
+        return Err(WordFault::new(FaultKind::Repeated, 2));
     }
-    let low = number_of(low)?;
-    let high = number_of(high)?;
+    let low = at(3, number_of(low))?;
+    let high = at(3, number_of(high))?;
     if low > high {
-        return Err(FaultKind::BadNumber);
+        return Err(WordFault::new(FaultKind::BadNumber, 3));
     }
     Ok(ParameterRange {
         parameter,

@@ -10,21 +10,19 @@ ghost use Rattle.lynx_set.specs.Rules.{IsSet};
 ghost use Rattle.lynx_set.specs.Set.{Set};
 ghost use Rattle.lynx_set.specs.Text.{text_of};
 ghost use Rattle.lynx_set.specs.Names.{place_of};
-ghost use Rattle.lynx_text.specs.Parts.{parts, goes_shard, goes_table, goes_action, goes_hop, goes_program, next_shard, next_table, next_action, next_hop, program_head, next_program, set_at, lines_at, read_text, with_name, servers_of, table_line, shard_line, program_line, parameters_of, hop_line, end_line};
+ghost use Rattle.lynx_text.specs.Parts.{parts, goes_action, goes_hop, goes_program, next_action, next_hop, program_head, next_program, set_at, lines_at, read_text, with_name, servers_of, program_line, parameters_of, hop_line, end_line};
 ghost use Rattle.lynx_text.specs.Ranges.{goes_range, next_parameter, next_range};
-ghost use Rattle.lynx_names.specs.declared.limits.TheConstants.{MAX_ACTIONS, MAX_HOPS, MAX_PARAMETERS, MAX_PROGRAMS, MAX_SERVERS, MAX_SHARDS, MAX_TABLES, MAX_TEXT_BYTES};
+ghost use Rattle.lynx_names.specs.declared.limits.TheConstants.{MAX_ACTIONS, MAX_HOPS, MAX_PARAMETERS, MAX_PROGRAMS, MAX_SERVERS, MAX_TEXT_BYTES};
 
 use crate::action_line::read_action;
-use crate::lines::{Lines, four_words, one_after, two_and_more};
+use crate::lines::{Lines, one_after, two_and_more};
 use crate::range_line::read_range_line;
 use crate::scope::{Scope, name_of, new_name, number_of};
-use lynx_lex::{FaultKind, Name, TextFault};
-use lynx_names::limits::{
-    MAX_HOPS, MAX_PARAMETERS, MAX_PROGRAMS, MAX_SERVERS, MAX_SHARDS, MAX_TABLES, MAX_TEXT_BYTES,
-};
+use crate::table_lines::read_tables;
+use lynx_lex::{FaultKind, Name, TextFault, WordFault, at};
+use lynx_names::limits::{MAX_HOPS, MAX_PARAMETERS, MAX_PROGRAMS, MAX_SERVERS, MAX_TEXT_BYTES};
 use lynx_names::{Items, ServerId};
 use lynx_set::{Action, ChainSet, Hop, Program, Version};
-use lynx_shards::{Range, ShardFault, TableShards};
 use std::alloc::Global;
 
 /// The set that the text spells. An error tells the fault on the earliest line, or want of memory.
@@ -64,21 +62,19 @@ fn read_text(alloc: Global, text: &[u8]) -> Result<ChainSet, TextFault>
         return Err(TextFault {
             kind: FaultKind::TooLong,
             line: 0,
+            word: 0,
         });
     }
     let mut lines = Lines::new(text);
     match read_lines(alloc, &mut lines) {
         Ok(set) => Ok(set),
-        Err(kind) => Err(TextFault {
-            kind,
-            line: lines.line(),
-        }),
+        Err(fault) => Err(fault.on(lines.line())),
     }
 }
 
 /// The version's line and those after it.
 #[tactic(auto, unfolding(crate::specs::Parts::lines_at))]
-fn read_lines(alloc: Global, lines: &mut Lines) -> Result<ChainSet, FaultKind>
+fn read_lines(alloc: Global, lines: &mut Lines) -> Result<ChainSet, WordFault>
     ensures found { IfOk result (λ set. lines_at lines.old ≡ Some (plain_set set)) }
     ensures none { IfErr result (λ kind. (kind ≡ FaultKind.Memory) ⊎ (lines_at lines.old ≡ None)) }
     ensures version { IsErrOf result FaultKind.BadVersion ↔ (version_told lines.old ≡ None) }
@@ -91,7 +87,7 @@ fn read_lines(alloc: Global, lines: &mut Lines) -> Result<ChainSet, FaultKind>
 
 /// The lines after the version's.
 #[tactic(auto, unfolding(crate::specs::Parts::set_at))]
-fn read_set(alloc: Global, lines: &mut Lines, version: Version) -> Result<ChainSet, FaultKind>
+fn read_set(alloc: Global, lines: &mut Lines, version: Version) -> Result<ChainSet, WordFault>
     ensures value { Gives plain_set result (set_at version lines.old) }
     ensures line { IfErr result IsOfLine }
 {
@@ -104,21 +100,8 @@ fn read_set(alloc: Global, lines: &mut Lines, version: Version) -> Result<ChainS
     Ok(set)
 }
 
-/// The tables of a set that has none yet.
-fn read_tables(alloc: Global, lines: &mut Lines, set: &mut ChainSet) -> Result<(), FaultKind>
-    requires { set.old.tables ≡ [] }
-    ensures value { Gives (λ _. (plain_set set.new, lines.new)) result
-        (parts goes_table next_table MAX_TABLES (plain_set set.old) lines.old) }
-    ensures programs { OnOk result (set.new.programs ≡ set.old.programs) }
-{
-    'tables: while lines.begins_with(b"table".as_slice()) {
-        read_table(alloc, lines, set)?;
-    }
-    Ok(())
-}
-
 /// The programs of a set that has none yet.
-fn read_programs(alloc: Global, lines: &mut Lines, set: &mut ChainSet) -> Result<(), FaultKind>
+fn read_programs(alloc: Global, lines: &mut Lines, set: &mut ChainSet) -> Result<(), WordFault>
     requires { set.old.programs ≡ [] }
     ensures { Gives (λ _. (plain_set set.new, lines.new)) result
         (parts goes_program next_program MAX_PROGRAMS (plain_set set.old) lines.old) }
@@ -131,115 +114,22 @@ fn read_programs(alloc: Global, lines: &mut Lines, set: &mut ChainSet) -> Result
 
 /// `servers N`
 #[tactic(auto, unfolding(crate::specs::Parts::servers_of))]
-fn read_servers(words: &[&[u8]]) -> Result<u8, FaultKind>
+fn read_servers(words: &[&[u8]]) -> Result<u8, WordFault>
     ensures value { Gives (λ servers. servers) result (servers_of (texts words.now)) }
     ensures few { IfOk result (λ servers. servers ≤ MAX_SERVERS) }
 {
     let word = one_after(b"servers".as_slice(), words)?;
-    let count = number_of(word)?;
+    let count = at(2, number_of(word))?;
     if 1 <= count && count <= u64::from(MAX_SERVERS) {
         Ok(count as u8)
     } else {
-        Err(FaultKind::LimitPassed)
+        Err(WordFault::new(FaultKind::LimitPassed, 2))
     }
-}
-
-/// A table's line and those of its shards.
-#[tactic(auto, unfolding(crate::specs::Parts::next_table))]
-fn read_table(alloc: Global, lines: &mut Lines, set: &mut ChainSet) -> Result<(), FaultKind>
-    ensures value { Gives (λ _. (plain_set set.new, lines.new)) result (next_table
-        (plain_set set.old) lines.old) }
-    ensures shrinks { OnOk result (length lines.new < length lines.old) }
-    ensures count { OnOk result (length set.new.tables ≡ length set.old.tables + 1) }
-    ensures few { OnOk result (length set.new.tables ≤ MAX_TABLES) }
-    ensures programs { OnOk result (set.new.programs ≡ set.old.programs) }
-{
-    let words = lines.next_words(alloc)?;
-    let name = read_table_line(&words, set)?;
-    let shards = read_shards(alloc, lines, set.servers())?;
-    if !shards.is_whole() {
-        return Err(FaultKind::Shard(ShardFault::Gap));
-    }
-    set.add_table(name, shards)?;
-    Ok(())
-}
-
-/// The lines of a table's shards.
-fn read_shards(alloc: Global, lines: &mut Lines, servers: u8) -> Result<TableShards, FaultKind>
-    requires { servers ≤ MAX_SERVERS }
-    ensures value { Gives (λ shards. (shards, lines.new)) result (parts goes_shard
-        (next_shard servers) MAX_SHARDS [] lines.old) }
-    ensures shrinks { OnOk result (length lines.new ≤ length lines.old) }
-{
-    let mut shards = TableShards::new(alloc);
-    'shards: while lines.begins_with(b"shard".as_slice()) {
-        read_shard(alloc, lines, servers, &mut shards)?;
-    }
-    Ok(shards)
-}
-
-/// The line of one more shard.
-#[tactic(auto, unfolding(crate::specs::Parts::next_shard))]
-fn read_shard(
-    alloc: Global,
-    lines: &mut Lines,
-    servers: u8,
-    shards: &mut TableShards,
-) -> Result<(), FaultKind>
-    requires { servers ≤ MAX_SERVERS }
-    ensures value { Gives (λ _. (shards.new, lines.new)) result
-        (next_shard servers shards.old lines.old) }
-    ensures shrinks { OnOk result (length lines.new < length lines.old) }
-    ensures count { OnOk result (length shards.new ≡ length shards.old + 1) }
-    ensures few { OnOk result (length shards.new ≤ MAX_SHARDS) }
-{
-    let words = lines.next_words(alloc)?;
-    let range = read_shard_line(&words, shards)?;
-    shards.add(servers, range)?;
-    Ok(())
-}
-
-/// `table NAME`
-#[tactic(auto, unfolding(crate::specs::Parts::table_line))]
-fn read_table_line(words: &[&[u8]], set: &ChainSet) -> Result<Name, FaultKind>
-    ensures value { Gives (λ name. name) result (table_line set.now.tables (texts words.now)) }
-    ensures new { IfOk result (λ name. place_of set.now.tables name ≡ None) }
-    ensures room { OnOk result (length set.now.tables < MAX_TABLES) }
-{
-    let word = one_after(b"table".as_slice(), words)?;
-    if set.tables().len() >= usize::from(MAX_TABLES) {
-        return Err(FaultKind::LimitPassed);
-    }
-    let name = name_of(word)?;
-    match set.place_of_table(&name) {
-        Some(_) => Err(FaultKind::Repeated),
-        None => Ok(name),
-    }
-}
-
-/// `shard LOW HIGH SERVER`
-#[tactic(auto, using(crate::proofs::Shapes::shard_line_other), unfolding(crate::specs::Parts::shard_line))]
-fn read_shard_line(words: &[&[u8]], shards: &TableShards) -> Result<Range, FaultKind>
-    ensures value { Gives (λ range. range) result (shard_line (length shards.now)
-        (texts words.now)) }
-    ensures room { OnOk result (length shards.now < MAX_SHARDS) }
-{
-    let (word, low, high, server) = four_words(words)?;
-    if word != b"shard".as_slice() {
-        return Err(FaultKind::BadLine);
-    }
-    if shards.len() >= MAX_SHARDS {
-        return Err(FaultKind::LimitPassed);
-    }
-    let low = number_of(low)?;
-    let high = number_of(high)?;
-    let server = number_of(server)?;
-    Ok(Range { low, high, server })
 }
 
 /// A program's line, those of its ranges, its hops and its end.
 #[tactic(auto, using(crate::proofs::Sets::names_plain), unfolding(crate::specs::Parts::next_program))]
-fn read_program(alloc: Global, lines: &mut Lines, set: &mut ChainSet) -> Result<(), FaultKind>
+fn read_program(alloc: Global, lines: &mut Lines, set: &mut ChainSet) -> Result<(), WordFault>
     ensures value { Gives (λ _. (plain_set set.new, lines.new)) result (next_program
         (plain_set set.old) lines.old) }
     ensures shrinks { OnOk result (length lines.new < length lines.old) }
@@ -261,7 +151,7 @@ fn read_program_head(
     alloc: Global,
     lines: &mut Lines,
     set: &ChainSet,
-) -> Result<(Name, Program), FaultKind>
+) -> Result<(Name, Program), WordFault>
     ensures value { Gives (λ head. ((head.0, plain_program head.1), lines.new)) result
         (program_head (plain_set set.now) lines.old) }
     ensures shrinks { OnOk result (length lines.new < length lines.old) }
@@ -288,7 +178,7 @@ fn read_ranges(
     lines: &mut Lines,
     version: Version,
     program: &mut Program,
-) -> Result<(), FaultKind>
+) -> Result<(), WordFault>
     requires none { program.old.ranges ≡ [] }
     requires few { length program.old.names ≤ MAX_PARAMETERS }
     ensures value { Gives (λ _. (plain_program program.new, lines.new)) result
@@ -315,7 +205,7 @@ fn is_range_next(lines: &Lines, version: Version) -> bool
 
 /// Reads the line of a program's next range, and adds the range.
 #[tactic(auto, unfolding(crate::specs::Ranges::next_range))]
-fn add_range(alloc: Global, lines: &mut Lines, program: &mut Program) -> Result<(), FaultKind>
+fn add_range(alloc: Global, lines: &mut Lines, program: &mut Program) -> Result<(), WordFault>
     ensures value { Gives (λ _. (plain_program program.new, lines.new)) result (next_range
         (plain_program program.old) lines.old) }
     ensures shrinks { OnOk result (length lines.new < length lines.old) }
@@ -338,7 +228,7 @@ fn read_program_line(
     alloc: Global,
     words: &[&[u8]],
     set: &ChainSet,
-) -> Result<(Name, Items<Name>), FaultKind>
+) -> Result<(Name, Items<Name>), WordFault>
     ensures value { Gives (λ head. head) result (program_line (map (λ named.
         named.0) set.now.programs) (texts words.now)) }
     ensures few { IfOk result (λ head. length head.1 ≤ MAX_PARAMETERS) }
@@ -348,27 +238,33 @@ fn read_program_line(
 {
     let (word, name, parameters) = two_and_more(words)?;
     if word != b"program".as_slice() {
-        return Err(FaultKind::BadLine);
+        return Err(WordFault::new(FaultKind::BadLine, 1));
     }
-    if set.programs().len() >= usize::from(MAX_PROGRAMS) || parameters.len() > MAX_PARAMETERS {
-        return Err(FaultKind::LimitPassed);
+    if set.programs().len() >= usize::from(MAX_PROGRAMS) {
+        return Err(WordFault::new(FaultKind::LimitPassed, 0));
     }
-    let name = name_of(name)?;
+    if parameters.len() > MAX_PARAMETERS {
+        return Err(WordFault::new(FaultKind::LimitPassed, MAX_PARAMETERS + 3));
+    }
+    let name = at(2, name_of(name))?;
     if set.place_of_program(&name).is_some() {
-        return Err(FaultKind::Repeated);
+        return Err(WordFault::new(FaultKind::Repeated, 2));
     }
     let names = read_parameters(alloc, parameters)?;
     Ok((name, names))
 }
 
 /// The names of parameters, which are distinct.
-fn read_parameters(alloc: Global, words: &[&[u8]]) -> Result<Items<Name>, FaultKind>
+fn read_parameters(alloc: Global, words: &[&[u8]]) -> Result<Items<Name>, WordFault>
     ensures value { Gives (λ names. names) result (parameters_of [] (texts words.now)) }
     ensures count { IfOk result (λ names. length names ≡ length words.now) }
 {
     let mut names = Items::new(alloc);
     for word in words {
-        let name = new_name(names.as_slice(), word)?;
+        let name = at(
+            names.len().saturating_add(3),
+            new_name(names.as_slice(), word),
+        )?;
         names.push(name)?;
     }
     Ok(names)
@@ -380,7 +276,7 @@ fn read_hops(
     lines: &mut Lines,
     set: &ChainSet,
     program: &mut Program,
-) -> Result<(), FaultKind>
+) -> Result<(), WordFault>
     ensures value { Gives (λ _. (plain_program program.new, lines.new)) result
         (parts goes_hop (next_hop (plain_set set.now))
         (MAX_HOPS - length (plain_program program.old).hops) (plain_program program.old)
@@ -400,7 +296,7 @@ fn read_hop(
     lines: &mut Lines,
     set: &ChainSet,
     program: &mut Program,
-) -> Result<(), FaultKind>
+) -> Result<(), WordFault>
     ensures value { Gives (λ _. (plain_program program.new, lines.new)) result (next_hop
         (plain_set set.now) (plain_program program.old) lines.old) }
     ensures shrinks { OnOk result (length lines.new < length lines.old) }
@@ -424,7 +320,7 @@ fn read_actions(
     program: &mut Program,
     server: ServerId,
     actions: &mut Items<Action>,
-) -> Result<(), FaultKind>
+) -> Result<(), WordFault>
     requires { length actions.old ≤ MAX_ACTIONS }
     ensures value { Gives (λ _. ((plain_program program.new, actions.new), lines.new)) result
         (parts goes_action (next_action (plain_set set.now) server)
@@ -448,16 +344,20 @@ fn is_action_next(lines: &Lines) -> bool
 
 /// `hop SERVER`
 #[tactic(auto, unfolding(crate::specs::Parts::hop_line))]
-fn read_hop_line(words: &[&[u8]], servers: u8, hops: usize) -> Result<ServerId, FaultKind>
+fn read_hop_line(words: &[&[u8]], servers: u8, hops: usize) -> Result<ServerId, WordFault>
     requires { servers ≤ MAX_SERVERS }
     ensures value { Gives (λ server. server) result (hop_line servers hops (texts words.now)) }
     ensures room { OnOk result (hops < MAX_HOPS) }
 {
     let word = one_after(b"hop".as_slice(), words)?;
     if hops >= MAX_HOPS {
-        return Err(FaultKind::LimitPassed);
+        return Err(WordFault::new(FaultKind::LimitPassed, 0));
     }
-    ServerId::among(servers, number_of(word)?).ok_or(FaultKind::Unknown)
+    let number = at(2, number_of(word))?;
+    at(
+        2,
+        ServerId::among(servers, number).ok_or(FaultKind::Unknown),
+    )
 }
 
 /// Reads the line of a hop's next action, and adds the action and the name that it binds.
@@ -469,7 +369,7 @@ fn add_action(
     program: &mut Program,
     server: ServerId,
     actions: &mut Items<Action>,
-) -> Result<(), FaultKind>
+) -> Result<(), WordFault>
     ensures value { Gives (λ _. ((plain_program program.new, actions.new), lines.new)) result
         (next_action (plain_set set.now) server (plain_program program.old, actions.old)
         lines.old) }
@@ -494,7 +394,7 @@ fn add_action(
 }
 
 /// Adds the name that a line binds, if it binds one.
-fn add_name(program: &mut Program, name: Option<Name>) -> Result<(), FaultKind>
+fn add_name(program: &mut Program, name: Option<Name>) -> Result<(), WordFault>
     ensures value { Gives (λ _. plain_program program.new) result (Some (with_name
         (plain_program program.old) name)) }
     ensures hops { program.new.hops ≡ program.old.hops }
@@ -506,12 +406,12 @@ fn add_name(program: &mut Program, name: Option<Name>) -> Result<(), FaultKind>
 }
 
 /// `end`
-fn read_end(words: &[&[u8]]) -> Result<(), FaultKind>
+fn read_end(words: &[&[u8]]) -> Result<(), WordFault>
     ensures { Gives (λ x. x) result (end_line (texts words.now)) }
 {
     if words.len() == 1 && words[0] == b"end".as_slice() {
         Ok(())
     } else {
-        Err(FaultKind::BadLine)
+        Err(WordFault::new(FaultKind::BadLine, 0))
     }
 }

@@ -7,8 +7,8 @@ use Rattle.lynx_lex.proofs.NextLine.{same_line}
 use Rattle.lynx_lines.proofs.script.parse_script.Goals as goal
 
 pub returns-in-Err-clause-only : goal.returns-in-Err-clause-only
-returns-in-Err-clause-only c = elim (memory_or c.in-Err.kind _ c.in-Err.ensures.only) [
-  | inl memory ↦ inl memory
+returns-in-Err-clause-only c = elim (memory_or c.in-Err.fault _ c.in-Err.ensures.only) [
+  | inl memory ↦ inl (c.on.ensures.kind ∙ memory)
   | inr none ↦ inr (λ events script is.
       let others = c.lines.invariant.more events script.0 is in
       let some : 0 < length c.lines.rest.now = search (arith, rules) in

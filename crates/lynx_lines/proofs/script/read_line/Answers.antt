@@ -10,7 +10,8 @@ use Rattle.lynx_lex.proofs.Equal.{some_is, some_none}
 use Rattle.lynx_set.specs.Lookups.{program_names}
 
 pub returns-in_default-clause-only : goal.returns-in_default-clause-only
-returns-in_default-clause-only c = λ event more fits is. some_none (sym (event_line c.args.set.now event c.args.text.now more fits is) ∙ sym c.in_default.ensures.value)
+returns-in_default-clause-only c =
+    rw c.new.ensures (λ event more fits is. some_none (sym (event_line c.args.set.now event c.args.text.now more fits is) ∙ sym c.in_default.ensures.value))
 
 pub returns-in_err-words-clause-only : goal.returns-in_err-words-clause-only
 returns-in_err-words-clause-only c =

@@ -5,4 +5,5 @@ use Rattle.lynx_text.proofs.PieceLaws.{ends_is}
 use Rattle.lynx_text.proofs.lines.Lines.end.Goals as goal
 
 pub returns : goal.returns
-returns c = ap (λ b. only_if {X = Unit {0}} b tt) (ap ends (sym c.self.view_is) ∙ ends_is c.self.inside.rest.now ∙ sym c.is_empty.ensures ∙ c.if-is_empty.false)
+returns c =
+    rw c.new.ensures (ap (λ b. only_if {X = Unit {0}} b tt) (ap ends (sym c.self.view_is) ∙ ends_is c.self.inside.rest.now ∙ sym c.is_empty.ensures ∙ c.if-is_empty.false))

@@ -1,7 +1,7 @@
 use Rattle.std.proofs.Common.{◌≡◌, ◌-◌, ◌≤◌, length}
 use Rattle.lynx_set.specs.Plain.{plain_set}
 use Rattle.lynx_text.specs.Parts.{parts, goes_table, next_table}
-use Rattle.lynx_text.proofs.reading.read_tables.Given as goal
+use Rattle.lynx_text.proofs.table_lines.read_tables.Given as goal
 
 -- what is left decides
 abbrev pub invariant-tables : goal.invariant-tables

@@ -3,8 +3,8 @@ use Rattle.std.proofs.lemmas.Result.{err_from_is_err_and}
 use Rattle.lynx_text.specs.Pieces.{begins}
 use Rattle.lynx_text.specs.Parts.{goes_shard, next_shard}
 use Rattle.lynx_text.proofs.Loops.{parts_more, parts_fail, parts_done, Fails-from}
-use Rattle.lynx_text.proofs.reading.read_shards.Goals as goal
-use Rattle.lynx_text.proofs.reading.read_shards.Goals.{After-begins_with}
+use Rattle.lynx_text.proofs.table_lines.read_shards.Goals as goal
+use Rattle.lynx_text.proofs.table_lines.read_shards.Goals.{After-begins_with}
 
 asked : (c : After-begins_with) → c.begins_with.result ≡ goes_shard c.shards.lines
 asked c = c.begins_with.ensures ∙ ap (begins c.shards.lines) c.as_slice.ensures

@@ -4,8 +4,8 @@ use Rattle.lynx_text.specs.Pieces.{begins}
 use Rattle.lynx_set.specs.Plain.{plain_set}
 use Rattle.lynx_text.specs.Parts.{goes_table, next_table}
 use Rattle.lynx_text.proofs.Loops.{parts_more, parts_fail, parts_done, Fails-from}
-use Rattle.lynx_text.proofs.reading.read_tables.Goals as goal
-use Rattle.lynx_text.proofs.reading.read_tables.Goals.{After-begins_with}
+use Rattle.lynx_text.proofs.table_lines.read_tables.Goals as goal
+use Rattle.lynx_text.proofs.table_lines.read_tables.Goals.{After-begins_with}
 
 asked : (c : After-begins_with) → c.begins_with.result ≡ goes_table c.tables.lines
 asked c = c.begins_with.ensures ∙ ap (begins c.tables.lines) c.as_slice.ensures

@@ -1,6 +1,6 @@
 use Rattle.std.proofs.Common.{◌≡◌, ◌-◌, ◌≤◌, [], length}
 use Rattle.lynx_text.specs.Parts.{parts, goes_shard, next_shard}
-use Rattle.lynx_text.proofs.reading.read_shards.Given as goal
+use Rattle.lynx_text.proofs.table_lines.read_shards.Given as goal
 
 -- what is left decides
 abbrev pub invariant-shards : goal.invariant-shards

@@ -3,13 +3,10 @@
 ghost use Rattle.std.specs.Prelude.{ℕ, List, ◌≡◌, ◌++◌, IfOk, string_bytes};
 ghost use Rattle.lynx_hints.specs.Heads.{head_of};
 
-use crate::line::line_at;
-use crate::mark::Mark;
-use crate::script_lines::put_script_fault;
-use crate::set_faults::put_set_fault;
+use crate::faults::put_fault;
+use crate::site::Site;
 use crate::view::put_line;
-use lynx_lex::{FaultKind, TextFault};
-use lynx_names::limits::MAX_TEXT_BYTES;
+use lynx_lex::TextFault;
 use lynx_set::ChainSet;
 use std::alloc::{AllocError, Global};
 use std::fmt::Write;
@@ -18,8 +15,8 @@ use std::fmt::Write;
 #[derive(Clone, Copy, Debug)]
 pub enum Part<'a> {
     Set,
-    /// A script over the set, where the set is known.
-    Script { set: Option<&'a ChainSet> },
+    /// A script over this set.
+    Script(&'a ChainSet),
 }
 
 /// The lines behind the one that names the fault, each with two spaces before it: the line at
@@ -63,46 +60,15 @@ fn tail_of(
     part: Part<'_>,
     fault: TextFault,
 ) -> Result<String, AllocError> {
+    let site = Site::new(alloc, text, part, fault)?;
     let mut words = String::new(alloc);
-    let mark = put_words(alloc, &mut words, text, part, fault)?;
+    let mark = put_fault(&mut words, &site)?;
     let mut tail = String::new(alloc);
-    put_text(&mut tail, before, text, mark, fault.line)?;
+    if fault.line == 0 {
+        writeln!(tail, " {} bytes or more", text.len())?;
+    } else {
+        put_line(&mut tail, site.line.bytes, mark, before)?;
+    }
     tail.push_str(words.as_str())?;
     Ok(tail)
-}
-
-/// Writes what is wrong, and gives the place in the line.
-fn put_words(
-    alloc: Global,
-    out: &mut String,
-    text: &[u8],
-    part: Part<'_>,
-    fault: TextFault,
-) -> Result<Option<Mark>, AllocError> {
-    match (fault.kind, part) {
-        (FaultKind::TooLong, _) => put_too_long(out),
-        (FaultKind::Memory, _) => Ok(None),
-        (_, Part::Set) => put_set_fault(alloc, out, text, fault),
-        (_, Part::Script { set }) => put_script_fault(alloc, out, text, set, fault),
-    }
-}
-
-fn put_too_long(out: &mut String) -> Result<Option<Mark>, AllocError> {
-    writeln!(out, "  a text has {MAX_TEXT_BYTES} bytes at most")?;
-    Ok(None)
-}
-
-/// Writes the text at the place, with the mark.
-fn put_text(
-    out: &mut String,
-    before: usize,
-    text: &[u8],
-    mark: Option<Mark>,
-    line: usize,
-) -> Result<(), AllocError> {
-    if line == 0 {
-        let bytes = text.len();
-        return writeln!(out, " {bytes} bytes or more");
-    }
-    put_line(out, line_at(text, line).bytes, mark, before)
 }

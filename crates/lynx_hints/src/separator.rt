@@ -5,7 +5,7 @@ ghost use Rattle.lynx_hints.specs.Heads.{separator_told};
 
 use crate::line::first_line;
 use crate::view::put_line;
-use crate::word::part_of;
+use crate::word::{Written, part_of};
 use lynx_lex::lines::next_line;
 use std::alloc::{AllocError, Global};
 use std::fmt::Write;
@@ -17,79 +17,49 @@ pub fn separator_hint(alloc: Global, input: &[u8]) -> Result<String, AllocError>
         ≡ before ++ separator_told)) }
 {
     let mut out = String::new(alloc);
-    match first_like(input) {
-        Some(like) => put_like(alloc, &mut out, like)?,
-        None => (),
-    }
+    put_like(alloc, &mut out, input)?;
     out.push_str("  a line that is exactly -- stands between the set and the script\n")?;
     Ok(out)
 }
 
-/// What makes a line look like the one that is exactly `--`.
-#[derive(Clone, Copy, PartialEq, Eq)]
-enum Likeness {
-    Return,
-    Spaces,
-    Dashes,
-}
-
-/// A line that looks like the one that is exactly `--`.
-#[derive(Clone, Copy)]
-struct LikeLine<'a> {
-    number: usize,
-    bytes: &'a [u8],
-    likeness: Likeness,
-}
-
-/// The first such line of the input.
-fn first_like(input: &[u8]) -> Option<LikeLine<'_>> {
+/// Writes the first line of the input that looks like one that is exactly `--`, if any does.
+fn put_like(alloc: Global, out: &mut String, input: &[u8]) -> Written {
     let mut rest = input;
     for number in 1..input.len().saturating_add(2) {
-        let bytes = first_line(rest).bytes;
-        if let Some(likeness) = likeness_of(bytes) {
-            return Some(LikeLine {
-                number,
-                bytes,
-                likeness,
-            });
+        let line = first_line(rest).0;
+        if let Some(likeness) = likeness_of(line) {
+            let place = format!(in alloc; "  standard input:{number}:")?;
+            out.push_str(place.as_str())?;
+            put_line(out, line, None, 0)?;
+            return out.push_str(likeness);
         }
-        let (_, after) = next_line(rest)?;
+        let Some((_, after)) = next_line(rest) else {
+            return Ok(());
+        };
         rest = after;
     }
-    None
+    Ok(())
 }
 
-fn likeness_of(line: &[u8]) -> Option<Likeness> {
+/// What makes a line look so, if anything does.
+fn likeness_of(line: &[u8]) -> Option<&'static str> {
     let start = line.iter().position(|byte| !is_beside(*byte))?;
     let dashes = line.iter().filter(|byte| !is_beside(**byte)).count();
     let end = start.saturating_add(dashes);
     if dashes < 2 || part_of(line, start, end).iter().any(|byte| *byte != b'-') {
-        return None;
-    }
-    if dashes > 2 {
-        Some(Likeness::Dashes)
+        None
+    } else if dashes > 2 {
+        Some("  more than two dashes stand here\n")
     } else if line.last() == Some(&b'\r') {
-        Some(Likeness::Return)
+        Some(
+            "  a carriage return stands behind the dashes: lines end with LF alone, and not with CR LF\n",
+        )
     } else {
-        Some(Likeness::Spaces)
+        Some("  spaces or tabs stand beside the dashes\n")
     }
 }
 
 /// Whether the byte is one that may stand unseen beside dashes.
 fn is_beside(byte: u8) -> bool {
     byte == b' ' || byte == b'\t' || byte == b'\r'
-}
-
-fn put_like(alloc: Global, out: &mut String, like: LikeLine<'_>) -> Result<(), AllocError> {
-    let number = like.number;
-    let place = format!(in alloc; "  standard input:{number}:")?;
-    out.push_str(place.as_str())?;
-    put_line(out, like.bytes, None, 0)?;
-    out.push_str(match like.likeness {
-        Likeness::Return => {
-            "  a carriage return stands behind the dashes: lines end with LF alone, and not with CR LF\n"
-        }
-        Likeness::Spaces => "  spaces or tabs stand beside the dashes\n",
-        Likeness::Dashes => "  more than two dashes stand here\n",
-    })
 }

@@ -1,4 +1,10 @@
-/// The first word of a line of a set, but for the version's.
+//! The first words of lines, and what has to stand behind them.
+
+use crate::line::Line;
+use crate::word::{Mark, Marked, Written};
+use std::fmt::Write;
+
+/// The first word of a line of a set, but for the version's, or of a script.
 #[derive(Clone, Copy, PartialEq, Eq)]
 pub(crate) enum Verb {
     Servers,
@@ -15,110 +21,151 @@ pub(crate) enum Verb {
     Let,
     Need,
     End,
+    Begin,
+    Deliver,
+    Lose,
+    Wake,
+    Restart,
 }
 
-/// All of them, in the order in which they are told.
-pub(crate) const VERBS: [Verb; 14] = [
-    Verb::Servers,
-    Verb::Table,
-    Verb::Shard,
-    Verb::Program,
-    Verb::Range,
-    Verb::Get,
-    Verb::Set,
-    Verb::Add,
-    Verb::Sub,
-    Verb::Max,
-    Verb::Let,
-    Verb::Need,
-    Verb::Hop,
-    Verb::End,
+/// The words of the line of each verb, and how many there are; at least, where the line is open.
+/// Those of a set stand in the order in which they are told.
+pub(crate) const LINES: [(Verb, &str, usize); 19] = [
+    (Verb::Servers, "servers N", 2),
+    (Verb::Table, "table NAME", 2),
+    (Verb::Shard, "shard LO HI SERVER", 4),
+    (Verb::Program, "program NAME PARAM..", 2),
+    (Verb::Range, "range PARAM LO..HI", 3),
+    (Verb::Get, "get NAME TABLE KEY", 4),
+    (Verb::Set, "set TABLE KEY VALUE", 4),
+    (Verb::Add, "add TABLE KEY AMOUNT", 4),
+    (Verb::Sub, "sub TABLE KEY AMOUNT", 4),
+    (Verb::Max, "max TABLE KEY VALUE", 4),
+    (Verb::Let, "let NAME VALUE + VALUE, or - for +", 5),
+    (
+        Verb::Need,
+        "need VALUE REL VALUE, REL one of < <= = != >= >",
+        4,
+    ),
+    (Verb::Hop, "hop SERVER", 2),
+    (Verb::End, "end", 1),
+    (Verb::Begin, "begin SERVER CLIENT NUMBER PROGRAM ARG..", 5),
+    (Verb::Deliver, "deliver ORIGIN:INDEX HOP", 3),
+    (Verb::Lose, "lose ORIGIN:INDEX HOP", 3),
+    (Verb::Wake, "wake SERVER", 2),
+    (Verb::Restart, "restart SERVER", 2),
 ];
+
+/// What a word of a line is to be that has to be known.
+#[derive(Clone, Copy, PartialEq, Eq)]
+pub(crate) enum Role {
+    Server,
+    Table,
+    Key,
+    Value,
+    Other,
+}
 
 impl Verb {
     /// The verb that the word is.
     pub fn of(word: &[u8]) -> Option<Verb> {
-        match word {
-            b"servers" => Some(Verb::Servers),
-            b"table" => Some(Verb::Table),
-            b"shard" => Some(Verb::Shard),
-            b"program" => Some(Verb::Program),
-            b"range" => Some(Verb::Range),
-            b"hop" => Some(Verb::Hop),
-            b"get" => Some(Verb::Get),
-            b"set" => Some(Verb::Set),
-            b"add" => Some(Verb::Add),
-            b"sub" => Some(Verb::Sub),
-            b"max" => Some(Verb::Max),
-            b"let" => Some(Verb::Let),
-            b"need" => Some(Verb::Need),
-            b"end" => Some(Verb::End),
-            _ => None,
+        for (verb, _, _) in LINES {
+            if verb.spelled().as_bytes() == word {
+                return Some(verb);
+            }
         }
+        None
+    }
+
+    /// The words of its line, and how many there are.
+    fn line(self) -> (&'static str, usize) {
+        let line = LINES.iter().find(|line| line.0 == self);
+        line.map_or(("", 0), |line| (line.1, line.2))
     }
 
     pub fn spelled(self) -> &'static str {
-        match self {
-            Verb::Servers => "servers",
-            Verb::Table => "table",
-            Verb::Shard => "shard",
-            Verb::Program => "program",
-            Verb::Range => "range",
-            Verb::Hop => "hop",
-            Verb::Get => "get",
-            Verb::Set => "set",
-            Verb::Add => "add",
-            Verb::Sub => "sub",
-            Verb::Max => "max",
-            Verb::Let => "let",
-            Verb::Need => "need",
-            Verb::End => "end",
-        }
+        let words = self.line().0;
+        words.split_once(' ').map_or(words, |parts| parts.0)
     }
 
-    /// The words of its line.
-    pub fn form(self) -> &'static str {
+    /// Whether its line is one of scripts.
+    pub fn is_of_script(self) -> bool {
         match self {
-            Verb::Servers => "servers N",
-            Verb::Table => "table NAME",
-            Verb::Shard => "shard LO HI SERVER",
-            Verb::Program => "program NAME PARAM..",
-            Verb::Range => "range PARAM LO..HI",
-            Verb::Hop => "hop SERVER",
-            Verb::Get => "get NAME TABLE KEY",
-            Verb::Set => "set TABLE KEY VALUE",
-            Verb::Add => "add TABLE KEY AMOUNT",
-            Verb::Sub => "sub TABLE KEY AMOUNT",
-            Verb::Max => "max TABLE KEY VALUE",
-            Verb::Let => "let NAME VALUE + VALUE, or - for +",
-            Verb::Need => "need VALUE REL VALUE, REL one of < <= = != >= >",
-            Verb::End => "end",
+            Verb::Begin | Verb::Deliver | Verb::Lose | Verb::Wake | Verb::Restart => true,
+            _ => false,
         }
-    }
-
-    /// How many words its line has; of a program's line, at least.
-    pub fn words(self) -> usize {
-        match self {
-            Verb::End => 1,
-            Verb::Servers | Verb::Table | Verb::Program | Verb::Hop => 2,
-            Verb::Range => 3,
-            Verb::Shard | Verb::Get | Verb::Set | Verb::Add | Verb::Sub | Verb::Max | Verb::Need =>
-                4,
-            Verb::Let => 5,
-        }
-    }
-
-    /// Whether a line may have more words than that.
-    pub fn is_open(self) -> bool {
-        self == Verb::Program
     }
 
     /// Whether its line is an action's.
     pub fn is_action(self) -> bool {
         match self {
-            Verb::Get | Verb::Set | Verb::Add | Verb::Sub | Verb::Max | Verb::Let | Verb::Need =>
-                true,
+            Verb::Get | Verb::Let | Verb::Need => true,
+            _ => self.is_update(),
+        }
+    }
+
+    fn is_update(self) -> bool {
+        match self {
+            Verb::Set | Verb::Add | Verb::Sub | Verb::Max => true,
             _ => false,
         }
+    }
+
+    /// The role of the word of that place, counted from 1.
+    pub fn role(self, word: usize) -> Role {
+        match (self, word) {
+            (Verb::Hop, _) => Role::Server,
+            (_, 2) if self.is_of_script() => Role::Server,
+            (Verb::Get, 3) => Role::Table,
+            (Verb::Get, 4) => Role::Key,
+            (Verb::Let, 3 | 5) | (Verb::Need, 2 | 4) => Role::Value,
+            (_, 2) if self.is_update() => Role::Table,
+            (_, 3) if self.is_update() => Role::Key,
+            (_, 4) if self.is_update() => Role::Value,
+            _ => Role::Other,
+        }
+    }
+
+    /// Writes how its line looks.
+    pub fn put_form(self, out: &mut String) -> Written {
+        writeln!(out, "  the line is: {}", self.line().0)
+    }
+
+    /// Writes that its line has a wrong count of words, and gives those that are too many.
+    pub fn put_wrong_count(self, out: &mut String, line: &Line<'_>) -> Marked {
+        let words = line.words.as_slice();
+        if let Some(comment) = words.iter().find(|word| begins_comment(word.text)) {
+            out.push_str("  a text has no comments, behind a line neither\n")?;
+            return Ok(Some(Mark::from(line.bytes, comment.start)));
+        }
+        let least = self.line().1;
+        let is_open = self == Verb::Program || self == Verb::Begin;
+        let at_least = if is_open { "at least " } else { "" };
+        write!(out, "  {} takes {at_least}", self.spelled())?;
+        put_count(out, least.saturating_sub(1))?;
+        out.push_str(", and has ")?;
+        put_count(out, words.len().saturating_sub(1))?;
+        out.push_str(" here\n")?;
+        self.put_form(out)?;
+        match words.get(least) {
+            Some(surplus) => Ok(Some(Mark::from(line.bytes, surplus.start))),
+            None => Ok(None),
+        }
+    }
+}
+
+fn put_count(out: &mut String, words: usize) -> Written {
+    match words {
+        0 => out.push_str("no word"),
+        1 => out.push_str("1 word"),
+        _ => write!(out, "{words} words"),
+    }
+}
+
+/// Whether a comment begins so.
+pub(crate) fn begins_comment(text: &[u8]) -> bool {
+    match text {
+        [b'#', ..] | [b'/', b'/', ..] => true,
+        _ => false,
     }
 }

@@ -3,9 +3,7 @@
 ghost use Rattle.std.specs.Prelude.{◌≤◌, ◌+◌};
 ghost use Rattle.lynx_hints.specs.declared.view.TheConstants.{MAX_SHOWN};
 
-use crate::mark::Mark;
-use crate::word::{part_of, shown_byte};
-use std::alloc::AllocError;
+use crate::word::{Mark, Written, part_of, shown_byte};
 
 /// As many characters of a line are shown, at most.
 const MAX_SHOWN: usize = 100;
@@ -52,7 +50,7 @@ pub(crate) fn put_line(
     line: &[u8],
     mark: Option<Mark>,
     before: usize,
-) -> Result<(), AllocError> {
+) -> Written {
     if line.is_empty() {
         return out.push_str("\n");
     }
@@ -64,7 +62,7 @@ pub(crate) fn put_line(
     }
 }
 
-fn put_view(out: &mut String, line: &[u8], view: View) -> Result<(), AllocError> {
+fn put_view(out: &mut String, line: &[u8], view: View) -> Written {
     out.push_str(" ")?;
     if view.start > 0 {
         out.push_str("..")?;
@@ -78,7 +76,7 @@ fn put_view(out: &mut String, line: &[u8], view: View) -> Result<(), AllocError>
     out.push_str("\n")
 }
 
-fn put_mark(out: &mut String, view: View, mark: Mark, before: usize) -> Result<(), AllocError> {
+fn put_mark(out: &mut String, view: View, mark: Mark, before: usize) -> Written {
     let dots = if view.start > 0 { 2 } else { 0 };
     let indent = before
         .saturating_add(1)
@@ -90,7 +88,7 @@ fn put_mark(out: &mut String, view: View, mark: Mark, before: usize) -> Result<(
     out.push_str("\n")
 }
 
-fn put_many(out: &mut String, shown: char, count: usize) -> Result<(), AllocError> {
+fn put_many(out: &mut String, shown: char, count: usize) -> Written {
     for _ in 0..count {
         out.push(shown)?;
     }

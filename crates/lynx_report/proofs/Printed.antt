@@ -9,14 +9,13 @@ use Rattle.lynx_graph.specs.declared.block.Block.{Block}
 use Rattle.lynx_check.specs.declared.verdict.Verdict.{Verdict}
 use Rattle.lynx_check.specs.declared.verdict.Verdict.TheVariants.{Accepted as AcceptedVerdict, Offending as OffendingVerdict}
 use Rattle.lynx_graph.specs.declared.visit.Visit.{Visit}
-use Rattle.lynx_check.specs.declared.accepted.Reason.{Reason}
-use Rattle.lynx_check.specs.Reasons.{Accepted, IsReason, reason_of}
+use Rattle.lynx_check.specs.Reasons.{Accepted, reason_of}
 use Rattle.lynx_check.specs.Verdicts.{Judges}
 use Rattle.lynx_check.proofs.Accepting.{reason_from_excuse}
 use Rattle.lynx_lex.specs.Lines.{with_feed}
 use Rattle.lynx_report.specs.declared.verdict.Finding.TheVariants.{Accepted as AcceptedFinding, Offending}
 use Rattle.lynx_report.specs.Checks.{AreBehind, accepted_line, edge_lines, finding_of, IsVerdict, IsVerdictWith, verdict_lines}
-use Rattle.lynx_report.specs.Refusals.{BeginsRefusal, BeginsSetRefusal, IsRefusal}
+use Rattle.lynx_report.specs.Refusals.{BeginsRefusal, BeginsSetRefusal}
 
 pub accepted_printed : (chains : Set) (own : Accepted) → Judges chains (AcceptedVerdict own) → IsVerdict chains (AcceptedFinding (reason_of own.excused)) (accepted_line (reason_of own.excused))
 accepted_printed chains own judged = (reason_from_excuse chains own.excused judged.1, refl)
@@ -44,14 +43,9 @@ verdict_with false chains verdict lines judged none =
     subst (IsVerdict chains (finding_of verdict)) (sym (ap (λ bytes. verdict_lines chains verdict ++ bytes) none ∙ append-nil (verdict_lines chains verdict)))
     (judged_printed chains verdict judged)
 
--- of an accepted set nothing is printed before a run
-pub accepted_refusal : (chains : Set) (own : Accepted) (reason : Reason) → reason ≡ reason_of own.excused → Judges chains (AcceptedVerdict own) →
-    IsRefusal chains (AcceptedFinding reason) []
-accepted_refusal chains own reason is judged = (subst (IsReason chains) (sym is) (reason_from_excuse chains own.excused judged.1), refl)
-
 -- a beginning of the refusal of a set, by its text
 pub refusal_begun : (first second : Option (List ℕ)) (text : List ℕ) (chains : Set) → IsSet chains × (text ≡ text_of chains) →
     BeginsSetRefusal chains first second → BeginsRefusal text first second
 refusal_begun first second text chains spelled (inl kept) = inl kept
 refusal_begun first second text chains spelled (inr begun) =
-    inr (begun.0, record { chains = chains; is_set = spelled.0; spelled = spelled.1; refusal = begun.1 }, begun.2)
+    inr (begun.0, record { chains = chains; is_set = spelled.0; spelled = spelled.1; verdict = begun.1 }, begun.2)

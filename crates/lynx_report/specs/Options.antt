@@ -8,12 +8,12 @@ use Rattle.lynx_set.specs.Text.{text_of}
 use Rattle.lynx_entry.specs.declared.event.Event.{Event}
 use Rattle.lynx_lines.specs.Scripts.{IsScript, script_of}
 use Rattle.lynx_world.specs.Placed.{Placed}
-use Rattle.lynx_world.specs.Worlds.{new_world}
+use Rattle.lynx_world.specs.Worlds.{WorldState, new_world}
 use Rattle.lynx_report.specs.declared.owed.OwedHop.{OwedHop}
 use Rattle.lynx_report.specs.declared.run.Ending.{Ending}
 use Rattle.lynx_report.specs.declared.options.RunOptions.{RunOptions}
 use Rattle.lynx_report.specs.Owed.{AreTheOwed, owed_lines}
-use Rattle.lynx_report.specs.Runs.{Prints, RunPrints, world_after}
+use Rattle.lynx_report.specs.Runs.{EndPrints, Prints, RunPrints, world_after}
 use Rattle.lynx_report.specs.Written.{AppendsPart, BeginsRun, BeginsWith, WritesPart}
 
 -- what is printed behind a run: a line for each hop that its list owes where that is asked for,
@@ -29,6 +29,15 @@ WritesRest true chains list old new =
     Keeps old new
     ⊎ ((printed : List ℕ) × RestPrints true chains list printed × AppendsPart old new printed)
 WritesRest false chains list old new = Keeps old new
+
+-- the last lines of a run that came to this world, and those behind them
+pub record EndPrintsWith (owed : Bool) (world : WorldState) (ending : Ending)
+    (printed : List ℕ) : Type 0 where
+  pub end_lines : List ℕ
+  pub end : EndPrints world.set world ending end_lines
+  pub rest : List ℕ
+  pub asked : RestPrints owed world.set world.list rest
+  pub lines : printed ≡ end_lines ++ rest
 
 -- the lines of a run, and those behind it
 pub record RunPrintsWith (owed : Bool) (chains : Set) (events : List Event) (ending : Ending)

@@ -5,8 +5,11 @@ pub use charting::chart_texts;
 pub use drawing::draw_text;
 pub use options::{CheckOptions, DrawOptions, RunOptions};
 pub use owed::{OwedHop, owed_hops};
-pub use refusing::refuse_text;
-pub use run::{Ending, RunFault, read_set, run_texts};
+pub use refusing::accepted_set;
+pub use run::{
+    Ending, RunFault, read_script, read_set, run_over_set, run_texts, write_last_lines,
+    write_outcome,
+};
 pub use running::{Ran, run_in_new_world};
 pub use verdict::{Finding, check_text};
 pub use writing::write_bytes;

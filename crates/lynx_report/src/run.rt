@@ -11,7 +11,7 @@ ghost use Rattle.lynx_names.specs.declared.limits.TheConstants.{MAX_HELD};
 ghost use Rattle.lynx_world.specs.Worlds.{new_world};
 ghost use Rattle.std.specs.String.{string_bytes};
 ghost use Rattle.lynx_report.specs.Runs.{world_after, outcome_lines, cell_lines, ending_of, explained_line, EndPrints, Explains, IsNoSet, IsNoScript, IsLate, StopsFor};
-ghost use Rattle.lynx_report.specs.Options.{BeginsRunWith, PrintsWith, RunPrintsWith, WritesPartWith};
+ghost use Rattle.lynx_report.specs.Options.{BeginsRunWith, EndPrintsWith, PrintsWith, RunPrintsWith, WritesPartWith};
 ghost use Rattle.lynx_report.specs.Written.{AppendsPart, WritesEnd};
 ghost use Rattle.lynx_lines.specs.Scripts.{IsScript, script_of};
 ghost use Rattle.std.specs.Io.KnownBytes.{Appends, Keeps};
@@ -91,12 +91,9 @@ pub fn read_set(alloc: Global, text: &[u8]) -> Result<ChainSet, RunFault>
     }
 }
 
-/// The events that a script spells.
-pub(crate) fn read_script(
-    alloc: Global,
-    set: &ChainSet,
-    text: &[u8],
-) -> Result<Vec<Event>, RunFault>
+/// The events that a script over the set spells. [`RunFault::Set`] and [`RunFault::Write`] are
+/// never its fault.
+pub fn read_script(alloc: Global, set: &ChainSet, text: &[u8]) -> Result<Vec<Event>, RunFault>
     ensures found { IfOk result (λ events. IsScript set.now events.items
         × (text.now ≡ script_of set.now events.items)) }
     ensures only { IfErr result (λ fault. (fault ≡ RunFault.Memory) ⊎ ((found : TextFault)
@@ -113,7 +110,11 @@ pub(crate) fn read_script(
 }
 
 /// Writes the line of what an event came to.
-fn write_outcome<W: Write>(alloc: Global, outcome: &Outcome, writer: &mut W) -> Result<(), RunFault>
+pub fn write_outcome<W: Write>(
+    alloc: Global,
+    outcome: &Outcome,
+    writer: &mut W,
+) -> Result<(), RunFault>
     ensures line { OnOk result (Appends (W.contents writer.old) (W.contents writer.new)
         (with_feed (outcome_text outcome.now))) }
     ensures part { OnErr result (AppendsPart (W.contents writer.old) (W.contents writer.new)
@@ -260,6 +261,46 @@ fn run_script<W: Write>(
     Ok(ending)
 }
 
+/// Writes the last lines of a run that came to this world: those of the nonzero cells, the one that
+/// explains what the servers did, and behind it what the options ask for.
+pub fn write_last_lines<W: Write>(
+    alloc: Global,
+    world: &World,
+    options: RunOptions,
+    writer: &mut W,
+) -> Result<Ending, RunFault>
+    ensures ok { IfOk result (λ ending. (printed : List ℕ)
+        × EndPrintsWith options.owed world.now ending printed
+        × Appends (W.contents writer.old) (W.contents writer.new) printed) }
+    ensures late { IfErr result IsLate }
+{
+    let ending = write_end(alloc, world, writer)?;
+    write_rest(alloc, world, options, writer)?;
+    Ok(ending)
+}
+
+/// Judges the script of a set that is read already, runs it in a new world, and writes what
+/// [`run_texts`] does.
+pub fn run_over_set<W: Write>(
+    alloc: Global,
+    set: ChainSet,
+    script: &[u8],
+    options: RunOptions,
+    writer: &mut W,
+) -> Result<Ending, RunFault>
+    requires { IsSet set }
+    ensures ok { IfOk result (λ ending. (printed : List ℕ)
+        × PrintsWith options (text_of set) script.now ending printed
+        × Appends (W.contents writer.old) (W.contents writer.new) printed) }
+    ensures err { IfErr result (λ fault. StopsFor (text_of set) script.now
+        (Keeps (W.contents writer.old) (W.contents writer.new)) fault) }
+    ensures part { OnErr result (WritesPartWith options (text_of set) script.now
+        (W.contents writer.old) (W.contents writer.new)) }
+{
+    let events = read_script(alloc, &set, script)?;
+    run_script(alloc, set, events, options, writer)
+}
+
 /// Judges the set text and then the script, runs the script in a new world, and writes a line for
 /// each event, a line for each nonzero cell, and the line of an order that explains the run, or of
 /// a cycle; behind it what the options ask for. Where the set is accepted it is an order. The last
@@ -280,6 +321,5 @@ pub fn run_texts<W: Write>(
         (W.contents writer.old) (W.contents writer.new)) }
 {
     let set = read_set(alloc, set)?;
-    let events = read_script(alloc, &set, script)?;
-    run_script(alloc, set, events, options, writer)
+    run_over_set(alloc, set, script, options, writer)
 }

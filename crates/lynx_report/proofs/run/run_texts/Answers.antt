@@ -1,14 +1,7 @@
-use Rattle.lynx_report.proofs.Asked.{texts_cut_with, texts_print_with}
-use Rattle.lynx_report.proofs.RunLemmas.{late_stops}
+use Rattle.std.proofs.Common.{List, ℕ, OnErr, sym, subst}
+use Rattle.lynx_report.specs.Options.{WritesPartWith}
 use Rattle.lynx_report.proofs.run.run_texts.Goals as goal
-
-pub returns-clause-ok : goal.returns-clause-ok
-returns-clause-ok g c =
-    texts_print_with _ _ c.args.options.owed c.args.set.now c.args.script.now c.in_ok-set.set c.in_ok-events.events.items c.run_script.result c.in_ok-set.ensures.found c.in_ok-events.ensures.found c.run_script.ensures.ok
-
-pub returns-clause-err : goal.returns-clause-err
-returns-clause-err g c = late_stops c.args.set.now c.args.script.now _ c.run_script.result c.run_script.ensures.late
 
 pub returns-clause-part : goal.returns-clause-part
 returns-clause-part g c =
-    texts_cut_with _ _ c.args.options.owed c.args.set.now c.args.script.now c.in_ok-set.set c.in_ok-events.events.items c.run_script.result c.in_ok-set.ensures.found c.in_ok-events.ensures.found c.run_script.ensures.part
+    subst (λ (text : List ℕ). OnErr c.run_over_set.result (WritesPartWith c.args.options text c.args.script.now (g.W.Write.contents c.args.writer.now) (g.W.Write.contents c.run_over_set.new.writer))) (sym c.in_ok-set.ensures.found.1) c.run_over_set.ensures.part

@@ -4,16 +4,13 @@
 use clap::error::ErrorKind;
 use clap::{ArgMatches, Error};
 use lynx_cli::{CommandFault, Fault, Hints, Job, command, do_job, job_of, wants_hints};
+use lynx_cluster::Host;
 use lynx_keep::Keeper;
-use lynx_report::RunFault;
 use lynx_store_files::{Files, Stores};
 use std::io::{self, IsTerminal};
 use std::net::{Net, TcpListener, TcpStream};
 use std::process::ExitCode;
 use std::rt::Env;
-use std::sync::Wait;
-use std::thread::Threads;
-use std::time::Clock;
 use std::{env, fs};
 
 /// The status of faulty words.
@@ -29,7 +26,7 @@ fn report<R: Eprint>(rt: &R, fault: &Fault) -> u8 {
 /// error. Faulty words have their status also where standard error takes nothing.
 fn print_help<R: Print + Eprint>(rt: &R, said: &Error) -> u8 {
     if said.kind() == ErrorKind::OutOfMemory {
-        return report(rt, &Fault::Run(RunFault::Memory));
+        return report(rt, &Fault::Memory);
     }
     let printed = said.print(rt).is_ok();
     if said.use_stderr() {
@@ -37,7 +34,7 @@ fn print_help<R: Print + Eprint>(rt: &R, said: &Error) -> u8 {
     } else if printed {
         0
     } else {
-        report(rt, &Fault::Run(RunFault::Write))
+        report(rt, &Fault::Write)
     }
 }
 
@@ -46,13 +43,13 @@ fn command_line<'a, R: Env + AllocGlobal>(rt: &R) -> Result<Vec<String>, Fault<'
     let args = match env::args(rt) {
         Ok(args) => args,
         Err(error) if error.kind() == io::ErrorKind::OutOfMemory => {
-            return Err(Fault::Run(RunFault::Memory));
+            return Err(Fault::Memory);
         }
         Err(_) => return Err(Fault::Command(CommandFault::NotUtf8)),
     };
     match args.collect(rt.alloc()) {
         Ok(words) => Ok(words),
-        Err(_) => Err(Fault::Run(RunFault::Memory)),
+        Err(_) => Err(Fault::Memory),
     }
 }
 
@@ -85,14 +82,7 @@ fn suggest_check(rt: &HostRuntime, said: &Error, words: &[String]) {
 
 /// Does what the matched words ask for, and gives the status.
 fn do_matches<
-    R: Threads
-        + Wait
-        + Clock
-        + Net<Listener = TcpListener, Stream = TcpStream>
-        + Copy
-        + Send
-        + Sync
-        + 'static,
+    R: Host + Net<Listener = TcpListener, Stream = TcpStream>,
     K: Keeper + Send + Drop + 'static,
     S: Stores<K>,
 >(host: &HostRuntime, rt: R, stores: &S, matches: &ArgMatches) -> u8 {
@@ -118,19 +108,12 @@ fn do_matches<
 
 /// Does what the words ask for, and gives the status.
 fn obey<
-    R: Threads
-        + Wait
-        + Clock
-        + Net<Listener = TcpListener, Stream = TcpStream>
-        + Copy
-        + Send
-        + Sync
-        + 'static,
+    R: Host + Net<Listener = TcpListener, Stream = TcpStream>,
     K: Keeper + Send + Drop + 'static,
     S: Stores<K>,
 >(host: &HostRuntime, rt: R, stores: &S, words: &[String]) -> u8 {
     let Ok(command) = command(host.alloc()) else {
-        return report(host, &Fault::Run(RunFault::Memory));
+        return report(host, &Fault::Memory);
     };
     match command.try_get_matches_from(words) {
         Ok(matches) => do_matches(host, rt, stores, &matches),

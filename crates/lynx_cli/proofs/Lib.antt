@@ -1,3 +1,2 @@
 mod InputLemmas
-mod Known
-mod Stops
+mod Judged

@@ -1,51 +1,54 @@
--- What a job that is done has written, where the bytes of its sources are known.
-use Rattle.std.specs.Prelude.{◌≡◌, ◌⊎◌, ℕ, Bool, List, Option, take}
+-- What a job that is done has written.
+use Rattle.std.specs.Prelude.{◌≡◌, ◌⊎◌, false, ℕ, Bool, List, Option}
 use Rattle.std.specs.Bool.{MatchBool}
 use Rattle.std.specs.Io.KnownBytes.{Appends}
-use Rattle.lynx_cli.specs.declared.source.TheConstants.{MAX_FILE_BYTES, MAX_INPUT_BYTES}
 use Rattle.lynx_cli.specs.Inputs.{IsCut}
+use Rattle.lynx_set.specs.Rules.{IsSet}
+use Rattle.lynx_set.specs.Set.{Set}
+use Rattle.lynx_set.specs.Text.{text_of}
+use Rattle.lynx_keep.specs.Kept.{Terms}
+use Rattle.lynx_rerun.specs.Reruns.{Reruns}
 use Rattle.lynx_report.specs.declared.run.Ending.{Ending}
 use Rattle.lynx_report.specs.declared.verdict.Finding.{Finding}
+use Rattle.lynx_report.specs.declared.verdict.Finding.TheVariants.{Offending}
 use Rattle.lynx_report.specs.Charts.{Charts}
 use Rattle.lynx_report.specs.Checks.{Finds}
 use Rattle.lynx_report.specs.Drawings.{Draws}
-use Rattle.lynx_cli.specs.declared.job.RunFlags.{RunFlags}
+use Rattle.lynx_report.specs.Options.{PrintsWith}
+use Rattle.lynx_report.specs.Refusals.{Accepts}
 use Rattle.lynx_report.specs.declared.options.CheckOptions.{CheckOptions}
 use Rattle.lynx_report.specs.declared.options.DrawOptions.{DrawOptions}
 use Rattle.lynx_report.specs.declared.options.RunOptions.{RunOptions}
-use Rattle.lynx_report.specs.declared.verdict.Finding.TheVariants.{Accepted, Offending}
-use Rattle.lynx_report.specs.Options.{PrintsWith}
-use Rattle.lynx_report.specs.Refusals.{Refuses}
+use Rattle.lynx_cli.specs.declared.job.RunFlags.{RunFlags}
 use Rattle.lynx_sample.specs.Samples.{IsSample}
-use Rattle.lynx_check.specs.declared.accepted.Reason.{Reason}
 use Rattle.lynx_cli.specs.Statuses.{status_of_finding, status_of_ending}
 
--- the verdict on the set that the source begins with is written, with what the options ask for, and
--- the status is the verdict's
-pub record HasChecked (options : CheckOptions) (source : List ℕ) (old new : Option (List ℕ))
+-- the verdict on the text's set is written, with what the options ask for, and the status is the
+-- verdict's
+pub record HasChecked (options : CheckOptions) (text : List ℕ) (old new : Option (List ℕ))
     (status : ℕ) : Type 0 where
   pub finding : Finding
   pub printed : List ℕ
-  pub finds : Finds options.why (take MAX_FILE_BYTES source) finding printed
+  pub finds : Finds options.why text finding printed
   pub written : Appends old new printed
   pub status_is : status ≡ status_of_finding finding
 
--- the picture of the set that the source begins with is written, of all its programs or of those of
--- the walk alone, and the status is that of the verdict drawn in it
-pub record HasDrawn (options : DrawOptions) (source : List ℕ) (old new : Option (List ℕ))
+-- the picture of the text's set is written, of all its programs or of those of the walk alone, and
+-- the status is that of the verdict drawn in it
+pub record HasDrawn (options : DrawOptions) (text : List ℕ) (old new : Option (List ℕ))
     (status : ℕ) : Type 0 where
   pub finding : Finding
   pub picture : List ℕ
-  pub draws : Draws options.walk (take MAX_FILE_BYTES source) finding picture
+  pub draws : Draws options.walk text finding picture
   pub written : Appends old new picture
   pub status_is : status ≡ status_of_finding finding
 
--- the chart of a run of the script that one source begins with over the set that another does is
--- written, and the status is that of the run's ending
+-- the chart of a run of this script over this set is written, and the status is that of the run's
+-- ending
 pub record HasCharted (set script : List ℕ) (old new : Option (List ℕ)) (status : ℕ) : Type 0 where
   pub ending : Ending
   pub chart : List ℕ
-  pub charts : Charts (take MAX_FILE_BYTES set) (take MAX_FILE_BYTES script) ending chart
+  pub charts : Charts set script ending chart
   pub written : Appends old new chart
   pub status_is : status ≡ status_of_ending ending
 
@@ -61,13 +64,13 @@ pub record HasRunTexts (options : RunOptions) (set script : List ℕ) (old new :
 -- the set offends, its verdict is written, and the status is the verdict's
 pub record HasRefused (set : List ℕ) (old new : Option (List ℕ)) (status : ℕ) : Type 0 where
   pub printed : List ℕ
-  pub refuses : Refuses set Offending printed
+  pub finds : Finds false set Offending printed
   pub written : Appends old new printed
   pub status_is : status ≡ status_of_finding Offending
 
 -- the set is accepted
 abbrev pub IsAccepted : List ℕ → Type 0
-IsAccepted set = (reason : Reason) × (printed : List ℕ) × Refuses set (Accepted reason) printed
+IsAccepted text = (set : Set) × Accepts text set
 
 -- a set that offends is refused, and over another the script is run
 abbrev pub HasRunJudged : RunOptions → List ℕ → List ℕ → Option (List ℕ) → Option (List ℕ) → ℕ
@@ -80,28 +83,50 @@ abbrev pub options_of : RunFlags → RunOptions
 options_of flags = record { owed = flags.owed }
 
 -- the script is run over the set, which is judged first where the flags ask for that
-abbrev pub HasRunAs : RunFlags → List ℕ → List ℕ → Option (List ℕ) → Option (List ℕ) → ℕ → Type 0
-HasRunAs flags set script old new status = MatchBool flags.checked
+abbrev pub HasRun : RunFlags → List ℕ → List ℕ → Option (List ℕ) → Option (List ℕ) → ℕ → Type 0
+HasRun flags set script old new status = MatchBool flags.checked
     (HasRunJudged (options_of flags) set script old new status)
     (HasRunTexts (options_of flags) set script old new status)
-
--- the same of the texts that two sources begin with
-abbrev pub HasRun : RunFlags → List ℕ → List ℕ → Option (List ℕ) → Option (List ℕ) → ℕ → Type 0
-HasRun flags set script old new status =
-    HasRunAs flags (take MAX_FILE_BYTES set) (take MAX_FILE_BYTES script) old new status
 
 -- the same of the two parts of an input
 pub record HasRunInput (flags : RunFlags) (input : List ℕ) (old new : Option (List ℕ))
     (status : ℕ) : Type 0 where
   pub set : List ℕ
   pub script : List ℕ
-  pub cut : IsCut (take MAX_INPUT_BYTES input) set script
-  pub run : HasRunAs flags set script old new status
+  pub cut : IsCut input set script
+  pub run : HasRun flags set script old new status
 
--- a random script for the set that the source begins with is written, and the status is 0
-pub record HasSampled (cycle : Bool) (source : List ℕ) (old new : Option (List ℕ))
+-- the lines of a run of this script over this set, and over stores whose keepers have these terms,
+-- are written, and the status is that of its ending
+pub record HasRerunTexts {K : Type 0} (terms : Terms K) (options : RunOptions)
+    (set script : List ℕ) (old new : Option (List ℕ)) (status : ℕ) : Type 0 where
+  pub chains : Set
+  pub is_set : IsSet chains
+  pub spelled : set ≡ text_of chains
+  pub ending : Ending
+  pub printed : List ℕ
+  pub reruns : Reruns terms chains script options.owed ending printed
+  pub written : Appends old new printed
+  pub status_is : status ≡ status_of_ending ending
+
+-- a set that offends is refused, and over another the script is run
+abbrev pub HasRerunJudged : {K : Type 0} → Terms K → RunOptions → List ℕ → List ℕ
+    → Option (List ℕ) → Option (List ℕ) → ℕ → Type 0
+HasRerunJudged terms options set script old new status =
+    HasRefused set old new status
+    ⊎ (IsAccepted set × HasRerunTexts terms options set script old new status)
+
+-- the script is run over the set, which is judged first where the flags ask for that
+abbrev pub HasRerun : {K : Type 0} → Terms K → RunFlags → List ℕ → List ℕ → Option (List ℕ)
+    → Option (List ℕ) → ℕ → Type 0
+HasRerun terms flags set script old new status = MatchBool flags.checked
+    (HasRerunJudged terms (options_of flags) set script old new status)
+    (HasRerunTexts terms (options_of flags) set script old new status)
+
+-- a random script for the text's set is written, and the status is 0
+pub record HasSampled (cycle : Bool) (text : List ℕ) (old new : Option (List ℕ))
     (status : ℕ) : Type 0 where
   pub script : List ℕ
-  pub sample : IsSample cycle (take MAX_FILE_BYTES source) script
+  pub sample : IsSample cycle text script
   pub written : Appends old new script
   pub status_is : status ≡ 0

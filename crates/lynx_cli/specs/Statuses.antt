@@ -1,13 +1,13 @@
 -- The exit statuses.
 use Rattle.std.specs.Prelude.{ℕ, Bool, false, Result, Ok, Err}
 use Rattle.lynx_cli.specs.declared.fault.Fault.{Fault}
-use Rattle.lynx_cli.specs.declared.fault.Fault.TheVariants.{Ask, Command, NoSeparator, Unread, Run, Sample, Serve, Store}
+use Rattle.lynx_cli.specs.declared.fault.Fault.TheVariants.{Ask, Command, Memory, NoSeparator, Sample, Script, Serve, Set, Store, Unread, Write}
 use Rattle.lynx_ask.specs.declared.fault.AskFault.{AskFault}
 use Rattle.lynx_ask.specs.declared.fault.AskFault.TheVariants.{Line}
 use Rattle.lynx_sample.specs.declared.fault.SampleFault.{SampleFault}
 use Rattle.lynx_sample.specs.declared.fault.SampleFault.TheVariants.{NoCycle, TooLong, Run as Stopped}
 use Rattle.lynx_report.specs.declared.run.RunFault.{RunFault}
-use Rattle.lynx_report.specs.declared.run.RunFault.TheVariants.{Set as SetFault, Script as ScriptFault, Write, Memory}
+use Rattle.lynx_report.specs.declared.run.RunFault.TheVariants as run
 use Rattle.lynx_report.specs.declared.run.Ending.{Ending}
 use Rattle.lynx_report.specs.declared.run.Ending.TheVariants.{Ordered, Cyclic}
 use Rattle.lynx_report.specs.declared.verdict.Finding.{Finding}
@@ -20,10 +20,10 @@ status_of_asking fault = 4
 
 -- of a run, a check or a picture: 2 for a text, 3 for want of memory, 4 for what can't be written
 abbrev pub status_of_run : RunFault → ℕ
-status_of_run (SetFault fault) = 2
-status_of_run (ScriptFault fault) = 2
-status_of_run Write = 4
-status_of_run Memory = 3
+status_of_run (run.Set fault) = 2
+status_of_run (run.Script fault) = 2
+status_of_run run.Write = 4
+status_of_run run.Memory = 3
 
 -- of making a script: 1 where no run ended with a cycle, 2 where the script would be too long, and
 -- else as of a run
@@ -37,11 +37,14 @@ abbrev pub status_of : Fault → ℕ
 status_of (Command fault) = 2
 status_of NoSeparator = 2
 status_of (Unread name) = 4
-status_of (Run fault) = status_of_run fault
+status_of (Set fault) = 2
+status_of (Script fault) = 2
 status_of (Store fault) = 4
 status_of (Serve fault) = 4
 status_of (Ask fault) = status_of_asking fault
 status_of (Sample fault) = status_of_sampling fault
+status_of Write = 4
+status_of Memory = 3
 
 -- of a check and of a picture: 0 where the set is accepted, 1 where it offends
 abbrev pub status_of_finding : Finding → ℕ
@@ -55,5 +58,5 @@ status_of_ending Cyclic = 1
 
 -- what a job ends with, after its output was written to its end, or could not be
 abbrev pub finished_as : Result ℕ Fault → Bool → Result ℕ Fault
-finished_as (Ok status) false = Err (Run Write)
+finished_as (Ok status) false = Err Write
 finished_as done flushed = done

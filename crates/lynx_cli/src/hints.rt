@@ -6,7 +6,6 @@ use crate::job::INPUT;
 use crate::shown::Shown;
 use lynx_hints::{Part, hint, separator_hint};
 use lynx_lex::TextFault;
-use lynx_report::RunFault;
 use lynx_text::parse;
 use std::alloc::Global;
 use std::io::Read;
@@ -75,9 +74,9 @@ impl Hints {
         script: Named<'_>,
         fault: TextFault,
     ) {
-        let set = parse(alloc, set.text).ok();
-        let part = Part::Script { set: set.as_ref() };
-        self.note_fault(alloc, script, part, fault);
+        if let Ok(set) = parse(alloc, set.text) {
+            self.note_fault(alloc, script, Part::Script(&set), fault);
+        }
     }
 
     /// Notes what a job came to that read a set.
@@ -87,7 +86,7 @@ impl Hints {
         set: Named<'_>,
         done: &Result<T, Fault<'_>>,
     ) {
-        if let Err(Fault::Run(RunFault::Set(fault))) = done {
+        if let Err(Fault::Set(fault)) = done {
             if self.is_wanted {
                 self.note_fault(alloc, set, Part::Set, *fault);
             }
@@ -103,7 +102,7 @@ impl Hints {
         done: &Result<T, Fault<'_>>,
     ) {
         self.note_set(alloc, set, done);
-        if let Err(Fault::Run(RunFault::Script(fault))) = done {
+        if let Err(Fault::Script(fault)) = done {
             if self.is_wanted {
                 self.note_script_fault(alloc, set, script, *fault);
             }

@@ -59,6 +59,14 @@ pub enum Job<'a> {
         script: &'a str,
         flags: RunFlags,
     },
+    /// Run the script of the second file over the set of the first, and over the stores of the
+    /// set's servers in the folder.
+    RunStores {
+        set: &'a str,
+        script: &'a str,
+        folder: &'a str,
+        flags: RunFlags,
+    },
     /// Run the script of standard input over the set that stands before it.
     RunInput {
         flags: RunFlags,
@@ -91,6 +99,9 @@ pub enum CommandFault {
     NoScript,
     #[error("one script too many")]
     ScriptTooMany,
+    /// What standard input runs, runs in memory alone.
+    #[error("--stores wants SET and SCRIPT as files")]
+    StoresOfInput,
     /// The programs of a walk are those of a set, and not of a run.
     #[error("--walk draws no run")]
     WalkOfRun,
@@ -106,18 +117,28 @@ pub enum CommandFault {
 pub const INPUT: &str = "-";
 
 /// What `run` and its words ask for: `-` alone is standard input, and any other set wants a script.
+/// Stores are those of a folder, where one is named, and want files.
 pub(crate) fn job_of_run<'a>(
     set: &'a str,
     script: Option<&'a str>,
+    folder: Option<&'a str>,
     flags: RunFlags,
 ) -> Result<Job<'a>, CommandFault>
-    ensures { RunsAs set.now (option_map (λ own. own.now) script.entry) flags result }
+    ensures { RunsAs set.now (option_map (λ own. own.now) script.entry)
+        (option_map (λ own. own.now) folder.entry) flags result }
 {
-    match script {
-        None if set == INPUT => Ok(Job::RunInput { flags }),
-        None => Err(CommandFault::NoScript),
-        Some(_) if set == INPUT => Err(CommandFault::ScriptTooMany),
-        Some(script) => Ok(Job::Run { set, script, flags }),
+    match (script, folder) {
+        (Some(_), _) if set == INPUT => Err(CommandFault::ScriptTooMany),
+        (None, Some(_)) if set == INPUT => Err(CommandFault::StoresOfInput),
+        (None, None) if set == INPUT => Ok(Job::RunInput { flags }),
+        (None, _) => Err(CommandFault::NoScript),
+        (Some(script), None) => Ok(Job::Run { set, script, flags }),
+        (Some(script), Some(folder)) => Ok(Job::RunStores {
+            set,
+            script,
+            folder,
+            flags,
+        }),
     }
 }
 

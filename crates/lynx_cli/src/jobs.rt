@@ -8,11 +8,11 @@ use crate::job::{INPUT, Job, RunFlags, SampleFlags};
 use crate::reading::text_of;
 use crate::serving::{ask_port, serve_file};
 use crate::source::{InputFault, MAX_INPUT_BYTES, read_all};
-use crate::texts::{
-    DONE, chart_sources, check_source, draw_source, run_input, run_sources, sample_source,
-};
+use crate::stored::{StoresIn, rerun_script};
+use crate::texts::{DONE, chart_script, check_set, draw_set, run_input, run_script, sample_set};
+use lynx_cluster::Host;
 use lynx_keep::Keeper;
-use lynx_report::{CheckOptions, DrawOptions, RunFault};
+use lynx_report::{CheckOptions, DrawOptions};
 use lynx_service::Service;
 use lynx_show::{ShowFault, show_store, upgrade_and_tell};
 use lynx_store_files::Stores;
@@ -21,9 +21,6 @@ use std::alloc::Global;
 use std::io::{BufWriter, IsTerminal, Read, Write};
 use std::net::{Net, TcpListener, TcpStream};
 use std::rt::Files;
-use std::sync::Wait;
-use std::thread::Threads;
-use std::time::Clock;
 use std::{fs, io};
 
 /// Does what the words ask for, and gives the status. Files and streams are those of `host`,
@@ -33,19 +30,12 @@ use std::{fs, io};
 /// fault's line doesn't tell is left in `hints`, where it is wanted.
 pub fn do_job<
     'a,
-    R: Threads
-        + Wait
-        + Clock
-        + Net<Listener = TcpListener, Stream = TcpStream>
-        + Copy
-        + Send
-        + Sync
-        + 'static,
+    R: Host + Net<Listener = TcpListener, Stream = TcpStream>,
     K: Keeper + Send + Drop + 'static,
     S: Stores<K>,
 >(host: &HostRuntime, rt: R, stores: &S, job: Job<'a>, hints: &mut Hints) -> Result<u8, Fault<'a>> {
     let Ok(mut writer) = BufWriter::new(host.alloc(), io::writer(host)) else {
-        return Err(Fault::Run(RunFault::Memory));
+        return Err(Fault::Memory);
     };
     let done = match job {
         Job::Check { set, why } => check_file(host, set, why, hints, &mut writer),
@@ -53,6 +43,15 @@ pub fn do_job<
         Job::Chart { set, script } => chart_files(host, set, script, hints, &mut writer),
         Job::Sample { set, flags } => sample_file(host, set, flags, hints, &mut writer),
         Job::Run { set, script, flags } => run_files(host, set, script, flags, hints, &mut writer),
+        Job::RunStores {
+            set,
+            script,
+            folder,
+            flags,
+        } => {
+            let over = StoresIn { stores, folder };
+            run_over_stores(host, over, set, script, flags, hints, &mut writer)
+        }
         Job::RunInput { flags } => run_standard_input(host, flags, hints, &mut writer),
         Job::Show { store } => show_file(host, store, &mut writer),
         Job::Upgrade { store } => upgrade_file(host, store, &mut writer),
@@ -73,7 +72,7 @@ fn finished<'a>(done: Result<u8, Fault<'a>>, flushed: bool) -> Result<u8, Fault<
     ensures { result ≡ finished_as done.entry flushed }
 {
     match done {
-        Ok(_) if !flushed => Err(Fault::Run(RunFault::Write)),
+        Ok(_) if !flushed => Err(Fault::Write),
         done => done,
     }
 }
@@ -88,7 +87,7 @@ fn check_file<'a, R: Files + AllocGlobal, W: Write>(
 ) -> Result<u8, Fault<'a>> {
     let read = text_of(rt, set)?;
     let text = read.as_slice();
-    let done = check_source(rt.alloc(), set, &mut &*text, CheckOptions { why }, writer);
+    let done = check_set(rt.alloc(), text, CheckOptions { why }, writer);
     hints.note_set(rt.alloc(), Named::new(set, text), &done);
     done
 }
@@ -103,7 +102,7 @@ fn draw_file<'a, R: Files + AllocGlobal, W: Write>(
 ) -> Result<u8, Fault<'a>> {
     let read = text_of(rt, set)?;
     let text = read.as_slice();
-    let done = draw_source(rt.alloc(), set, &mut &*text, DrawOptions { walk }, writer);
+    let done = draw_set(rt.alloc(), text, DrawOptions { walk }, writer);
     hints.note_set(rt.alloc(), Named::new(set, text), &done);
     done
 }
@@ -118,14 +117,7 @@ fn chart_files<'a, R: Files + AllocGlobal, W: Write>(
 ) -> Result<u8, Fault<'a>> {
     let (set_read, script_read) = (text_of(rt, set)?, text_of(rt, script)?);
     let (set_text, script_text) = (set_read.as_slice(), script_read.as_slice());
-    let done = chart_sources(
-        rt.alloc(),
-        set,
-        &mut &*set_text,
-        script,
-        &mut &*script_text,
-        writer,
-    );
+    let done = chart_script(rt.alloc(), set_text, script_text, writer);
     let (set, script) = (Named::new(set, set_text), Named::new(script, script_text));
     hints.note_run(rt.alloc(), set, script, &done);
     done
@@ -141,7 +133,7 @@ fn sample_file<'a, R: Files + AllocGlobal, W: Write>(
 ) -> Result<u8, Fault<'a>> {
     let read = text_of(rt, set)?;
     let text = read.as_slice();
-    let done = sample_source(rt.alloc(), set, &mut &*text, flags, writer);
+    let done = sample_set(rt.alloc(), text, flags, writer);
     hints.note_set(rt.alloc(), Named::new(set, text), &done);
     done
 }
@@ -157,15 +149,25 @@ fn run_files<'a, R: Files + AllocGlobal, W: Write>(
 ) -> Result<u8, Fault<'a>> {
     let (set_read, script_read) = (text_of(rt, set)?, text_of(rt, script)?);
     let (set_text, script_text) = (set_read.as_slice(), script_read.as_slice());
-    let done = run_sources(
-        rt.alloc(),
-        set,
-        &mut &*set_text,
-        script,
-        &mut &*script_text,
-        flags,
-        writer,
-    );
+    let done = run_script(rt.alloc(), set_text, script_text, flags, writer);
+    let (set, script) = (Named::new(set, set_text), Named::new(script, script_text));
+    hints.note_run(rt.alloc(), set, script, &done);
+    done
+}
+
+/// Runs the script of a file over the set of another, which is read first, and over stores.
+fn run_over_stores<'a, R: Files + AllocGlobal, K: Keeper + Drop, S: Stores<K>, W: Write>(
+    rt: &R,
+    over: StoresIn<'_, S>,
+    set: &'a str,
+    script: &'a str,
+    flags: RunFlags,
+    hints: &mut Hints,
+    writer: &mut W,
+) -> Result<u8, Fault<'a>> {
+    let (set_read, script_read) = (text_of(rt, set)?, text_of(rt, script)?);
+    let (set_text, script_text) = (set_read.as_slice(), script_read.as_slice());
+    let done = rerun_script(rt.alloc(), over, set_text, script_text, flags, writer);
     let (set, script) = (Named::new(set, set_text), Named::new(script, script_text));
     hints.note_run(rt.alloc(), set, script, &done);
     done
@@ -183,7 +185,7 @@ fn run_standard_input<W: Write>(
         Err(fault) => return Err(Fault::of_reading(INPUT, fault)),
     };
     let input = read.as_slice();
-    let done = run_input(rt.alloc(), INPUT, &mut &*input, flags, writer);
+    let done = run_input(rt.alloc(), input, flags, writer);
     hints.note_input(rt.alloc(), input, &done);
     done
 }
@@ -201,7 +203,7 @@ fn has_bytes<R: Files>(rt: &R, name: &str) -> Option<bool> {
 fn has_log<'a, R: Files>(rt: &R, alloc: Global, store: &'a str) -> Result<bool, Fault<'a>> {
     match format!(in alloc; "{store}-wal") {
         Ok(log) => Ok(has_bytes(rt, log.as_str()) == Some(true)),
-        Err(_) => Err(Fault::Run(RunFault::Memory)),
+        Err(_) => Err(Fault::Memory),
     }
 }
 

@@ -9,7 +9,7 @@ pub use job::{CommandFault, INPUT, Job, RunFlags, SampleFlags};
 pub use jobs::do_job;
 pub use parser::{command, job_of, wants_hints};
 pub use source::{InputFault, MAX_FILE_BYTES, MAX_INPUT_BYTES, read_all};
-pub use texts::{chart_sources, check_source, draw_source, run_input, run_sources, sample_source};
+pub use texts::{chart_script, check_set, draw_set, run_input, run_script, sample_set};
 
 pub mod fault;
 pub mod hints;
@@ -22,4 +22,5 @@ mod reading;
 mod serving;
 pub mod shown;
 pub mod source;
+mod stored;
 pub mod texts;

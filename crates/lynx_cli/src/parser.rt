@@ -31,6 +31,8 @@ const CHECKED: &str = "checked";
 
 const OWED: &str = "owed";
 
+const STORES: &str = "stores";
+
 /// The options of a random script.
 const SEED: &str = "seed";
 
@@ -139,6 +141,17 @@ fn sample_command<'a>(alloc: Global) -> Result<Command<'a>, AllocError> {
         .arg(hints_flag(alloc))
 }
 
+/// The folder of a run over stores.
+fn stores_folder<'a>(alloc: Global) -> Arg<'a> {
+    Arg::new(alloc, STORES)
+        .long(STORES)
+        .value_name("DIR")
+        .action(ArgAction::Set)
+        .help(
+            "Run over the stores of the folder, server-0.lynx and so on; those that aren't there are made",
+        )
+}
+
 fn run_command<'a>(alloc: Global) -> Result<Command<'a>, AllocError> {
     let set = Arg::new(alloc, "SET").required(true).help(
         "The file of the set's text, or - alone for standard input: a set text, a line --, a script",
@@ -146,7 +159,7 @@ fn run_command<'a>(alloc: Global) -> Result<Command<'a>, AllocError> {
     Command::new(alloc, "run")
         .about("Run a script over a set of chain programs")
         .after_help(
-            "The set isn't checked unless --checked is given: an offending one can end with a cycle, status 1.\nExample: lynx run payment.set payment.script",
+            "The set isn't checked unless --checked is given: an offending one can end with a cycle, status 1.\nWith --stores a run goes on over what runs before it kept, and its last lines tell of all of it.\nExample: lynx run payment.set payment.script",
         )
         .arg(set)?
         .arg(script_file(alloc))?
@@ -160,6 +173,7 @@ fn run_command<'a>(alloc: Global) -> Result<Command<'a>, AllocError> {
             OWED,
             "Tell behind the last line each hop that a chain still owes",
         ))?
+        .arg(stores_folder(alloc))?
         .arg(hints_flag(alloc))
 }
 
@@ -322,7 +336,12 @@ pub fn job_of<'a>(matches: &ArgMatches<'a>) -> Result<Job<'a>, CommandFault>
             set,
             flags: sample_flags_of(words),
         }),
-        "run" => job_of_run(set, words.get_str(SCRIPT), flags_of(words)),
+        "run" => job_of_run(
+            set,
+            words.get_str(SCRIPT),
+            words.get_str(STORES),
+            flags_of(words),
+        ),
         "show" => Ok(Job::Show {
             store: words.get_str("STORE").unwrap_or(INPUT),
         }),

@@ -1,4 +1,11 @@
 //! Serving clients, and asking a service.
+ghost use Rattle.std.specs.Prelude.{◌≡◌, IfErr, IfOk, IfNone, IfSome};
+ghost use Rattle.lynx_set.specs.Rules.{IsSet};
+ghost use Rattle.lynx_set.specs.Text.{text_of};
+ghost use Rattle.lynx_report.specs.Refusals.{Accepts};
+ghost use Rattle.lynx_cli.specs.Done.{HasRefused};
+ghost use Rattle.lynx_cli.specs.Stopped.{StopsJudging};
+
 use crate::fault::Fault;
 use crate::hints::{Hints, Named};
 use crate::job::INPUT;
@@ -6,45 +13,43 @@ use crate::reading::text_of;
 use crate::source::InputFault;
 use crate::texts::{DONE, OFFENDING};
 use lynx_ask::{AskFault, ask};
+use lynx_cluster::Host;
 use lynx_keep::Keeper;
-use lynx_lex::FaultKind;
 use lynx_order::Explained;
-use lynx_report::{CheckOptions, Finding, RunFault, check_text};
+use lynx_report::read_set;
 use lynx_service::{Progress, Service, serve_stores};
 use lynx_set::ChainSet;
 use lynx_store_files::Stores;
-use lynx_text::parse;
 use std::alloc::Global;
 use std::io::{BufReader, Write};
 use std::net::{Ipv4Addr, Net, TcpListener, TcpStream};
-use std::sync::Wait;
-use std::thread::Threads;
-use std::time::Clock;
 
 /// The set that a text spells.
-fn set_of<'a>(alloc: Global, text: &[u8]) -> Result<ChainSet, Fault<'a>> {
-    match parse(alloc, text) {
+fn set_of<'a>(alloc: Global, text: &[u8]) -> Result<ChainSet, Fault<'a>>
+    ensures { IfOk result (λ set. IsSet set × (text.now ≡ text_of set)) }
+{
+    match read_set(alloc, text) {
         Ok(set) => Ok(set),
-        Err(fault) if fault.kind == FaultKind::Memory => Err(Fault::Run(RunFault::Memory)),
-        Err(fault) => Err(Fault::Run(RunFault::Set(fault))),
+        Err(fault) => Err(Fault::of_run(fault)),
     }
 }
 
-/// The set of a text, if it is accepted. None where it offends, and then the verdict is written as
-/// by a check.
+/// The set that a text spells, if it is accepted. None where it offends, and then the verdict is
+/// written as by a check.
 fn accepted_set<'a, W: Write>(
     alloc: Global,
     text: &[u8],
     writer: &mut W,
-) -> Result<Option<ChainSet>, Fault<'a>> {
-    let mut verdict = Vec::new(alloc);
-    match check_text(alloc, text, CheckOptions::default(), &mut verdict) {
-        Ok(Finding::Accepted(_)) => Ok(Some(set_of(alloc, text)?)),
-        Ok(Finding::Offending) => match lynx_lines::write_bytes(writer, verdict.as_slice()) {
-            Ok(()) => Ok(None),
-            Err(_) => Err(Fault::Run(RunFault::Write)),
-        },
-        Err(fault) => Err(Fault::Run(fault)),
+) -> Result<Option<ChainSet>, Fault<'a>>
+    ensures accepted { IfOk result (λ judged. IfSome judged (Accepts text.now)) }
+    ensures offending { IfOk result (λ judged. IfNone judged (HasRefused text.now
+        (W.contents writer.old) (W.contents writer.new) OFFENDING)) }
+    ensures err { IfErr result (StopsJudging text.now (W.contents writer.old)
+        (W.contents writer.new)) }
+{
+    match lynx_report::accepted_set(alloc, text, writer) {
+        Ok(judged) => Ok(judged),
+        Err(fault) => Err(Fault::of_run(fault)),
     }
 }
 
@@ -52,14 +57,7 @@ fn accepted_set<'a, W: Write>(
 /// refused as by a check, and nothing is opened.
 pub(crate) fn serve_file<
     'a,
-    R: Threads
-        + Wait
-        + Clock
-        + Net<Listener = TcpListener, Stream = TcpStream>
-        + Copy
-        + Send
-        + Sync
-        + 'static,
+    R: Host + Net<Listener = TcpListener, Stream = TcpStream>,
     K: Keeper + Send + Drop + 'static,
     S: Stores<K>,
     W: Write,
@@ -105,7 +103,7 @@ pub(crate) fn ask_port<'a, R: Net<Listener = TcpListener, Stream = TcpStream>, W
         return Err(Fault::of_asking(AskFault::Connect));
     };
     let Ok(lines) = BufReader::new(host.alloc(), host.reader()) else {
-        return Err(Fault::Run(RunFault::Memory));
+        return Err(Fault::Memory);
     };
     match ask(host.alloc(), &set, lines, &mut stream, writer) {
         Ok(()) => Ok(DONE),

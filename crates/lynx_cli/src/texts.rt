@@ -1,21 +1,22 @@
-//! The work of each job, from any source to any writer.
-ghost use Rattle.std.specs.Prelude.{◌≡◌, IfOk, IfErr, IfSome, Ok, Err, take};
-ghost use Rattle.lynx_cli.specs.declared.source.TheConstants.{MAX_FILE_BYTES};
+//! The work of each job, from its texts to any writer.
+ghost use Rattle.std.specs.Prelude.{◌≡◌, IfOk, IfErr};
+ghost use Rattle.lynx_set.specs.Rules.{IsSet};
+ghost use Rattle.lynx_set.specs.Text.{text_of};
 ghost use Rattle.lynx_cli.specs.Statuses.{status_of_ending, status_of_finding};
-ghost use Rattle.lynx_cli.specs.Done.{HasCharted, HasChecked, HasDrawn, HasRun, HasRunAs, HasRunInput, HasRunJudged, HasRunTexts, HasSampled};
-ghost use Rattle.lynx_cli.specs.Stopped.{StopsCharting, StopsChecking, StopsDrawing, StopsReading, StopsRun, StopsRunAs, StopsRunInput, StopsRunJudged, StopsRunTexts, StopsSampling};
+ghost use Rattle.lynx_cli.specs.Done.{HasCharted, HasChecked, HasDrawn, HasRun, HasRunInput, HasRunJudged, HasRunTexts, HasSampled};
+ghost use Rattle.lynx_cli.specs.Stopped.{StopsCharting, StopsChecking, StopsDrawing, StopsRun, StopsRunInput, StopsRunJudged, StopsRunTexts, StopsSampling};
 
 use crate::fault::Fault;
 use crate::input::split_input;
 use crate::job::{RunFlags, SampleFlags};
-use crate::source::{MAX_FILE_BYTES, MAX_INPUT_BYTES, read_all};
 use lynx_report::{
-    CheckOptions, DrawOptions, Ending, Finding, RunOptions, chart_texts, check_text, draw_text,
-    refuse_text, run_texts,
+    CheckOptions, DrawOptions, Ending, Finding, RunOptions, accepted_set, chart_texts, check_text,
+    draw_text, run_over_set, run_texts,
 };
 use lynx_sample::{SampleOptions, sample_text};
+use lynx_set::ChainSet;
 use std::alloc::Global;
-use std::io::{Read, Write};
+use std::io::Write;
 
 /// The status of an accepted set, of a run that an order explains, and of a listing.
 pub(crate) const DONE: u8 = 0;
@@ -34,7 +35,7 @@ fn status_of_finding(finding: Finding) -> u8
 }
 
 /// The status of a run.
-fn status_of_ending(ending: Ending) -> u8
+pub(crate) fn status_of_ending(ending: Ending) -> u8
     ensures { result ≡ status_of_ending ending }
 {
     match ending {
@@ -43,135 +44,125 @@ fn status_of_ending(ending: Ending) -> u8
     }
 }
 
-/// Reads the source of this name, as far as a text may reach.
-pub(crate) fn read_text<'a, R: Read>(
+/// Judges the set of a text, writes the verdict with what the options ask for behind it, and gives
+/// its status.
+pub fn check_set<'a, W: Write>(
     alloc: Global,
-    name: &'a str,
-    source: &mut R,
-) -> Result<Vec<u8>, Fault<'a>>
-    ensures ok { IfOk result (λ text. IfSome (R.remaining source.old) (λ bytes.
-        text.items ≡ take MAX_FILE_BYTES bytes)) }
-    ensures err { IfErr result (StopsReading name.now) }
-{
-    match read_all(alloc, source, MAX_FILE_BYTES) {
-        Ok(text) => Ok(text),
-        Err(fault) => Err(Fault::of_reading(name, fault)),
-    }
-}
-
-/// Judges the set of a source, writes the verdict with what the options ask for behind it, and
-/// gives its status.
-pub fn check_source<'a, R: Read, W: Write>(
-    alloc: Global,
-    name: &'a str,
-    source: &mut R,
+    text: &[u8],
     options: CheckOptions,
     writer: &mut W,
 ) -> Result<u8, Fault<'a>>
-    ensures ok { IfOk result (λ status. IfSome (R.remaining source.old) (λ bytes.
-        HasChecked options bytes (W.contents writer.old) (W.contents writer.new) status)) }
-    ensures err { IfErr result (StopsChecking options (R.remaining source.old) name.now
-        (W.contents writer.old) (W.contents writer.new)) }
+    ensures ok { IfOk result (HasChecked options text.now (W.contents writer.old)
+        (W.contents writer.new)) }
+    ensures err { IfErr result (StopsChecking options text.now (W.contents writer.old)
+        (W.contents writer.new)) }
 {
-    let text = read_text(alloc, name, source)?;
-    match check_text(alloc, text.as_slice(), options, writer) {
+    match check_text(alloc, text, options, writer) {
         Ok(finding) => Ok(status_of_finding(finding)),
-        Err(fault) => Err(Fault::Run(fault)),
+        Err(fault) => Err(Fault::of_run(fault)),
     }
 }
 
-/// Judges the set of a source, writes its picture and gives the status of the verdict.
-pub fn draw_source<'a, R: Read, W: Write>(
+/// Judges the set of a text, writes its picture and gives the status of the verdict.
+pub fn draw_set<'a, W: Write>(
     alloc: Global,
-    name: &'a str,
-    source: &mut R,
+    text: &[u8],
     options: DrawOptions,
     writer: &mut W,
 ) -> Result<u8, Fault<'a>>
-    ensures ok { IfOk result (λ status. IfSome (R.remaining source.old) (λ bytes.
-        HasDrawn options bytes (W.contents writer.old) (W.contents writer.new) status)) }
-    ensures err { IfErr result (StopsDrawing options (R.remaining source.old) name.now
-        (W.contents writer.old) (W.contents writer.new)) }
+    ensures ok { IfOk result (HasDrawn options text.now (W.contents writer.old)
+        (W.contents writer.new)) }
+    ensures err { IfErr result (StopsDrawing options text.now (W.contents writer.old)
+        (W.contents writer.new)) }
 {
-    let text = read_text(alloc, name, source)?;
-    match draw_text(alloc, text.as_slice(), options, writer) {
+    match draw_text(alloc, text, options, writer) {
         Ok(finding) => Ok(status_of_finding(finding)),
-        Err(fault) => Err(Fault::Run(fault)),
+        Err(fault) => Err(Fault::of_run(fault)),
     }
 }
 
-/// Draws a run of the script of a source over the set of another, which is read first, and gives
-/// the run's status.
-pub fn chart_sources<'a, R: Read, S: Read, W: Write>(
+/// Draws a run of a script over a set, and gives the run's status.
+pub fn chart_script<'a, W: Write>(
     alloc: Global,
-    set_name: &'a str,
-    set: &mut R,
-    script_name: &'a str,
-    script: &mut S,
+    set: &[u8],
+    script: &[u8],
     writer: &mut W,
 ) -> Result<u8, Fault<'a>>
-    ensures ok { IfOk result (λ status. IfSome (R.remaining set.old) (λ set_bytes.
-        IfSome (S.remaining script.old) (λ script_bytes.
-        HasCharted set_bytes script_bytes (W.contents writer.old) (W.contents writer.new)
-        status))) }
-    ensures err { IfErr result (StopsCharting (R.remaining set.old) set_name.now
-        (S.remaining script.old) script_name.now (W.contents writer.old) (W.contents writer.new)) }
+    ensures ok { IfOk result (HasCharted set.now script.now (W.contents writer.old)
+        (W.contents writer.new)) }
+    ensures err { IfErr result (StopsCharting set.now script.now (W.contents writer.old)
+        (W.contents writer.new)) }
 {
-    let set = read_text(alloc, set_name, set)?;
-    let script = read_text(alloc, script_name, script)?;
-    match chart_texts(alloc, set.as_slice(), script.as_slice(), writer) {
+    match chart_texts(alloc, set, script, writer) {
         Ok(ending) => Ok(status_of_ending(ending)),
-        Err(fault) => Err(Fault::Run(fault)),
+        Err(fault) => Err(Fault::of_run(fault)),
     }
 }
 
-/// Makes a random script for the set of a source, and writes it.
-pub fn sample_source<'a, R: Read, W: Write>(
+/// Makes a random script for the set of a text, and writes it.
+pub fn sample_set<'a, W: Write>(
     alloc: Global,
-    name: &'a str,
-    source: &mut R,
+    text: &[u8],
     flags: SampleFlags,
     writer: &mut W,
 ) -> Result<u8, Fault<'a>>
-    ensures ok { IfOk result (λ status. IfSome (R.remaining source.old) (λ bytes.
-        HasSampled flags.cycle bytes (W.contents writer.old) (W.contents writer.new) status)) }
-    ensures err { IfErr result (StopsSampling flags.cycle (R.remaining source.old) name.now
-        (W.contents writer.old) (W.contents writer.new)) }
+    ensures ok { IfOk result (HasSampled flags.cycle text.now (W.contents writer.old)
+        (W.contents writer.new)) }
+    ensures err { IfErr result (StopsSampling flags.cycle text.now (W.contents writer.old)
+        (W.contents writer.new)) }
 {
-    let text = read_text(alloc, name, source)?;
     let options = SampleOptions {
         seed: flags.seed,
         begins: flags.begins,
         cycle: flags.cycle,
     };
-    match sample_text(alloc, text.as_slice(), options, writer) {
+    match sample_text(alloc, text, options, writer) {
         Ok(()) => Ok(DONE),
         Err(fault) => Err(Fault::of_sampling(fault)),
     }
 }
 
 /// Runs a script over a set, writes its lines and gives the status.
-fn run_both<'a, W: Write>(
+fn run_unjudged<'a, W: Write>(
     alloc: Global,
     set: &[u8],
     script: &[u8],
     options: RunOptions,
     writer: &mut W,
 ) -> Result<u8, Fault<'a>>
-    ensures ok { IfOk result (λ status.
-        HasRunTexts options set.now script.now (W.contents writer.old) (W.contents writer.new)
-        status) }
-    ensures err { IfErr result (StopsRunTexts options set.now script.now
-        (W.contents writer.old) (W.contents writer.new)) }
+    ensures ok { IfOk result (HasRunTexts options set.now script.now (W.contents writer.old)
+        (W.contents writer.new)) }
+    ensures err { IfErr result (StopsRunTexts options set.now script.now (W.contents writer.old)
+        (W.contents writer.new)) }
 {
     match run_texts(alloc, set, script, options, writer) {
         Ok(ending) => Ok(status_of_ending(ending)),
-        Err(fault) => Err(Fault::Run(fault)),
+        Err(fault) => Err(Fault::of_run(fault)),
+    }
+}
+
+/// The same over a set that is read already.
+fn run_read<'a, W: Write>(
+    alloc: Global,
+    set: ChainSet,
+    script: &[u8],
+    options: RunOptions,
+    writer: &mut W,
+) -> Result<u8, Fault<'a>>
+    requires { IsSet set }
+    ensures ok { IfOk result (HasRunTexts options (text_of set) script.now (W.contents writer.old)
+        (W.contents writer.new)) }
+    ensures err { IfErr result (StopsRunTexts options (text_of set) script.now
+        (W.contents writer.old) (W.contents writer.new)) }
+{
+    match run_over_set(alloc, set, script, options, writer) {
+        Ok(ending) => Ok(status_of_ending(ending)),
+        Err(fault) => Err(Fault::of_run(fault)),
     }
 }
 
 /// Runs a script over a set that is accepted. One that offends is refused: its verdict is written,
-/// and the script isn't read.
+/// and the script isn't judged.
 fn run_judged<'a, W: Write>(
     alloc: Global,
     set: &[u8],
@@ -179,81 +170,53 @@ fn run_judged<'a, W: Write>(
     options: RunOptions,
     writer: &mut W,
 ) -> Result<u8, Fault<'a>>
-    ensures ok { IfOk result (λ status.
-        HasRunJudged options set.now script.now (W.contents writer.old) (W.contents writer.new)
-        status) }
-    ensures err { IfErr result (StopsRunJudged options set.now script.now
-        (W.contents writer.old) (W.contents writer.new)) }
+    ensures ok { IfOk result (HasRunJudged options set.now script.now (W.contents writer.old)
+        (W.contents writer.new)) }
+    ensures err { IfErr result (StopsRunJudged options set.now script.now (W.contents writer.old)
+        (W.contents writer.new)) }
 {
-    match refuse_text(alloc, set, writer) {
-        Ok(Finding::Offending) => Ok(OFFENDING),
-        Ok(Finding::Accepted(_)) => run_both(alloc, set, script, options, writer),
-        Err(fault) => Err(Fault::Run(fault)),
+    match accepted_set(alloc, set, writer) {
+        Ok(Some(accepted)) => run_read(alloc, accepted, script, options, writer),
+        Ok(None) => Ok(OFFENDING),
+        Err(fault) => Err(Fault::of_run(fault)),
     }
 }
 
 /// Runs a script over a set as the flags ask for.
-fn run_as<'a, W: Write>(
+pub fn run_script<'a, W: Write>(
     alloc: Global,
     set: &[u8],
     script: &[u8],
     flags: RunFlags,
     writer: &mut W,
 ) -> Result<u8, Fault<'a>>
-    ensures ok { IfOk result (λ status.
-        HasRunAs flags set.now script.now (W.contents writer.old) (W.contents writer.new) status) }
-    ensures err { IfErr result (StopsRunAs flags set.now script.now
-        (W.contents writer.old) (W.contents writer.new)) }
+    ensures ok { IfOk result (HasRun flags set.now script.now (W.contents writer.old)
+        (W.contents writer.new)) }
+    ensures err { IfErr result (StopsRun flags set.now script.now (W.contents writer.old)
+        (W.contents writer.new)) }
 {
     let options = RunOptions { owed: flags.owed };
     if flags.checked {
         run_judged(alloc, set, script, options, writer)
     } else {
-        run_both(alloc, set, script, options, writer)
+        run_unjudged(alloc, set, script, options, writer)
     }
 }
 
-/// Runs the script of a source over the set of another, which is read first.
-pub fn run_sources<'a, R: Read, S: Read, W: Write>(
-    alloc: Global,
-    set_name: &'a str,
-    set: &mut R,
-    script_name: &'a str,
-    script: &mut S,
-    flags: RunFlags,
-    writer: &mut W,
-) -> Result<u8, Fault<'a>>
-    ensures ok { IfOk result (λ status. IfSome (R.remaining set.old) (λ set_bytes.
-        IfSome (S.remaining script.old) (λ script_bytes.
-        HasRun flags set_bytes script_bytes (W.contents writer.old) (W.contents writer.new)
-        status))) }
-    ensures err { IfErr result (StopsRun flags (R.remaining set.old) set_name.now
-        (S.remaining script.old) script_name.now (W.contents writer.old) (W.contents writer.new)) }
-{
-    let set = read_text(alloc, set_name, set)?;
-    let script = read_text(alloc, script_name, script)?;
-    run_as(alloc, set.as_slice(), script.as_slice(), flags, writer)
-}
-
 /// Runs the script of an input over the set that stands before it.
-pub fn run_input<'a, R: Read, W: Write>(
+pub fn run_input<'a, W: Write>(
     alloc: Global,
-    name: &'a str,
-    source: &mut R,
+    input: &[u8],
     flags: RunFlags,
     writer: &mut W,
 ) -> Result<u8, Fault<'a>>
-    ensures ok { IfOk result (λ status. IfSome (R.remaining source.old) (λ bytes.
-        HasRunInput flags bytes (W.contents writer.old) (W.contents writer.new) status)) }
-    ensures err { IfErr result (StopsRunInput flags (R.remaining source.old) name.now
-        (W.contents writer.old) (W.contents writer.new)) }
+    ensures ok { IfOk result (HasRunInput flags input.now (W.contents writer.old)
+        (W.contents writer.new)) }
+    ensures err { IfErr result (StopsRunInput flags input.now (W.contents writer.old)
+        (W.contents writer.new)) }
 {
-    let input = match read_all(alloc, source, MAX_INPUT_BYTES) {
-        Ok(input) => input,
-        Err(fault) => return Err(Fault::of_reading(name, fault)),
-    };
-    let Some((set, script)) = split_input(input.as_slice()) else {
+    let Some((set, script)) = split_input(input) else {
         return Err(Fault::NoSeparator);
     };
-    run_as(alloc, set, script, flags, writer)
+    run_script(alloc, set, script, flags, writer)
 }

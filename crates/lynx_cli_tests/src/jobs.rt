@@ -1,6 +1,7 @@
-//! Each job from sources in memory, with ample memory.
+//! Each job from texts in memory, with ample memory.
 use lynx_cli::{
-    Job, RunFlags, SampleFlags, check_source, command, draw_source, job_of, run_input, run_sources,
+    CommandFault, Job, RunFlags, SampleFlags, check_set, command, draw_set, job_of, run_input,
+    run_script,
 };
 use lynx_fixtures::rows::PAYMENT;
 use lynx_fixtures::texts::{CROSSING, PAY_AND_NOTE};
@@ -12,7 +13,7 @@ use std::test::Fail;
 fn status_of_check(alloc: Global, text: &str, why: bool) -> Option<u8> {
     let mut printed = Vec::new(alloc);
     let options = CheckOptions { why };
-    check_source(alloc, "set", &mut text.as_bytes(), options, &mut printed).ok()
+    check_set(alloc, text.as_bytes(), options, &mut printed).ok()
 }
 
 #[test]
@@ -28,7 +29,7 @@ fn a_check_has_the_status_of_its_verdict(rt: HostRuntime) {
 fn status_of_picture(alloc: Global, text: &str) -> Option<u8> {
     let mut picture = Vec::new(alloc);
     let options = DrawOptions::default();
-    draw_source(alloc, "set", &mut text.as_bytes(), options, &mut picture).ok()
+    draw_set(alloc, text.as_bytes(), options, &mut picture).ok()
 }
 
 #[test]
@@ -54,21 +55,13 @@ const BOTH: RunFlags = RunFlags {
 /// in the end.
 fn is_run(alloc: Global, flags: RunFlags) -> bool {
     let mut printed = Vec::new(alloc);
-    let (mut set, mut script) = (PAYMENT.set.as_bytes(), PAYMENT.script.as_bytes());
-    let status = run_sources(
-        alloc,
-        "set",
-        &mut set,
-        "script",
-        &mut script,
-        flags,
-        &mut printed,
-    );
+    let (set, script) = (PAYMENT.set.as_bytes(), PAYMENT.script.as_bytes());
+    let status = run_script(alloc, set, script, flags, &mut printed);
     status.ok() == Some(0) && printed.as_slice() == PAYMENT.printed.as_bytes()
 }
 
 #[test]
-fn two_sources_are_run(rt: HostRuntime) {
+fn two_texts_are_run(rt: HostRuntime) {
     assert!(rt; is_run(rt.alloc(), PLAIN));
     assert!(rt; is_run(rt.alloc(), BOTH));
 }
@@ -76,8 +69,8 @@ fn two_sources_are_run(rt: HostRuntime) {
 /// Whether an input is run that has a set without programs, and no event.
 fn is_input_run(alloc: Global) -> bool {
     let mut printed = Vec::new(alloc);
-    let mut input = b"lynx 1\nservers 1\n--\n".as_slice();
-    run_input(alloc, "-", &mut input, PLAIN, &mut printed).ok() == Some(0)
+    let input = b"lynx 1\nservers 1\n--\n".as_slice();
+    run_input(alloc, input, PLAIN, &mut printed).ok() == Some(0)
         && printed.as_slice() == b"order -\n".as_slice()
 }
 
@@ -86,12 +79,17 @@ fn an_input_is_run(rt: HostRuntime) {
     assert!(rt; is_input_run(rt.alloc()));
 }
 
-/// Whether these words ask for that.
-fn ask_for(alloc: Global, words: &[&str], want: Job) -> Result<bool, Fail> {
+/// Whether these words come to that.
+fn come_to(alloc: Global, words: &[&str], want: Result<Job, CommandFault>) -> Result<bool, Fail> {
     match command(alloc)?.try_get_matches_from(words) {
-        Ok(matches) => Ok(job_of(&matches) == Ok(want)),
+        Ok(matches) => Ok(job_of(&matches) == want),
         Err(_) => Ok(false),
     }
+}
+
+/// Whether these words ask for that.
+fn ask_for(alloc: Global, words: &[&str], want: Job) -> Result<bool, Fail> {
+    come_to(alloc, words, Ok(want))
 }
 
 #[test]
@@ -127,6 +125,23 @@ fn words_ask_for_jobs(rt: HostRuntime) -> Result<(), Fail> {
         script: "b",
     };
     assert!(rt; ask_for(rt.alloc(), &["lynx", "draw", "a", "b"], chart)?);
+    Ok(())
+}
+
+#[test]
+fn a_run_over_stores_is_asked_for_by_its_folder(rt: HostRuntime) -> Result<(), Fail> {
+    let run = Job::RunStores {
+        set: "a",
+        script: "b",
+        folder: "c",
+        flags: PLAIN,
+    };
+    let words = ["lynx", "run", "--stores", "c", "a", "b"];
+    assert!(rt; ask_for(rt.alloc(), &words, run)?);
+    let words = ["lynx", "run", "-", "--stores", "c"];
+    assert!(rt; come_to(rt.alloc(), &words, Err(CommandFault::StoresOfInput))?);
+    let words = ["lynx", "run", "a", "--stores", "c"];
+    assert!(rt; come_to(rt.alloc(), &words, Err(CommandFault::NoScript))?);
     Ok(())
 }
 

@@ -1,0 +1,57 @@
+-- What a run over stores does and prints.
+use Rattle.std.specs.Prelude.{◌≡◌, ℕ, Bool, List, [], ◌++◌, Some, length, map, slice_get}
+use Rattle.std.specs.List.{flat_map}
+use Rattle.lynx_set.specs.Set.{Set}
+use Rattle.lynx_entry.specs.declared.event.Event.{Event}
+use Rattle.lynx_entry.specs.declared.event.Outcome.{Outcome}
+use Rattle.lynx_keep.specs.Kept.{Terms}
+use Rattle.lynx_lex.specs.Lines.{with_feed}
+use Rattle.lynx_lines.specs.Printed.{outcome_text}
+use Rattle.lynx_lines.specs.Scripts.{IsScript, script_of}
+use Rattle.lynx_report.specs.Options.{EndPrintsWith}
+use Rattle.lynx_report.specs.declared.run.Ending.{Ending}
+use Rattle.lynx_server.specs.Opening.{IsOpened}
+use Rattle.lynx_server.specs.Serving.{Serving}
+use Rattle.lynx_weave.specs.Gathering.{IsGathered}
+use Rattle.lynx_world.specs.Worlds.{WorldState}
+use Rattle.lynx_rerun.specs.Events.{ComeTo}
+
+-- one server for each of the set, in order, each opened over what some keeper kept
+pub record AreOpened {K : Type 0} (terms : Terms K) (set : Set)
+    (servers : List (Serving K)) : Type 0 where
+  pub many : length servers ≡ set.servers
+  pub each : (server : ℕ) (here : Serving K) → slice_get servers server ≡ Some here
+      → (keeper : K) × IsOpened terms set server keeper here
+
+-- the keepers of servers
+abbrev pub keepers_of : {K : Type 0} → List (Serving K) → List K
+keepers_of {K} servers = map (λ (here : Serving K). here.keeper) servers
+
+-- a line for each outcome
+abbrev pub lines_of : List Outcome → List ℕ
+lines_of outcomes = flat_map (λ outcome. with_feed (outcome_text outcome)) outcomes
+
+-- the last lines are of the world that the keepers keep together
+pub record EndsAs {K : Type 0} (terms : Terms K) (set : Set) (owed : Bool) (keepers : List K)
+    (ending : Ending) (printed : List ℕ) : Type 0 where
+  pub read : List K
+  pub world : WorldState
+  pub gathered : IsGathered terms set keepers read [] world
+  pub end : EndPrintsWith owed world ending printed
+
+-- What a run of a script prints at servers that were opened over their stores: a line for each
+-- event, of what the server answered that it was for, and the lines of the world that the stores
+-- keep then.
+pub record Reruns {K : Type 0} (terms : Terms K) (set : Set) (script : List ℕ) (owed : Bool)
+    (ending : Ending) (printed : List ℕ) : Type 0 where
+  pub events : List Event
+  pub is_script : IsScript set events
+  pub spelled : script ≡ script_of set events
+  pub opened : List (Serving K)
+  pub are_opened : AreOpened terms set opened
+  pub outcomes : List Outcome
+  pub last : List (Serving K)
+  pub come : ComeTo terms set events outcomes opened last
+  pub end_lines : List ℕ
+  pub ends : EndsAs terms set owed (keepers_of last) ending end_lines
+  pub lines : printed ≡ lines_of outcomes ++ end_lines

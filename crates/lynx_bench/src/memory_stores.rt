@@ -38,6 +38,10 @@ impl Stores<MemoryStoreKeeper> for MemoryStores {
         }
     }
 
+    fn has(&self, _folder: &str, _server: ServerId) -> Result<bool, StoreFault> {
+        Ok(false)
+    }
+
     fn close(&self, _keeper: MemoryStoreKeeper) -> Result<(), StoreFault> {
         Ok(())
     }

@@ -1,4 +1,5 @@
 use crate::keeper::FileKeeper;
+use crate::presence::has_store;
 use crate::stores::Stores;
 use lynx_names::ServerId;
 use lynx_set::ChainSet;
@@ -19,6 +20,14 @@ impl Files {
     pub fn new(rt: HostRuntime) -> Files {
         Files { rt }
     }
+
+    /// The path of a server's store in the folder.
+    fn path(&self, folder: &str, server: ServerId) -> Result<String, StoreFault> {
+        match format!(in self.rt.alloc(); "{folder}/server-{server}.lynx") {
+            Ok(path) => Ok(path),
+            Err(_) => Err(StoreFault::Memory),
+        }
+    }
 }
 
 impl Stores<FileKeeper> for Files {
@@ -28,9 +37,7 @@ impl Stores<FileKeeper> for Files {
         set: &ChainSet,
         server: ServerId,
     ) -> Result<FileKeeper, StoreFault> {
-        let Ok(path) = format!(in self.rt.alloc(); "{folder}/server-{server}.lynx") else {
-            return Err(StoreFault::Memory);
-        };
+        let path = self.path(folder, server)?;
         let Ok(conn) = Connection::open(&self.rt, path.as_str()) else {
             return Err(StoreFault::Store);
         };
@@ -38,6 +45,10 @@ impl Stores<FileKeeper> for Files {
             Ok(keeper) => Ok(FileKeeper::new(keeper)),
             Err((fault, _)) => Err(fault),
         }
+    }
+
+    fn has(&self, folder: &str, server: ServerId) -> Result<bool, StoreFault> {
+        has_store(&self.rt, self.path(folder, server)?.as_str())
     }
 
     fn close(&self, keeper: FileKeeper) -> Result<(), StoreFault> {

@@ -8,4 +8,5 @@ pub use stores::Stores;
 
 pub mod files;
 pub mod keeper;
+mod presence;
 pub mod stores;

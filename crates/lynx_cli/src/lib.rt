@@ -23,4 +23,5 @@ mod serving;
 pub mod shown;
 pub mod source;
 mod stored;
+mod storing;
 pub mod texts;

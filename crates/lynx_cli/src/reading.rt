@@ -7,6 +7,7 @@ use crate::source::{InputFault, MAX_FILE_BYTES, read_all};
 use std::alloc::Global;
 use std::fs;
 use std::io::Read;
+use std::os::unix::fs::FileTypeExt;
 use std::rt::Files;
 
 /// Reads the source of this name, as far as a text may reach.
@@ -26,11 +27,23 @@ fn read_text<'a, R: Read>(
     }
 }
 
+/// Whether a name is that of a pipe in some folder: who opens one waits for its other end. A pipe
+/// that is open already, as that behind `/dev/stdin`, has no name in a folder.
+fn is_named_pipe<R: Files + AllocGlobal>(rt: &R, name: &str) -> bool {
+    match fs::metadata(rt, name) {
+        Ok(found) => found.file_type().is_fifo() && fs::canonicalize(rt, name).is_ok(),
+        Err(_) => false,
+    }
+}
+
 /// The text of a file, as far as a text may reach.
 pub(crate) fn text_of<'a, R: Files + AllocGlobal>(
     rt: &R,
     name: &'a str,
 ) -> Result<Vec<u8>, Fault<'a>> {
+    if is_named_pipe(rt, name) {
+        return Err(Fault::of_reading(name, InputFault::Read));
+    }
     let Ok(mut file) = fs::open(rt, name) else {
         return Err(Fault::of_reading(name, InputFault::Read));
     };

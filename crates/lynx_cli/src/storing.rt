@@ -1,46 +1,21 @@
-//! Stores by their files: listed, and upgraded.
+//! Stores by their files: listed, and upgraded. Both look at a copy first, so that nothing is
+//! written to what is no store, or is only read.
 use crate::fault::Fault;
 use crate::source::InputFault;
 use crate::texts::DONE;
-use lynx_show::{ShowFault, show_store, upgrade_and_tell};
-use sqlite::{Connection, File, FileStore};
-use std::alloc::Global;
-use std::fs;
-use std::io::{IsTerminal, Read, Write};
-use std::rt::Files;
+use lynx_show::{ShowFault, check_upgrade, show_store, upgrade_and_tell};
+use lynx_store_files::{CopyFault, StoreCopy, copy_store};
+use sqlite::Connection;
+use std::io::{IsTerminal, Write};
 
-/// Whether a file has a byte. None where it can't be read.
-fn has_bytes<R: Files>(rt: &R, name: &str) -> Option<bool> {
-    let mut file = fs::open(rt, name).ok()?;
-    match file.read(&mut [0u8]) {
-        Ok(count) => Some(count > 0),
-        Err(_) => None,
-    }
-}
-
-/// Whether the log beside a store has a byte.
-fn has_log<'a, R: Files>(rt: &R, alloc: Global, store: &'a str) -> Result<bool, Fault<'a>> {
-    match format!(in alloc; "{store}-wal") {
-        Ok(log) => Ok(has_bytes(rt, log.as_str()) == Some(true)),
-        Err(_) => Err(Fault::Memory),
-    }
-}
-
-/// The database of a file that holds a store. A file without a byte, and without a log beside it,
-/// is no store: it isn't opened, which would make it one.
-fn open_store<'a>(
-    rt: &HostRuntime,
-    store: &'a str,
-) -> Result<Connection<FileStore<File>>, Fault<'a>> {
-    let Some(begun) = has_bytes(rt, store) else {
-        return Err(Fault::of_reading(store, InputFault::Read));
-    };
-    if !begun && !has_log(rt, rt.alloc(), store)? {
-        return Err(Fault::Store(ShowFault::Damaged));
-    }
-    match Connection::open(rt, store) {
-        Ok(conn) => Ok(conn),
-        Err(_) => Err(Fault::Store(ShowFault::Store)),
+/// A copy of the store of a file, as it is before anything is done to it.
+fn copied<'a>(rt: &HostRuntime, store: &'a str) -> Result<StoreCopy, Fault<'a>> {
+    match copy_store(rt, store) {
+        Ok(copy) => Ok(copy),
+        Err(CopyFault::Unread) => Err(Fault::of_reading(store, InputFault::Read)),
+        Err(CopyFault::Damaged) => Err(Fault::Store(ShowFault::Damaged)),
+        Err(CopyFault::Store) => Err(Fault::Store(ShowFault::Store)),
+        Err(CopyFault::Memory) => Err(Fault::Memory),
     }
 }
 
@@ -50,8 +25,8 @@ pub(crate) fn show_file<'a, W: Write>(
     store: &'a str,
     writer: &mut W,
 ) -> Result<u8, Fault<'a>> {
-    let mut conn = open_store(rt, store)?;
-    match show_store(rt.alloc(), &mut conn, writer) {
+    let mut copy = copied(rt, store)?;
+    match show_store(rt.alloc(), &mut copy, writer) {
         Ok(()) => Ok(DONE),
         Err(fault) => Err(Fault::of_showing(fault)),
     }
@@ -71,18 +46,39 @@ fn tell(rt: &HostRuntime, text: &str) {
     }
 }
 
+/// Whether the store of a file can be upgraded, by a copy of it.
+fn look_at<'a>(rt: &HostRuntime, store: &'a str) -> Result<(), Fault<'a>> {
+    let mut copy = copied(rt, store)?;
+    match check_upgrade(rt.alloc(), &mut copy) {
+        Ok(()) => Ok(()),
+        Err(fault) => Err(Fault::of_showing(fault)),
+    }
+}
+
 /// Makes the store of a file one of version 2.
+fn upgrade<'a, W: Write>(
+    rt: &HostRuntime,
+    store: &'a str,
+    writer: &mut W,
+) -> Result<u8, Fault<'a>> {
+    look_at(rt, store)?;
+    let Ok(mut conn) = Connection::open(rt, store) else {
+        return Err(Fault::Store(ShowFault::Store));
+    };
+    match upgrade_and_tell(rt.alloc(), &mut conn, writer) {
+        Ok(()) => Ok(DONE),
+        Err(fault) => Err(Fault::of_showing(fault)),
+    }
+}
+
+/// Makes the store of a file one of version 2, and tells a person at a terminal so meanwhile.
 pub(crate) fn upgrade_file<'a, W: Write>(
     rt: &HostRuntime,
     store: &'a str,
     writer: &mut W,
 ) -> Result<u8, Fault<'a>> {
-    let mut conn = open_store(rt, store)?;
     tell(rt, UPGRADING);
-    let upgraded = upgrade_and_tell(rt.alloc(), &mut conn, writer);
+    let done = upgrade(rt, store, writer);
     tell(rt, WIPED);
-    match upgraded {
-        Ok(()) => Ok(DONE),
-        Err(fault) => Err(Fault::of_showing(fault)),
-    }
+    done
 }

@@ -1,11 +1,10 @@
 -- What the listing of a store is, as it is written.
-use Rattle.std.specs.Prelude.{ℕ, ◌<◌, List, ◌∷◌, ◌++◌, codes, length, All, Option}
+use Rattle.std.specs.Prelude.{ℕ, List, ◌∷◌, ◌++◌, codes, length, Option}
 use Rattle.std.specs.List.{flat_map}
 use Rattle.std.specs.Fmt.{decimal}
 use Rattle.std.specs.FinMap as finite
 use Rattle.std.specs.Io.KnownBytes.{Appends}
 use Rattle.sqlite.specs.State.{State}
-use Rattle.lynx_cells.specs.Database.{Database}
 use Rattle.lynx_cells.specs.Triples.{triples_of}
 use Rattle.lynx_entry.specs.Entry.{History}
 use Rattle.lynx_keep.specs.Kept.{KeptState}
@@ -14,7 +13,7 @@ use Rattle.lynx_set.specs.Set.{Set}
 use Rattle.lynx_lines.specs.Written.{AppendsPart}
 use Rattle.lynx_lines.specs.Printed.{entry_text}
 use Rattle.lynx_lex.specs.Lines.{with_feed}
-use Rattle.lynx_store.specs.Stored.{IsKept, owner_for}
+use Rattle.lynx_store.specs.Stored.{AreInTables, IsKept, owner_for}
 
 -- the server's line, and that of how many entries it has
 abbrev pub head_lines : ℕ → ℕ → List ℕ
@@ -40,11 +39,6 @@ abbrev pub listing_of : Set → ℕ → KeptState → List ℕ
 listing_of chains server kept =
     head_lines server (length kept.entries) ++ entry_lines kept.entries
     ++ cell_lines chains (triples_of (finite.entries kept.cells))
-
--- each cell is of a table that the set has
-abbrev pub AreInTables : Set → Database → Type 0
-AreInTables chains cells =
-    All (λ cell. cell.0 < length chains.tables) (triples_of (finite.entries cells))
 
 -- the listing of what the store holds was written
 abbrev pub Lists : State → Option (List ℕ) → Option (List ℕ) → Type 0

@@ -3,7 +3,7 @@
 
 pub use fault::ShowFault;
 pub use show::show_store;
-pub use upgrade::upgrade_and_tell;
+pub use upgrade::{check_upgrade, upgrade_and_tell};
 
 pub mod fault;
 mod listing;

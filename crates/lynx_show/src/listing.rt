@@ -1,5 +1,5 @@
 //! The lines of a store.
-ghost use Rattle.std.specs.Prelude.{◌≡◌, ◌++◌, ◌<◌, length, All, IfOk, IsTrue, OnOk};
+ghost use Rattle.std.specs.Prelude.{◌≡◌, ◌++◌, IfOk, OnOk};
 ghost use Rattle.lynx_show.specs.Listing.{cell_lines, entry_lines, head_lines, listing_of};
 ghost use Rattle.lynx_cells.specs.Triples.{triples_of};
 ghost use Rattle.lynx_keep.specs.Kept.{kept_in};
@@ -49,14 +49,6 @@ fn put_cells(
         text.extend_from_slice(line.as_slice())?;
     }
     Ok(())
-}
-
-/// Whether each cell is of a table that the set has.
-pub(crate) fn are_in_tables(set: &ChainSet, cells: &[(TableId, u64, u64)]) -> bool
-    ensures { IsTrue result → All (λ cell. cell.0 < length set.now.tables) cells.now }
-{
-    let count = set.tables().len();
-    cells.iter().all(|cell| cell.0.index() < count)
 }
 
 /// All lines of a store.

@@ -5,14 +5,15 @@ ghost use Rattle.sqlite_trees.specs.View.{doubt};
 ghost use Rattle.sqlite.specs.Tree.{Trees};
 ghost use Rattle.sqlite.specs.Held.{state};
 ghost use Rattle.lynx_store.specs.Premise.{IsUndisturbed};
-ghost use Rattle.lynx_show.specs.Listing.{AreInTables, BeginsListing, Lists, listing_of};
+ghost use Rattle.lynx_store.specs.Stored.{AreInTables};
+ghost use Rattle.lynx_show.specs.Listing.{BeginsListing, Lists, listing_of};
 ghost use Rattle.lynx_keep.specs.Kept.{kept_in};
 
 use crate::fault::ShowFault;
-use crate::listing::{are_in_tables, listing};
+use crate::listing::listing;
 use lynx_lines::write_bytes;
 use lynx_sql::Rising;
-use lynx_store::{Inspected, inspect};
+use lynx_store::{Inspected, are_in_tables, inspect};
 use sqlite::Connection;
 use std::alloc::Global;
 use std::io::Write;

@@ -3,11 +3,12 @@ ghost use Rattle.std.specs.Prelude.{◌≡◌, ◌≢◌, ◌≤◌, ℕ, IfErr,
 ghost use Rattle.std.specs.Io.KnownBytes.{Appends, Keeps};
 ghost use Rattle.sqlite_trees.specs.View.{doubt};
 ghost use Rattle.sqlite.specs.Held.{state};
+ghost use Rattle.sqlite.specs.Tree.{Trees};
 ghost use Rattle.lynx_lines.specs.Written.{AppendsPart};
 ghost use Rattle.lynx_keep.specs.Kept.{KeptState};
 ghost use Rattle.lynx_store.specs.Premise.{IsUndisturbed};
 ghost use Rattle.lynx_store.specs.Stored.{IsKept, Owner};
-ghost use Rattle.lynx_store.specs.Upgrades.{LeavesUpgraded};
+ghost use Rattle.lynx_store.specs.Upgrades.{IsFirst, LeavesUpgraded};
 ghost use Rattle.lynx_sql.specs.declared.version.StoreVersion.{StoreVersion};
 ghost use Rattle.lynx_show.specs.Upgraded.{BeginsTelling, TellsUpgrade, upgraded_line};
 
@@ -34,8 +35,24 @@ fn write_upgraded<W: Write>(count: usize, writer: &mut W) -> Result<(), WriteFai
     Ok(())
 }
 
+/// Whether a store can be upgraded, by reading alone: where it can't, [`upgrade_and_tell`] answers
+/// the same fault. Takes the memory of all that the store holds.
+pub fn check_upgrade<S: Rising>(alloc: Global, conn: &mut Connection<S>) -> Result<(), ShowFault>
+    ensures clean { doubt (state S.Store conn.old).is_clean
+        ≤ doubt (state S.Store conn.new).is_clean }
+    ensures ok { IsUndisturbed (state S.Store conn.new)
+        → OnOk result (IsFirst (state S.Store conn.new)) }
+    // A stop leaves what it could leave before.
+    ensures stop { IsUndisturbed (state S.Store conn.new) → (db : Trees)
+        → (state S.Store conn.new).may_leave db → (state S.Store conn.old).may_leave db }
+{
+    lynx_store::check_upgrade(alloc, conn)?;
+    Ok(())
+}
+
 /// Makes a store of version 1 one of version 2, and writes the line `upgraded N`, N the count of
-/// its entries. No server may have the store open. After Store it is as it was or upgraded, whole;
+/// its entries. No server may have the store open. Damaged, before anything is written, also where a
+/// cell is of a table that the set hasn't, or a hop is that of two entries. After Store it is as it was or upgraded, whole;
 /// after Write it is upgraded, and after every other fault as it was. Takes the memory of all that
 /// it holds.
 pub fn upgrade_and_tell<S: Rising, W: Write>(

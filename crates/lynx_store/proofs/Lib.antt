@@ -1,3 +1,4 @@
+mod Apart
 pub mod ActLemmas
 pub mod Kept
 pub mod RowsRead

@@ -16,9 +16,9 @@ use Rattle.lynx_sql.specs.declared.version.StoreVersion.TheVariants.{One, Two}
 use Rattle.lynx_sql.specs.Acts.{ArePlaced}
 use Rattle.lynx_sql.specs.Contents.{Contents, title_of, upgraded}
 use Rattle.lynx_sql.specs.Steps.{Holds, Keeps}
-use Rattle.lynx_store.specs.Acts.{acted_of, acts_from}
-use Rattle.lynx_store.specs.Stored.{IsKept, Owner, bodies_of, contents_of, owner_for, version_for, version_text}
-use Rattle.lynx_store.specs.Upgrades.{IsSecond, LeavesUpgraded, Upgrades, second_of}
+use Rattle.lynx_store.specs.Acts.{AreApart, acted_of, acts_from}
+use Rattle.lynx_store.specs.Stored.{AreInTables, IsKept, Owner, bodies_of, contents_of, owner_for, version_for, version_text}
+use Rattle.lynx_store.specs.Upgrades.{LeavesUpgraded, MayUpgrade, Upgrades, second_of}
 use Rattle.lynx_store.proofs.ActLemmas.{acts_placed}
 use Rattle.lynx_store.proofs.Kept.{length-bodies}
 
@@ -49,6 +49,23 @@ first_alike sets.Two same = absurd (let e = same in cc)
 pub same_first : (server other : ℕ) (a b : Set) → owner_for server a ≡ owner_for other b → b.version ≡ sets.One → a.version ≡ sets.One
 same_first server other a b same first = first_alike a.version (ap (λ owner. owner.version) same ∙ ap version_for first)
 
+-- what was told of a set of version 1 can be upgraded, where its cells and hops can
+pub told_may : (held : Set) (told : KeptState) (acts : List Acted) → acts ≡ acts_from 0 told.entries
+    → held.version ≡ sets.One → AreInTables held told.cells → AreApart acts → MayUpgrade held told
+told_may held told acts are_acts first tables apart =
+    record { version = first; tables = (held, refl, tables); apart = subst AreApart are_acts apart }
+
+-- and so can what is kept of each set with that text
+same_may : (server other : ℕ) (a b : Set) (kept told : KeptState) → owner_for server a ≡ owner_for other b → kept ≡ told
+    → MayUpgrade b told → MayUpgrade a kept
+same_may server other a b kept told same alike may =
+    let tables = may.tables in
+    subst (MayUpgrade a) (sym alike) (record {
+      version = same_first server other a b same may.version;
+      tables = (tables.0, tables.1 ∙ sym (ap (λ owner. owner.set) same), tables.2);
+      apart = may.apart;
+    })
+
 -- ---- the tables
 
 -- what is added to the tables of a store of version 1
@@ -72,14 +89,14 @@ none_kept held told first = ap (λ version. acted_of (version_for version) told.
 -- the tables of a store of version 2 are kept: of the set that was told, and of each that had its text
 module _ (old mid new : State) (server : ℕ) (held : Set) (told : KeptState) (count : ℕ) (version set : List ℕ) (acts : List Acted)
     (is_version : version ≡ version_text Two) (is_set : set ≡ text_of (second_of held)) (are_acts : acts ≡ acts_from 0 told.entries)
-    (first : held.version ≡ sets.One)
+    (can : MayUpgrade held told)
     (now : IsKept mid (owner_for server held) count told)
     (all : (owner : Owner) (before : ℕ) (kept : KeptState) → IsKept old owner before kept → (owner ≡ owner_for server held) × (kept ≡ told)) where
   pub second_kept : ((before : Contents) → Keeps mid before → before.acted ≡ None → ArePlaced acts (length before.bodies)
       → Keeps new (upgraded before version set acts)) → IsKept new (owner_for server (second_of held)) count told
   second_kept wrote = record {
     tables = subst (Keeps new) (same_contents server held told version set acts is_version is_set are_acts)
-        (wrote (contents_of (owner_for server held) told) now.tables (none_kept held told first)
+        (wrote (contents_of (owner_for server held) told) now.tables (none_kept held told can.version)
         (placed server held told version set acts is_version is_set are_acts mid count now));
     counted = now.counted;
     formed = now.formed;
@@ -88,7 +105,7 @@ module _ (old mid new : State) (server : ℕ) (held : Set) (told : KeptState) (c
   pub upgrades : IsKept new (owner_for server (second_of held)) count told → Upgrades old new count
   upgrades kept_now other chains before kept was =
       let same = all (owner_for other chains) before kept was in (
-        same_first other server chains held same.0 first,
+        same_may other server chains held kept told same.0 same.1 can,
         subst (λ k. IsKept new (owner_for other (second_of chains)) count k) (sym same.1)
             (subst (λ owner. IsKept new owner count told) (sym (same_second other server chains held same.0)) kept_now),
       )
@@ -101,13 +118,13 @@ module _ (old mid new : State) (server : ℕ) (held : Set) (told : KeptState) (c
   leaves_second stop earlier settled other chains before kept was db may =
       let same = all (owner_for other chains) before kept was in
       let left_over : mid.may_leave db ⊎ Holds db (upgraded (contents_of (owner_for server held) told) version set acts) =
-      stop (contents_of (owner_for server held) told) now.tables (none_kept held told first)
+      stop (contents_of (owner_for server held) told) now.tables (none_kept held told can.version)
       (placed server held told version set acts is_version is_set are_acts mid count now) db may in
       elim left_over [
         | inl left ↦ inl (subst (λ trees. Holds trees (contents_of (owner_for other chains) kept))
             (sym (settled db was.tables.is_open (earlier db left))) was.tables.tables)
         | inr whole ↦ inr (
-          same_first other server chains held same.0 first,
+          same_may other server chains held kept told same.0 same.1 can,
           subst (λ k. Holds db (contents_of (owner_for other (second_of chains)) k)) (sym same.1)
               (subst (λ owner. Holds db (contents_of owner told)) (sym (same_second other server chains held same.0))
               (subst (Holds db) (same_contents server held told version set acts is_version is_set are_acts) whole)),

@@ -1,5 +1,8 @@
 -- The hops that entries are of, as stores of version 2 keep them.
-use Rattle.std.specs.Prelude.{◌≡◌, ℕ, ◌+◌, List, [], ◌∷◌, ◌++◌, Option, Some, None, slice_get}
+use Rattle.std.specs.Prelude.{◌≡◌, ◌≢◌, ℕ, ◌+◌, List, AllPairs, [], ◌∷◌, ◌++◌, Option, Some, None, map, slice_get}
+use Rattle.std.specs.Ordering.{nat_cmp, ordering_then}
+use Rattle.std.specs.declared.cmp.Ordering.{Ordering}
+use Rattle.lynx_cells.specs.Database.{cell_cmp}
 use Rattle.sqlite.specs.Order.{Row}
 use Rattle.lynx_entry.specs.declared.entry.Entry.{Entry}
 use Rattle.lynx_entry.specs.declared.entry.Entry.TheVariants.{Begun, Refused, Hop}
@@ -47,3 +50,15 @@ acted_of Two entries = Some (acts_from 0 entries)
 abbrev pub ShowsAt : List Acted → List Row → ℕ → Type 0
 ShowsAt acts rows place =
     (act : Acted) → slice_get acts place ≡ Some act → slice_get rows place ≡ Some (shown_act act)
+
+-- the hop of a row: the chain's origin and index, and its number
+abbrev pub hop_in : Acted → (ℕ × ℕ) × ℕ
+hop_in act = ((act.origin, act.index), act.hop)
+
+-- the order of hops: by chain, then number
+abbrev pub hop_cmp : (ℕ × ℕ) × ℕ → (ℕ × ℕ) × ℕ → Ordering
+hop_cmp one other = ordering_then (cell_cmp one.0 other.0) (nat_cmp one.1 other.1)
+
+-- no two are of one hop
+abbrev pub AreApart : List Acted → Type 0
+AreApart acts = AllPairs (λ one other. one ≢ other) (map hop_in acts)

@@ -1,5 +1,8 @@
 -- What the tables of a store stand for.
-use Rattle.std.specs.Prelude.{◌≡◌, ◌⊎◌, ℕ, List, codes, map, length}
+use Rattle.std.specs.Prelude.{◌≡◌, ◌⊎◌, ◌<◌, ℕ, List, All, codes, map, length}
+use Rattle.std.specs.FinMap as finite
+use Rattle.lynx_cells.specs.Database.{Database}
+use Rattle.lynx_cells.specs.Triples.{triples_of}
 use Rattle.std.specs.Fmt.{decimal}
 use Rattle.std.specs.List.{AllByRecursion}
 use Rattle.sqlite.specs.Tree.{Trees}
@@ -88,3 +91,8 @@ pub record Tells (rows : StoredRows) (owner : Owner) (kept : KeptState) : Type 0
   pub cells : AreCells rows.cells.items
   pub shown : ShowRows rows (contents_of owner kept)
   pub formed : AllByRecursion HasForm kept.entries
+
+-- each cell is of a table that the set has
+abbrev pub AreInTables : Set → Database → Type 0
+AreInTables chains cells =
+    All (λ cell. cell.0 < length chains.tables) (triples_of (finite.entries cells))

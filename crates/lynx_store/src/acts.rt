@@ -1,7 +1,8 @@
 //! The hops that entries are of.
-ghost use Rattle.std.specs.Prelude.{◌≡◌, IfOk, IfSome, IsTrue, OnOk, map};
-ghost use Rattle.lynx_store.specs.Acts.{act_at, acted_of, acts_from, added, ShowsAt};
+ghost use Rattle.std.specs.Prelude.{◌≡◌, ◌↔◌, IfOk, IfSome, IsTrue, OnOk, map};
+ghost use Rattle.lynx_store.specs.Acts.{act_at, acted_of, acts_from, added, AreApart, ShowsAt, hop_cmp, hop_in};
 ghost use Rattle.lynx_sql.specs.Acts.{ShowActed, shown_act};
+ghost use Rattle.std.specs.BTreeSet.{IsFromIterResult};
 
 use crate::columns::{is_number, number_in};
 use lynx_entry::Entry;
@@ -9,6 +10,7 @@ use lynx_names::Memory;
 use lynx_sql::{Acted, StoreVersion};
 use sqlite::Row;
 use std::alloc::Global;
+use std::collections::BTreeSet;
 
 /// The hop of the entry at that place; none of a request that was refused.
 pub(crate) fn act_at(place: u32, entry: &Entry) -> Option<Acted>
@@ -58,6 +60,35 @@ pub(crate) fn acts_of(alloc: Global, entries: &[Entry]) -> Result<Option<Vec<Act
         place += 1;
     }
     Ok(Some(acts))
+}
+
+/// A hop: the chain's origin and index, and its number.
+type HopKey = ((u32, u64), u32);
+
+/// The hops of these rows, one for each.
+fn keys_of(alloc: Global, acts: &[Acted]) -> Result<Vec<HopKey>, Memory>
+    ensures { IfOk result (λ keys. keys.items ≡ map hop_in acts.now) }
+{
+    let mut keys = Vec::with_capacity(alloc, acts.len())?;
+    for act in acts {
+        keys.push(((act.origin, act.index), act.hop))?;
+    }
+    Ok(keys)
+}
+
+/// The set of these hops.
+fn set_of(alloc: Global, keys: Vec<HopKey>) -> Result<BTreeSet<HopKey>, Memory>
+    ensures { IfOk result (λ set. IsFromIterResult hop_cmp keys.items set) }
+{
+    Ok(keys.into_iter().collect(alloc)?)
+}
+
+/// Whether no two are of one hop.
+pub(crate) fn are_apart(alloc: Global, acts: &[Acted]) -> Result<bool, Memory>
+    ensures { IfOk result (λ apart. IsTrue apart ↔ AreApart acts.now) }
+{
+    let hops = set_of(alloc, keys_of(alloc, acts)?)?;
+    Ok(hops.len() == acts.len())
 }
 
 /// Whether a row is that of the hop.

@@ -1,5 +1,5 @@
 //! What a store holds, whatever server and set it is of.
-ghost use Rattle.std.specs.Prelude.{◌≡◌, ◌≢◌, ◌≤◌, ◌∷◌, [], ℕ, pos, length, IfErr, IfNone, IfOk, IfSome};
+ghost use Rattle.std.specs.Prelude.{◌≡◌, ◌≢◌, ◌↔◌, ◌<◌, ◌≤◌, ◌∷◌, [], ℕ, pos, length, All, IfErr, IfNone, IfOk, IfSome, IsTrue};
 ghost use Rattle.sqlite_trees.specs.View.{doubt};
 ghost use Rattle.sqlite_value.specs.declared.value.Value.TheVariants.{Int, Text};
 ghost use Rattle.std.specs.Fmt.{decimal};
@@ -18,7 +18,7 @@ use crate::heading::{Heading, is_meta_row, version_for, version_text};
 use crate::keeper::loaded_of;
 use lynx_keep::{KeepFault, Loaded};
 use lynx_lex::number::number;
-use lynx_names::ServerId;
+use lynx_names::{ServerId, TableId};
 use lynx_set::ChainSet;
 use lynx_sql::schema::is_store;
 use lynx_sql::{Rising, StoreVersion, StoredRows, read_rows};
@@ -126,6 +126,14 @@ fn told_by(alloc: Global, rows: &StoredRows) -> Result<Inspected, StoreFault>
         Err(KeepFault::Memory) => Err(StoreFault::Memory),
         Err(KeepFault::Failed) => Err(StoreFault::Damaged),
     }
+}
+
+/// Whether each cell is of a table that the set has.
+pub fn are_in_tables(set: &ChainSet, cells: &[(TableId, u64, u64)]) -> bool
+    ensures { IsTrue result ↔ All (λ cell. cell.0 < length set.now.tables) cells.now }
+{
+    let count = set.tables().len();
+    cells.iter().all(|cell| cell.0.index() < count)
 }
 
 /// What a store holds, and of which server and set it is. Nothing is written. Takes the memory of

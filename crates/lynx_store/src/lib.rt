@@ -3,9 +3,9 @@
 
 pub use fault::StoreFault;
 pub use heading::Heading;
-pub use inspecting::{Inspected, inspect};
+pub use inspecting::{Inspected, are_in_tables, inspect};
 pub use keeper::SqlKeeper;
-pub use upgrading::upgrade_store;
+pub use upgrading::{check_upgrade, upgrade_store};
 
 mod acts;
 mod body;

@@ -2,17 +2,18 @@
 ghost use Rattle.std.specs.Prelude.{◌≡◌, ◌≢◌, ◌≤◌, ℕ, IfErr, IfOk, OnOk};
 ghost use Rattle.sqlite_trees.specs.View.{doubt};
 ghost use Rattle.sqlite.specs.Held.{state};
+ghost use Rattle.sqlite.specs.Tree.{Trees};
 ghost use Rattle.lynx_keep.specs.Kept.{KeptState};
 ghost use Rattle.lynx_set.specs.Text.{text_of};
-ghost use Rattle.lynx_store.specs.Acts.{acts_from};
+ghost use Rattle.lynx_store.specs.Acts.{AreApart, acts_from};
 ghost use Rattle.lynx_store.specs.Premise.{IsUndisturbed};
-ghost use Rattle.lynx_store.specs.Stored.{IsKept, Owner};
-ghost use Rattle.lynx_store.specs.Upgrades.{IsSecond, LeavesUpgraded, Upgrades, second_of};
+ghost use Rattle.lynx_store.specs.Stored.{AreInTables, IsKept, Owner};
+ghost use Rattle.lynx_store.specs.Upgrades.{IsFirst, IsSecond, LeavesUpgraded, Upgrades, second_of};
 
-use crate::acts::acts_of;
+use crate::acts::{acts_of, are_apart};
 use crate::fault::StoreFault;
 use crate::heading::version_text;
-use crate::inspecting::{Inspected, inspect};
+use crate::inspecting::{Inspected, are_in_tables, inspect};
 use lynx_set::{ChainSet, Version, upgrade_set};
 use lynx_sql::upgrade::upgrade_tables;
 use lynx_sql::{Acted, Rising, StoreVersion};
@@ -27,12 +28,15 @@ struct Added {
     acts: Vec<Acted>,
 }
 
-/// What a store of version 1 is to get. OtherVersion only where it is one of version 2.
+/// What a store of version 1 is to get. OtherVersion only where it is one of version 2. Damaged where
+/// a cell is of a table that the set hasn't, or a hop is that of two entries.
 fn added_to(alloc: Global, held: &Inspected) -> Result<Added, StoreFault>
     ensures first { OnOk result (held.now.set.version ≡ Version.One) }
     ensures set { IfOk result (λ added. added.set.items ≡ text_of (second_of held.now.set)) }
     ensures acts { IfOk result
         (λ added. added.acts.items ≡ acts_from 0 held.now.loaded.entries.items) }
+    ensures tables { OnOk result (AreInTables held.now.set held.now.loaded.cells.database) }
+    ensures apart { IfOk result (λ added. AreApart added.acts.items) }
     ensures other { IfErr result
         (λ fault. fault ≡ StoreFault.OtherVersion → held.now.set.version ≡ Version.Two) }
 {
@@ -40,20 +44,44 @@ fn added_to(alloc: Global, held: &Inspected) -> Result<Added, StoreFault>
         Version::One => {}
         Version::Two => return Err(StoreFault::OtherVersion),
     }
-    let set = upgrade_set(alloc, &held.set)?;
+    let cells = held.loaded.cells.list(alloc)?;
+    if !are_in_tables(&held.set, cells.as_slice()) {
+        return Err(StoreFault::Damaged);
+    }
     let Some(acts) = acts_of(alloc, held.loaded.entries.as_slice())? else {
         return Err(StoreFault::Damaged);
     };
+    if !are_apart(alloc, acts.as_slice())? {
+        return Err(StoreFault::Damaged);
+    }
+    let set = upgrade_set(alloc, &held.set)?;
     Ok(Added {
         set: print(alloc, &set)?,
         acts,
     })
 }
 
+/// Whether a store can be upgraded, by reading alone: where it can't, [`upgrade_store`] answers the
+/// same fault. Takes the memory of all that the store holds.
+pub fn check_upgrade<S: Rising>(alloc: Global, conn: &mut Connection<S>) -> Result<(), StoreFault>
+    ensures clean { doubt (state S.Store conn.old).is_clean
+        ≤ doubt (state S.Store conn.new).is_clean }
+    ensures ok { IsUndisturbed (state S.Store conn.new)
+        → OnOk result (IsFirst (state S.Store conn.new)) }
+    // A stop leaves what it could leave before.
+    ensures stop { IsUndisturbed (state S.Store conn.new) → (db : Trees)
+        → (state S.Store conn.new).may_leave db → (state S.Store conn.old).may_leave db }
+{
+    let held = inspect(alloc, conn)?;
+    added_to(alloc, &held)?;
+    Ok(())
+}
+
 /// Makes a store of version 1 one of version 2, in one transaction: it keeps the same entries and
 /// cells, under the text of its set at version 2, and the hops that its entries are of. Gives the
 /// count of its entries. No server may have the store open. OtherVersion where it is of version 2
-/// already, or of one that isn't known. After Store it is as it was or of version 2, whole; after
+/// already, or of one that isn't known; Damaged, before anything is written, also where a cell is of
+/// a table that the set hasn't, or a hop is that of two entries. After Store it is as it was or of version 2, whole; after
 /// every other fault as it was. Takes the memory of all that it holds.
 pub fn upgrade_store<S: Rising>(
     alloc: Global,

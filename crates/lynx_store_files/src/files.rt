@@ -1,5 +1,5 @@
 use crate::keeper::FileKeeper;
-use crate::presence::has_store;
+use crate::presence::{has_store, judge};
 use crate::stores::Stores;
 use lynx_names::ServerId;
 use lynx_set::ChainSet;
@@ -9,7 +9,8 @@ use std::rt::HostRuntime;
 
 /// Stores in files: `server-0.lynx` in the folder and so on, each with its log beside it. A file is
 /// locked while it is open, so a second process gets [`StoreFault::Store`], and so does who names a
-/// folder that isn't there.
+/// folder that isn't there. A file that is no database's is answered [`StoreFault::Damaged`], and so
+/// is one that was emptied beside its log: nothing of either is changed.
 #[derive(Drop)]
 pub struct Files {
     rt: HostRuntime,
@@ -38,6 +39,7 @@ impl Stores<FileKeeper> for Files {
         server: ServerId,
     ) -> Result<FileKeeper, StoreFault> {
         let path = self.path(folder, server)?;
+        judge(&self.rt, path.as_str())?;
         let Ok(conn) = Connection::open(&self.rt, path.as_str()) else {
             return Err(StoreFault::Store);
         };

@@ -2,11 +2,14 @@
 //! and the keepers over them.
 #![tactic(auto)]
 
+pub use copies::{CopyFault, StoreCopy, copy_store};
 pub use files::Files;
 pub use keeper::{FileKeeper, StoreKeeper};
 pub use stores::Stores;
 
+pub mod copies;
 pub mod files;
+pub mod heads;
 pub mod keeper;
 mod presence;
 pub mod stores;

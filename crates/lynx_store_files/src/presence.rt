@@ -1,4 +1,6 @@
-//! What stands where a store would be: only names and lengths are asked for.
+//! What stands where a store would be, before anything is opened as a database.
+use crate::copies::head_of;
+use crate::heads::{FILE_HEAD, LOG_HEAD, may_open};
 use lynx_store::StoreFault;
 use std::io::ErrorKind;
 use std::rt::Files;
@@ -40,4 +42,34 @@ pub(crate) fn has_store<R: Files + AllocGlobal>(rt: &R, path: &str) -> Result<bo
         return Ok(true);
     }
     holds(rt, log_path(rt, path)?.as_str())
+}
+
+/// The first bytes of a file, none where there is no file.
+fn head_at<R: Files + AllocGlobal>(rt: &R, path: &str, limit: u64) -> Result<Vec<u8>, StoreFault> {
+    match fs::metadata(rt, path) {
+        Ok(found) if found.is_file() => {}
+        Ok(_) => return Err(StoreFault::Store),
+        Err(error) if error.kind() == ErrorKind::NotFound => return Ok(Vec::new(rt.alloc())),
+        Err(error) => return Err(fault_of(error)),
+    }
+    let head = match fs::open(rt, path) {
+        Ok(mut file) => head_of(rt.alloc(), &mut file, limit),
+        Err(error) => Err(error),
+    };
+    match head {
+        Ok(head) => Ok(head),
+        Err(error) => Err(fault_of(error)),
+    }
+}
+
+/// Whether what stands at the path of a store may be opened: Damaged where it is no database's, or
+/// was emptied beside its log.
+pub(crate) fn judge<R: Files + AllocGlobal>(rt: &R, path: &str) -> Result<(), StoreFault> {
+    let file = head_at(rt, path, FILE_HEAD)?;
+    let log = head_at(rt, log_path(rt, path)?.as_str(), LOG_HEAD)?;
+    if may_open(file.as_slice(), log.as_slice()) {
+        Ok(())
+    } else {
+        Err(StoreFault::Damaged)
+    }
 }

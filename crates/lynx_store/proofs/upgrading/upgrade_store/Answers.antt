@@ -5,7 +5,7 @@ use Rattle.lynx_keep.specs.Kept.{kept_in}
 use Rattle.lynx_store.specs.Premise.{IsUndisturbed}
 use Rattle.lynx_store.specs.Stored.{IsKept, owner_for, version_for}
 use Rattle.lynx_store.specs.Upgrades.{IsSecond, LeavesUpgraded, Upgrades, second_of}
-use Rattle.lynx_store.proofs.Upgraded.{leaves_first, leaves_second, second_kept, still_kept, upgrades}
+use Rattle.lynx_store.proofs.Upgraded.{leaves_first, leaves_second, second_kept, still_kept, told_may, upgrades}
 use Rattle.lynx_store.proofs.upgrading.upgrade_store.Goals as goal
 
 pub returns-in_err-held-clause-same : goal.returns-in_err-held-clause-same
@@ -28,12 +28,13 @@ returns-in-Ok-clause-ok g c clean =
     let held = c.in_ok-held.held in
     let set = c.as_slice.ensures.value ∙ c.in_ok-added.ensures.set in
     let acts = c.as_slice-2.ensures.value ∙ c.in_ok-added.ensures.acts in
+    let may = told_may held.set (kept_in held.loaded) _ c.in_ok-added.ensures.acts c.in_ok-added.ensures.first c.in_ok-added.ensures.tables c.in_ok-added.ensures.apart in
     let second : IsKept new (owner_for held.server (second_of held.set)) (length held.loaded.entries.items) (kept_in held.loaded) =
     second_kept old mid new held.server held.set (kept_in held.loaded) (length held.loaded.entries.items) _ _ _ c.version_text-version.ensures set acts
-    c.in_ok-added.ensures.first (c.in_ok-held.ensures.ok mid_clean) (c.in_ok-held.ensures.all mid_clean) (c.in-Ok.ensures.ok clean) in
+    may (c.in_ok-held.ensures.ok mid_clean) (c.in_ok-held.ensures.all mid_clean) (c.in-Ok.ensures.ok clean) in
     let counted : c.len.result ≡ length held.loaded.entries.items = omega (arith, c.len.ensures) in
     subst (Upgrades old new) (sym counted) (upgrades old mid new held.server held.set (kept_in held.loaded) (length held.loaded.entries.items) _ _ _ c.version_text-version.ensures set acts
-    c.in_ok-added.ensures.first (c.in_ok-held.ensures.ok mid_clean) (c.in_ok-held.ensures.all mid_clean) second)
+    may (c.in_ok-held.ensures.ok mid_clean) (c.in_ok-held.ensures.all mid_clean) second)
 
 pub returns-in-Ok-clause-second : goal.returns-in-Ok-clause-second
 returns-in-Ok-clause-second g c clean =
@@ -44,11 +45,12 @@ returns-in-Ok-clause-second g c clean =
     let held = c.in_ok-held.held in
     let set = c.as_slice.ensures.value ∙ c.in_ok-added.ensures.set in
     let acts = c.as_slice-2.ensures.value ∙ c.in_ok-added.ensures.acts in
+    let may = told_may held.set (kept_in held.loaded) _ c.in_ok-added.ensures.acts c.in_ok-added.ensures.first c.in_ok-added.ensures.tables c.in_ok-added.ensures.apart in
     let second : IsKept new (owner_for held.server (second_of held.set)) (length held.loaded.entries.items) (kept_in held.loaded) =
     second_kept old mid new held.server held.set (kept_in held.loaded) (length held.loaded.entries.items) _ _ _ c.version_text-version.ensures set acts
-    c.in_ok-added.ensures.first (c.in_ok-held.ensures.ok mid_clean) (c.in_ok-held.ensures.all mid_clean) (c.in-Ok.ensures.ok clean) in
+    may (c.in_ok-held.ensures.ok mid_clean) (c.in_ok-held.ensures.all mid_clean) (c.in-Ok.ensures.ok clean) in
     let counted : c.len.result ≡ length held.loaded.entries.items = omega (arith, c.len.ensures) in
-    subst (IsSecond new) (sym counted) (held.server, held.set, kept_in held.loaded, second)
+    subst (IsSecond new) (sym counted) (held.server, held.set, kept_in held.loaded, second, c.in_ok-added.ensures.tables)
 
 pub returns-in-Ok-clause-stop : goal.returns-in-Ok-clause-stop
 returns-in-Ok-clause-stop g c clean =
@@ -59,8 +61,9 @@ returns-in-Ok-clause-stop g c clean =
     let held = c.in_ok-held.held in
     let set = c.as_slice.ensures.value ∙ c.in_ok-added.ensures.set in
     let acts = c.as_slice-2.ensures.value ∙ c.in_ok-added.ensures.acts in
+    let may = told_may held.set (kept_in held.loaded) _ c.in_ok-added.ensures.acts c.in_ok-added.ensures.first c.in_ok-added.ensures.tables c.in_ok-added.ensures.apart in
     leaves_second old mid new held.server held.set (kept_in held.loaded) (length held.loaded.entries.items) _ _ _ c.version_text-version.ensures set acts
-    c.in_ok-added.ensures.first (c.in_ok-held.ensures.ok mid_clean) (c.in_ok-held.ensures.all mid_clean) (c.upgrade_tables.ensures.stop clean)
+    may (c.in_ok-held.ensures.ok mid_clean) (c.in_ok-held.ensures.all mid_clean) (c.upgrade_tables.ensures.stop clean)
     (c.inspect.ensures.stop mid_clean) (λ db up may. g.met.S.Store.settled c.args.conn.now.store db up may)
 
 pub returns-clause-stop : goal.returns-clause-stop
@@ -72,6 +75,7 @@ returns-clause-stop g c clean =
     let held = c.in_ok-held.held in
     let set = c.as_slice.ensures.value ∙ c.in_ok-added.ensures.set in
     let acts = c.as_slice-2.ensures.value ∙ c.in_ok-added.ensures.acts in
+    let may = told_may held.set (kept_in held.loaded) _ c.in_ok-added.ensures.acts c.in_ok-added.ensures.first c.in_ok-added.ensures.tables c.in_ok-added.ensures.apart in
     leaves_second old mid new held.server held.set (kept_in held.loaded) (length held.loaded.entries.items) _ _ _ c.version_text-version.ensures set acts
-    c.in_ok-added.ensures.first (c.in_ok-held.ensures.ok mid_clean) (c.in_ok-held.ensures.all mid_clean) (c.upgrade_tables.ensures.stop clean)
+    may (c.in_ok-held.ensures.ok mid_clean) (c.in_ok-held.ensures.all mid_clean) (c.upgrade_tables.ensures.stop clean)
     (c.inspect.ensures.stop mid_clean) (λ db up may. g.met.S.Store.settled c.args.conn.now.store db up may)

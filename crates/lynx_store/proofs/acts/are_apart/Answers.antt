@@ -1,0 +1,13 @@
+use Rattle.std.proofs.Common.{rules, ◌≡◌, ◌∙◌, sym, ap, length, IsTrue}
+use Rattle.std.specs.BTreeSet.{btree_set_len, IsFromIterResult}
+use Rattle.std.proofs.Math.Facts.{eqb_yes, yes_eqb}
+use Rattle.lynx_store.specs.Acts.{hop_cmp, hop_in}
+use Rattle.lynx_store.proofs.Apart.{apart_by_count}
+use Rattle.lynx_store.proofs.acts.are_apart.Goals as goal
+
+pub returns : goal.returns
+returns c =
+    let acts = c.args.acts.now in
+    let hops = c.in_ok-hops.hops in
+    let both = apart_by_count acts hops (search rules) in
+    (λ yes. both.0 (search rules), λ apart. let same : btree_set_len hops ≡ length acts = both.1 apart in search rules)

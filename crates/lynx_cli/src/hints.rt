@@ -3,6 +3,7 @@
 use crate::fault::Fault;
 use crate::input::split_input;
 use crate::job::INPUT;
+use crate::reading::is_named_pipe;
 use crate::shown::Shown;
 use lynx_hints::{Part, hint, separator_hint};
 use lynx_lex::TextFault;
@@ -33,8 +34,12 @@ pub struct Hints {
     lines: Option<String>,
 }
 
-/// The error with which a file can't be opened, or its first byte not be read.
-fn reading_error<R: Files>(rt: &R, name: &str) -> Option<io::Error> {
+/// The error with which a file can't be opened, or its first byte not be read. A pipe isn't opened,
+/// which would wait.
+fn reading_error<R: Files + AllocGlobal>(rt: &R, name: &str) -> Option<io::Error> {
+    if is_named_pipe(rt, name) {
+        return None;
+    }
     match fs::open(rt, name) {
         Ok(mut file) => file.read(&mut [0u8]).err(),
         Err(error) => Some(error),
@@ -128,7 +133,7 @@ impl Hints {
     }
 
     /// Notes why a file can't be read that a job named, as the system tells it.
-    pub(crate) fn note_unread<T, R: Files>(
+    pub(crate) fn note_unread<T, R: Files + AllocGlobal>(
         &mut self,
         rt: &R,
         alloc: Global,

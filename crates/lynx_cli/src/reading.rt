@@ -29,7 +29,7 @@ fn read_text<'a, R: Read>(
 
 /// Whether a name is that of a pipe in some folder: who opens one waits for its other end. A pipe
 /// that is open already, as that behind `/dev/stdin`, has no name in a folder.
-fn is_named_pipe<R: Files + AllocGlobal>(rt: &R, name: &str) -> bool {
+pub(crate) fn is_named_pipe<R: Files + AllocGlobal>(rt: &R, name: &str) -> bool {
     match fs::metadata(rt, name) {
         Ok(found) => found.file_type().is_fifo() && fs::canonicalize(rt, name).is_ok(),
         Err(_) => false,

@@ -51,10 +51,10 @@ pub fn check_upgrade<S: Rising>(alloc: Global, conn: &mut Connection<S>) -> Resu
 }
 
 /// Makes a store of version 1 one of version 2, and writes the line `upgraded N`, N the count of
-/// its entries. No server may have the store open. Damaged, before anything is written, also where a
-/// cell is of a table that the set hasn't, or a hop is that of two entries. After Store it is as it was or upgraded, whole;
-/// after Write it is upgraded, and after every other fault as it was. Takes the memory of all that
-/// it holds.
+/// its entries. No server may have the store open. Damaged, before anything is written, also where
+/// a cell is of a table that the set hasn't, or a hop is that of two entries. After Store it is as
+/// it was or upgraded, whole; after Write it is upgraded, and after every other fault as it was.
+/// Takes the memory of all that it holds.
 pub fn upgrade_and_tell<S: Rising, W: Write>(
     alloc: Global,
     conn: &mut Connection<S>,

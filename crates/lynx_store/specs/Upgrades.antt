@@ -20,8 +20,8 @@ abbrev pub AreInTablesOf : List ℕ → Database → Type 0
 AreInTablesOf text cells =
     (chains : Set) × (text_of chains ≡ text) × AreInTables chains cells
 
--- what a store of version 1 keeps can stand in one of version 2: its cells are of tables of its set,
--- and no two of its entries are of one hop
+-- what a store of version 1 keeps can stand in one of version 2: its cells are of tables of its
+-- set, and no two of its entries are of one hop
 pub record MayUpgrade (chains : Set) (kept : KeptState) : Type 0 where
   pub version : chains.version ≡ One
   pub tables : AreInTablesOf (text_of chains) kept.cells

@@ -28,8 +28,8 @@ struct Added {
     acts: Vec<Acted>,
 }
 
-/// What a store of version 1 is to get. OtherVersion only where it is one of version 2. Damaged where
-/// a cell is of a table that the set hasn't, or a hop is that of two entries.
+/// What a store of version 1 is to get. OtherVersion only where it is one of version 2. Damaged
+/// where a cell is of a table that the set hasn't, or a hop is that of two entries.
 fn added_to(alloc: Global, held: &Inspected) -> Result<Added, StoreFault>
     ensures first { OnOk result (held.now.set.version ≡ Version.One) }
     ensures set { IfOk result (λ added. added.set.items ≡ text_of (second_of held.now.set)) }
@@ -80,9 +80,9 @@ pub fn check_upgrade<S: Rising>(alloc: Global, conn: &mut Connection<S>) -> Resu
 /// Makes a store of version 1 one of version 2, in one transaction: it keeps the same entries and
 /// cells, under the text of its set at version 2, and the hops that its entries are of. Gives the
 /// count of its entries. No server may have the store open. OtherVersion where it is of version 2
-/// already, or of one that isn't known; Damaged, before anything is written, also where a cell is of
-/// a table that the set hasn't, or a hop is that of two entries. After Store it is as it was or of version 2, whole; after
-/// every other fault as it was. Takes the memory of all that it holds.
+/// already, or of one that isn't known; Damaged, before anything is written, also where a cell is
+/// of a table that the set hasn't, or a hop is that of two entries. After Store it is as it was or
+/// of version 2, whole; after every other fault as it was. Takes the memory of all that it holds.
 pub fn upgrade_store<S: Rising>(
     alloc: Global,
     conn: &mut Connection<S>,

@@ -64,7 +64,7 @@ pub(crate) fn head_of<R: Read>(alloc: Global, source: &mut R, limit: u64) -> io:
         head.items ≡ take limit bytes)) }
 {
     let mut head = Vec::new(alloc);
-    source.by_ref().take(limit).read_to_end(&mut head)?;
+    (&mut *source).take(limit).read_to_end(&mut head)?;
     Ok(head)
 }
 

@@ -9,8 +9,8 @@ use std::rt::HostRuntime;
 
 /// Stores in files: `server-0.lynx` in the folder and so on, each with its log beside it. A file is
 /// locked while it is open, so a second process gets [`StoreFault::Store`], and so does who names a
-/// folder that isn't there. A file that is no database's is answered [`StoreFault::Damaged`], and so
-/// is one that was emptied beside its log: nothing of either is changed.
+/// folder that isn't there. A file that is no database's is answered [`StoreFault::Damaged`], and
+/// so is one that was emptied beside its log: nothing of either is changed.
 #[derive(Drop)]
 pub struct Files {
     rt: HostRuntime,

@@ -18,15 +18,10 @@ pub(crate) const LOG_HEAD: u64 = 42;
 pub fn is_database(file: &[u8]) -> bool
     ensures { IsTrue result ↔ IsDatabase file.now }
 {
-    match file {
-        [a, b, c, d, e, f, g, h, i, j, k, l, m, n, o, p, ..] => {
-            let head = [
-                *a, *b, *c, *d, *e, *f, *g, *h, *i, *j, *k, *l, *m, *n, *o, *p,
-            ];
-            head == *DATABASE_HEAD
-        }
-        _ => false,
+    if file.len() < DATABASE_HEAD.len() {
+        return false;
     }
+    &file[..16] == DATABASE_HEAD.as_slice()
 }
 
 /// Whether it is what a stop within the making of a new store leaves in its file.

@@ -11,6 +11,9 @@ pub(crate) const FILE_HEAD: u64 = 16;
 /// A log of as many bytes is a head without a commit.
 const EMPTY_LOG: usize = 41;
 
+/// What stands behind the first twelve bytes of a log that only the making of a store has written.
+const BEGUN: &[u8; 4] = &[255; 4];
+
 /// As many bytes are the head of a log: one more than those of a log without a commit.
 pub(crate) const LOG_HEAD: u64 = 42;
 
@@ -43,25 +46,7 @@ fn is_begun(log: &[u8]) -> bool
     }
     match log {
         [0, ..] => true,
-        [
-            0x37,
-            _,
-            _,
-            _,
-            _,
-            _,
-            _,
-            _,
-            _,
-            _,
-            _,
-            _,
-            255,
-            255,
-            255,
-            255,
-            ..
-        ] => true,
+        [0x37, ..] if log.len() >= 16 => &log[12..16] == BEGUN.as_slice(),
         _ => false,
     }
 }

@@ -55,6 +55,11 @@ impl Hints {
         }
     }
 
+    /// Whether there are to be any.
+    pub(crate) fn are_wanted(&self) -> bool {
+        self.is_wanted
+    }
+
     /// The lines, each with its end. None where there are none, or none are wanted.
     pub fn lines(&self) -> Option<&str> {
         match &self.lines {

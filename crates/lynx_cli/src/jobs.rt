@@ -51,8 +51,8 @@ pub fn do_job<
             run_over_stores(host, over, set, script, flags, hints, &mut writer)
         }
         Job::RunInput { flags } => run_standard_input(host, flags, hints, &mut writer),
-        Job::Show { store } => show_file(host, store, &mut writer),
-        Job::Upgrade { store } => upgrade_file(host, store, &mut writer),
+        Job::Show { store } => show_file(host, store, hints, &mut writer),
+        Job::Upgrade { store } => upgrade_file(host, store, hints, &mut writer),
         Job::Serve { set, folder, port } => {
             let service = Service { folder, port };
             serve_file(host, rt, stores, set, service, hints, &mut writer)

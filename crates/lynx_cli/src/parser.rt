@@ -186,7 +186,8 @@ fn show_command<'a>(alloc: Global) -> Result<Command<'a>, AllocError> {
         .after_help(
             "The store is only read. A fault of it is told as other-version, damaged or store.\nExample: lynx show server-0.lynx",
         )
-        .arg(store)
+        .arg(store)?
+        .arg(hints_flag(alloc))
 }
 
 fn upgrade_command<'a>(alloc: Global) -> Result<Command<'a>, AllocError> {
@@ -198,7 +199,8 @@ fn upgrade_command<'a>(alloc: Global) -> Result<Command<'a>, AllocError> {
         .after_help(
             "No service may have the store open, and a copy of it should be kept until the new one is in use.\nEntries and cells stay what they are. A fault of it is told as other-version, damaged or store: it is\nthen as it was, or after store as it was or upgraded.\nExample: lynx upgrade server-0.lynx",
         )
-        .arg(store)
+        .arg(store)?
+        .arg(hints_flag(alloc))
 }
 
 /// The port of a service.

@@ -1,11 +1,15 @@
 //! Stores by their files: listed, and upgraded. Both look at a copy first, so that nothing is
 //! written to what is no store, or is only read.
 use crate::fault::Fault;
+use crate::hints::Hints;
 use crate::source::InputFault;
 use crate::texts::DONE;
+use lynx_server::{OpenFault, Server};
 use lynx_show::{ShowFault, check_upgrade, show_store, upgrade_and_tell};
+use lynx_store::{SqlKeeper, inspect};
 use lynx_store_files::{CopyFault, StoreCopy, copy_store};
 use sqlite::Connection;
+use std::alloc::Global;
 use std::io::{IsTerminal, Write};
 
 /// A copy of the store of a file, as it is before anything is done to it.
@@ -19,17 +23,58 @@ fn copied<'a>(rt: &HostRuntime, store: &'a str) -> Result<StoreCopy, Fault<'a>> 
     }
 }
 
+/// At which place the entries of a store aren't lawful after those before it, or how many there are
+/// where only the cells aren't theirs, and how many there are. None where a server would open it,
+/// and for want of memory.
+fn unlawful_at(alloc: Global, mut copy: StoreCopy) -> Option<(u64, u64)> {
+    let held = inspect(alloc, &mut copy).ok()?;
+    let count = held.loaded.entries.len() as u64;
+    let keeper = SqlKeeper::open(alloc, copy, &held.set, held.server).ok()?;
+    match Server::open(alloc, &held.set, held.server, keeper) {
+        Err(OpenFault::Damaged { place }) => Some((place, count)),
+        _ => None,
+    }
+}
+
+/// Says behind what was written that no server would open the store of a file, where it is so and
+/// hints are wanted.
+fn hint_unlawful<W: Write>(rt: &HostRuntime, store: &str, hints: &Hints, writer: &mut W) {
+    if !hints.are_wanted() {
+        return;
+    }
+    let Ok(copy) = copied(rt, store) else {
+        return;
+    };
+    let Some((place, count)) = unlawful_at(rt.alloc(), copy) else {
+        return;
+    };
+    let _ = writer.flush();
+    if place < count {
+        let _ = eprintln!(rt;
+            "  entry {place}, counted from 0, isn't lawful after those before it: no server opens the store"
+        );
+    } else {
+        let _ = eprintln!(rt;
+            "  the cells aren't those of the {count} entries: no server opens the store"
+        );
+    }
+}
+
 /// Lists the store of a file.
 pub(crate) fn show_file<'a, W: Write>(
     rt: &HostRuntime,
     store: &'a str,
+    hints: &Hints,
     writer: &mut W,
 ) -> Result<u8, Fault<'a>> {
     let mut copy = copied(rt, store)?;
     match show_store(rt.alloc(), &mut copy, writer) {
-        Ok(()) => Ok(DONE),
-        Err(fault) => Err(Fault::of_showing(fault)),
+        Ok(()) => {}
+        Err(fault) => return Err(Fault::of_showing(fault)),
     }
+    drop(copy);
+    hint_unlawful(rt, store, hints, writer);
+    Ok(DONE)
 }
 
 /// What a person at a terminal is told while a store is upgraded, which takes some seconds where it
@@ -75,10 +120,14 @@ fn upgrade<'a, W: Write>(
 pub(crate) fn upgrade_file<'a, W: Write>(
     rt: &HostRuntime,
     store: &'a str,
+    hints: &Hints,
     writer: &mut W,
 ) -> Result<u8, Fault<'a>> {
     tell(rt, UPGRADING);
     let done = upgrade(rt, store, writer);
     tell(rt, WIPED);
+    if done.is_ok() {
+        hint_unlawful(rt, store, hints, writer);
+    }
     done
 }

@@ -7,6 +7,8 @@ mod damaged;
 #[cfg(test)]
 mod made;
 #[cfg(test)]
+mod presence;
+#[cfg(test)]
 mod shown;
 #[cfg(test)]
 mod stops;

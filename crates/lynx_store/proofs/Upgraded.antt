@@ -1,5 +1,5 @@
 -- What an upgrade keeps.
-use Rattle.std.proofs.Common.{◌≡◌, ◌⊎◌, inl, inr, ℕ, true, List, ◌∷◌, [], ◌++◌, length, None, Some, refl, sym, ap, subst, ◌∙◌, arith}
+use Rattle.std.proofs.Common.{◌≡◌, ◌⊎◌, inl, inr, ℕ, true, List, ◌∷◌, [], ◌++◌, length, None, Some, refl, sym, ap, subst, ◌∙◌}
 use Rattle.std.specs.Prelude.{codes, drop}
 use Rattle.std.specs.Fmt.{decimal}
 use Rattle.sqlite.specs.Tree.{Trees}
@@ -11,7 +11,6 @@ use Rattle.lynx_lex.specs.Lines.{line}
 use Rattle.lynx_set.specs.declared.version.Version.{Version}
 use Rattle.lynx_set.specs.declared.version.Version.TheVariants as sets
 use Rattle.lynx_sql.specs.declared.acts.Acted.{Acted}
-use Rattle.lynx_sql.specs.declared.version.StoreVersion.{StoreVersion}
 use Rattle.lynx_sql.specs.declared.version.StoreVersion.TheVariants.{One, Two}
 use Rattle.lynx_sql.specs.Acts.{ArePlaced}
 use Rattle.lynx_sql.specs.Contents.{Contents, title_of, upgraded}

@@ -1,4 +1,4 @@
-use Rattle.std.proofs.Common.{◌≡◌, length, rules, sym, ◌∙◌, arith}
+use Rattle.std.proofs.Common.{◌≡◌, length, rules, arith}
 use Rattle.lynx_store.proofs.ActLemmas.{shows_next, all_shown}
 use Rattle.lynx_store.proofs.acts.are_act_rows.Goals as goal
 

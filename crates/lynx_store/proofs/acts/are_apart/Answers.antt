@@ -1,7 +1,5 @@
-use Rattle.std.proofs.Common.{rules, ◌≡◌, ◌∙◌, sym, ap, length, IsTrue}
-use Rattle.std.specs.BTreeSet.{btree_set_len, IsFromIterResult}
-use Rattle.std.proofs.Math.Facts.{eqb_yes, yes_eqb}
-use Rattle.lynx_store.specs.Acts.{hop_cmp, hop_in}
+use Rattle.std.proofs.Common.{rules, ◌≡◌, length}
+use Rattle.std.specs.BTreeSet.{btree_set_len}
 use Rattle.lynx_store.proofs.Apart.{apart_by_count}
 use Rattle.lynx_store.proofs.acts.are_apart.Goals as goal
 

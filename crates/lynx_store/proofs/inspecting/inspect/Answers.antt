@@ -1,8 +1,8 @@
-use Rattle.std.proofs.Common.{◌≡◌, length, refl, sym, subst, ◌∙◌}
+use Rattle.std.proofs.Common.{◌≡◌, refl, sym, subst}
 use Rattle.sqlite.specs.Held.{state}
 use Rattle.lynx_keep.specs.Kept.{kept_in}
 use Rattle.lynx_sql.proofs.ReadLemmas.{if_ok}
-use Rattle.lynx_store.specs.Stored.{Owner, Tells, contents_of, owner_for, version_for}
+use Rattle.lynx_store.specs.Stored.{Tells, contents_of, owner_for, version_for}
 use Rattle.lynx_store.proofs.Kept.{every_err, goes_on, if_err, placed}
 use Rattle.lynx_store.proofs.RowsRead.{one_owner, one_state}
 use Rattle.lynx_store.proofs.inspecting.inspect.Goals as goal

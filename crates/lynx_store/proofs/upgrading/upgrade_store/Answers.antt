@@ -4,8 +4,8 @@ use Rattle.sqlite.specs.Held.{state}
 use Rattle.lynx_keep.specs.Kept.{kept_in}
 use Rattle.lynx_store.specs.Premise.{IsUndisturbed}
 use Rattle.lynx_store.specs.Stored.{IsKept, owner_for, version_for}
-use Rattle.lynx_store.specs.Upgrades.{IsSecond, LeavesUpgraded, Upgrades, second_of}
-use Rattle.lynx_store.proofs.Upgraded.{leaves_first, leaves_second, second_kept, still_kept, told_may, upgrades}
+use Rattle.lynx_store.specs.Upgrades.{IsSecond, Upgrades, second_of}
+use Rattle.lynx_store.proofs.Upgraded.{leaves_second, second_kept, told_may, upgrades}
 use Rattle.lynx_store.proofs.upgrading.upgrade_store.Goals as goal
 
 pub returns-in_err-held-clause-same : goal.returns-in_err-held-clause-same

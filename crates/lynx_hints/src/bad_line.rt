@@ -1,11 +1,12 @@
 //! Bad lines.
 
-use crate::before::Before;
+use crate::before::{Before, find};
+use crate::counts::put_wrong_count;
 use crate::flaw::flaw_of;
 use crate::near::is_near;
 use crate::place::{fits, put_fitting};
 use crate::site::Site;
-use crate::verb::{LINES, Verb};
+use crate::verb::{Kind, LINES, Verb};
 use crate::word::{Marked, Word, Written};
 use std::fmt::Write;
 
@@ -23,7 +24,7 @@ pub(crate) fn put_bad_line(out: &mut String, site: &Site<'_>) -> Marked {
     }
     match (site.fault.word, site.verb) {
         (_, None) => put_no_verb(out, site)?,
-        (0, Some(verb)) => return verb.put_wrong_count(out, &site.line),
+        (0, Some(verb)) => return put_wrong_count(out, &site.line, verb),
         (1, Some(verb)) => put_misplaced(out, site, verb)?,
         (_, Some(Verb::Let)) => put_operator(out, site.word)?,
         (_, Some(Verb::Need)) => put_relation(out, site.word)?,
@@ -59,33 +60,80 @@ fn put_owed(out: &mut String, before: &Before<'_>) -> Written {
 
 /// Writes that no line can begin with this word.
 fn put_no_verb(out: &mut String, site: &Site<'_>) -> Written {
-    let word = site.word;
+    let (word, kind) = (site.word, site.before.kind);
     let is_version = word.text == b"lynx".as_slice();
-    let (own, other) = if site.before.is_script {
-        ("script", "sets")
-    } else {
-        ("set", "scripts")
-    };
-    if is_version && !site.before.is_script {
+    if is_version && kind == Kind::Set {
         out.push_str("  lynx begins the first line alone\n")?;
         return put_fitting(out, &site.before);
     }
-    write!(out, "  no line of a {own} begins with {word}")?;
-    match nearest(&site.before, word.text) {
-        Some(verb) => writeln!(out, "; did you mean {}?", verb.spelled())?,
-        None if is_version || Verb::of(word.text).is_some() => {
-            writeln!(out, "; one of {other} does")?;
-        }
-        None => out.push_str("\n")?,
+    write!(out, "  no line of {} begins with {word}", text_of(kind))?;
+    let other = if is_version {
+        Some(Kind::Set)
+    } else {
+        Verb::of(word.text).map(|verb| verb.kind())
+    };
+    match (nearest(&site.before, word.text), other) {
+        (Some(verb), _) => writeln!(out, "; did you mean {}?", verb.spelled())?,
+        (None, Some(other)) => writeln!(out, "; one of {} does", texts_of(other))?,
+        (None, None) => out.push_str("\n")?,
     }
+    put_wanted(out, site)?;
     put_fitting(out, &site.before)
+}
+
+/// How a text of that kind is called ..
+fn text_of(kind: Kind) -> &'static str {
+    match kind {
+        Kind::Set => "a set",
+        Kind::Script => "a script",
+        Kind::Asked => "what is asked",
+    }
+}
+
+/// .. and many of them.
+fn texts_of(kind: Kind) -> &'static str {
+    match kind {
+        Kind::Set => "sets",
+        Kind::Script => "scripts",
+        Kind::Asked => "what a service is asked",
+    }
+}
+
+/// Writes how to do what a line that begins so may be meant to do.
+fn put_wanted(out: &mut String, site: &Site<'_>) -> Written {
+    let (word, kind) = (site.word, site.before.kind);
+    match word.text {
+        _ if kind != Kind::Set => {
+            if find(site.before.programs.as_slice(), word.text).is_none() {
+                return Ok(());
+            }
+            let begin = if kind == Kind::Script {
+                Verb::Begin
+            } else {
+                Verb::Request
+            };
+            writeln!(out, "  {word} is a program: a begin asks for a chain of it")?;
+            begin.put_form(out)
+        }
+        b"if" | b"else" | b"when" | b"unless" => {
+            out.push_str("  there is no condition but need, which refuses the whole chain\n")
+        }
+        b"for" | b"while" | b"loop" | b"repeat" => {
+            out.push_str("  there is no loop: each cell is named by a line of its own\n")
+        }
+        b"mul" | b"div" | b"mod" => out.push_str("  there is no product and no quotient\n"),
+        b"del" | b"delete" | b"remove" | b"clear" => {
+            out.push_str("  a cell is emptied by setting it to 0\n")
+        }
+        _ => Ok(()),
+    }
 }
 
 /// The verb that the word nearly is, one that can stand here before others.
 fn nearest(before: &Before<'_>, word: &[u8]) -> Option<Verb> {
     let mut found = None;
     for (verb, _, _) in LINES {
-        let is_own = verb.is_of_script() == before.is_script;
+        let is_own = verb.kind() == before.kind;
         if is_own && is_near(word, verb.spelled().as_bytes()) {
             if fits(before, verb) {
                 return Some(verb);
@@ -138,6 +186,9 @@ fn put_operator(out: &mut String, word: Word<'_>) -> Written {
         out,
         "  {word} is no operator: a let adds by + or takes away by -"
     )?;
+    if let b"*" | b"/" | b"%" | b"**" | b"^" = word.text {
+        out.push_str("  there is no product and no quotient: a value twice is itself + itself\n")?;
+    }
     Verb::Let.put_form(out)
 }
 

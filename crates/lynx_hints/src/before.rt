@@ -3,7 +3,7 @@
 
 ghost use Rattle.std.specs.Prelude.{◌≡◌, IfOk, IfSome};
 
-use crate::verb::Verb;
+use crate::verb::{Kind, Verb};
 use crate::word::{Word, Written, word_at, words_of};
 use lynx_lex::lines::next_line;
 use lynx_set::ChainSet;
@@ -14,6 +14,16 @@ use std::alloc::{AllocError, Global};
 pub(crate) struct Declared<'a> {
     pub word: Word<'a>,
     pub line: usize,
+    /// The key of the cell whose value the name is, where a `get` binds it; else an empty word.
+    pub key: Word<'a>,
+}
+
+impl<'a> Declared<'a> {
+    /// The name of that word, declared by that line.
+    fn new(word: Word<'a>, line: usize) -> Declared<'a> {
+        let key = word_at(&[], 0);
+        Declared { word, line, key }
+    }
 }
 
 /// The declaration of a name among these.
@@ -32,10 +42,11 @@ struct ShardLine<'a> {
     server: Word<'a>,
 }
 
-/// What the lines of a set before a fault declare; before a fault of a script, what its set does.
+/// What the lines of a set before a fault declare; before a fault of a script, or of what a service
+/// is asked, what the set does.
 #[derive(Drop)]
 pub(crate) struct Before<'a> {
-    pub is_script: bool,
+    pub kind: Kind,
     /// Whether the text is of version 2.
     pub is_second: bool,
     /// The verb of the last line, None where that is the version's.
@@ -56,9 +67,9 @@ pub(crate) struct Before<'a> {
 
 impl<'a> Before<'a> {
     /// Nothing yet.
-    fn new(alloc: Global, is_script: bool) -> Before<'a> {
+    fn new(alloc: Global, kind: Kind) -> Before<'a> {
         Before {
-            is_script,
+            kind,
             is_second: false,
             last_verb: None,
             servers: 0,
@@ -69,31 +80,28 @@ impl<'a> Before<'a> {
             bound: Vec::new(alloc),
             last_range: None,
             hops: 0,
-            hop: Declared {
-                word: word_at(&[], 0),
-                line: 0,
-            },
+            hop: Declared::new(word_at(&[], 0), 0),
             actions: 0,
         }
     }
 
-    /// What the set declares.
-    pub fn of_set(alloc: Global, set: &'a ChainSet) -> Result<Before<'a>, AllocError>
+    /// What the set declares, before a line of that kind.
+    pub fn of_set(alloc: Global, set: &'a ChainSet, kind: Kind) -> Result<Before<'a>, AllocError>
         ensures { IfOk result (λ before. before.servers ≡ set.now.servers) }
     {
-        let mut before = Before::new(alloc, true);
+        let mut before = Before::new(alloc, kind);
         before.servers = u64::from(set.servers());
         for (name, _) in set.programs() {
             let text = name.as_bytes();
             let word = Word { text, start: 0 };
-            before.programs.push(Declared { word, line: 0 })?;
+            before.programs.push(Declared::new(word, 0))?;
         }
         Ok(before)
     }
 
     /// What the lines of the text before that of this number declare.
     pub fn of_text(alloc: Global, text: &'a [u8], number: usize) -> Result<Before<'a>, AllocError> {
-        let mut before = Before::new(alloc, false);
+        let mut before = Before::new(alloc, Kind::Set);
         let mut rest = text;
         for line in 1..number {
             let Some((bytes, after)) = next_line(rest) else {
@@ -101,7 +109,7 @@ impl<'a> Before<'a> {
             };
             rest = after;
             let words = words_of(alloc, bytes)?;
-            before.last_verb = Verb::of(word_at(words.as_slice(), 0).text);
+            before.last_verb = Verb::among(Kind::Set, word_at(words.as_slice(), 0).text);
             match before.last_verb {
                 Some(verb) => before.learn(verb, words.as_slice(), line)?,
                 None => before.is_second = bytes == b"lynx 2".as_slice(),
@@ -112,10 +120,7 @@ impl<'a> Before<'a> {
 
     /// Learns what a line declares.
     fn learn(&mut self, verb: Verb, words: &[Word<'a>], line: usize) -> Written {
-        let name = Declared {
-            word: word_at(words, 1),
-            line,
-        };
+        let name = Declared::new(word_at(words, 1), line);
         match verb {
             Verb::Servers => self.servers = name.word.number(),
             Verb::Table => self.tables.push(name)?,
@@ -129,7 +134,10 @@ impl<'a> Before<'a> {
             }
             _ => {
                 self.actions = self.actions.saturating_add(1);
-                if verb == Verb::Get || verb == Verb::Let {
+                if verb == Verb::Get {
+                    let key = word_at(words, 3);
+                    self.bound.push(Declared { key, ..name })?;
+                } else if verb == Verb::Let {
                     self.bound.push(name)?;
                 }
             }
@@ -154,10 +162,7 @@ impl<'a> Before<'a> {
         self.last_range = None;
         self.hops = 0;
         for word in words.iter().skip(2) {
-            self.parameters.push(Declared {
-                word: *word,
-                line: name.line,
-            })?;
+            self.parameters.push(Declared::new(*word, name.line))?;
         }
         Ok(())
     }

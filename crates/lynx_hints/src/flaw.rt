@@ -17,6 +17,8 @@ pub(crate) enum Flaw {
     Return,
     Tab,
     Byte(u8),
+    /// A character that isn't ASCII.
+    Character(char),
     SpaceFirst,
     SpacesBetween,
     SpaceLast,
@@ -26,8 +28,12 @@ pub(crate) enum Flaw {
 impl Flaw {
     /// Writes what is wrong.
     pub fn put(self, out: &mut String) -> Written {
-        if let Flaw::Byte(byte) = self {
-            writeln!(out, "  a byte stands here that can't: {byte} in decimal")?;
+        match self {
+            Flaw::Byte(byte) => {
+                writeln!(out, "  a byte stands here that can't: {byte} in decimal")?;
+            }
+            Flaw::Character(character) => put_character(out, character)?,
+            _ => {}
         }
         out.push_str(match self {
             Flaw::Comment => "  a text has no comments: take the line out\n",
@@ -38,7 +44,8 @@ impl Flaw {
             Flaw::Tab => {
                 "  a tab stands here: one space stands between words, and no line is indented\n"
             }
-            Flaw::Byte(_) => "  a text is printable ASCII, the bytes 32 to 126, and LF\n",
+            Flaw::Byte(_) | Flaw::Character(_) =>
+                "  a text is printable ASCII, the bytes 32 to 126, and LF\n",
             Flaw::SpaceFirst => "  the line begins with a space: no line is indented\n",
             Flaw::SpacesBetween => {
                 "  more than one space stands here: one stands between two words\n"
@@ -90,6 +97,43 @@ fn place_of_comment(line: &[u8]) -> Option<usize> {
     }
 }
 
+/// Writes which character stands where ASCII has to, and what is spelled so in its place.
+fn put_character(out: &mut String, character: char) -> Written {
+    write!(
+        out,
+        "  the character U+{:04X} stands here",
+        u32::from(character)
+    )?;
+    match spelled_so(character) {
+        Some(meant) => writeln!(out, "; did you mean {meant}?"),
+        None => out.push_str("\n"),
+    }
+}
+
+/// How ASCII spells what is meant by a character, if that is known.
+fn spelled_so(character: char) -> Option<&'static str> {
+    match character {
+        '≥' => Some(">="),
+        '≤' => Some("<="),
+        '≠' => Some("!="),
+        '\u{2010}'..='\u{2015}' | '\u{2212}' => Some("-"),
+        '\u{a0}' | '\u{2000}'..='\u{200b}' | '\u{202f}' | '\u{3000}' => Some("a space"),
+        '…' | '‥' => Some(".."),
+        _ => None,
+    }
+}
+
+/// The character of more than one byte that begins at that place of the line, if one does.
+fn character_at(line: &[u8], start: usize) -> Option<char> {
+    for length in 2..=4usize {
+        let bytes = part_of(line, start, start.saturating_add(length));
+        if let Ok(text) = str::from_utf8(bytes) {
+            return text.chars().next();
+        }
+    }
+    None
+}
+
 /// A byte that can't stand in a line.
 fn byte_flaw(line: &[u8]) -> Option<(Flaw, Mark)>
     ensures { IfNone result (list_all is_printable line.now ≡ true) }
@@ -99,9 +143,16 @@ fn byte_flaw(line: &[u8]) -> Option<(Flaw, Mark)>
             let flaw = match *byte {
                 b'\r' => Flaw::Return,
                 b'\t' => Flaw::Tab,
-                byte => Flaw::Byte(byte),
+                byte => match character_at(line, start) {
+                    Some(character) => Flaw::Character(character),
+                    None => Flaw::Byte(byte),
+                },
             };
-            return Some((flaw, Mark { start, width: 1 }));
+            let width = match flaw {
+                Flaw::Character(character) => character.len_utf8(),
+                _ => 1,
+            };
+            return Some((flaw, Mark { start, width }));
         }
     }
     None

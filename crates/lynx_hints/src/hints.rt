@@ -17,6 +17,9 @@ pub enum Part<'a> {
     Set,
     /// A script over this set.
     Script(&'a ChainSet),
+    /// What a service over this set is asked: the text is the line at fault alone, with its LF,
+    /// whatever its number.
+    Asked(&'a ChainSet),
 }
 
 /// The lines behind the one that names the fault, each with two spaces before it: the line at
@@ -41,7 +44,7 @@ pub fn hint(
 }
 
 /// What says the place: the file, and its line where there is one.
-fn head_of(alloc: Global, name: &str, line: usize) -> Result<String, AllocError>
+pub(crate) fn head_of(alloc: Global, name: &str, line: usize) -> Result<String, AllocError>
     ensures { IfOk result (λ head. string_bytes head ≡ head_of name.now line) }
 {
     let mut head = format!(in alloc; "  {name}:")?;

@@ -1,8 +1,13 @@
 //! Names in a sentence.
 
 use crate::before::{Declared, find};
+use crate::near::is_near;
 use crate::word::{Word, Written};
+use lynx_lex::Name;
 use std::fmt::Write;
+
+/// A shorter name is nearly every other short one.
+const MIN_NEAR: usize = 3;
 
 /// As many names are told, at most.
 const MAX_TOLD: usize = 10;
@@ -37,7 +42,34 @@ pub(crate) fn put_missing(
     }
     write!(out, "{what}s: ")?;
     put_names(out, names)?;
-    out.push_str("\n")
+    put_near(out, near_of(word, names))
+}
+
+/// Writes these names behind a colon, if there are any.
+pub(crate) fn put_listed(out: &mut String, names: &[Name]) -> Written {
+    for (place, name) in names.iter().enumerate() {
+        let text = name.as_bytes();
+        let word = Word { text, start: 0 };
+        write!(out, "{}{word}", if place > 0 { ", " } else { ": " })?;
+    }
+    Ok(())
+}
+
+/// Which of these the name nearly is, if it is one and isn't too short for that.
+pub(crate) fn near_of<'a>(word: Word<'_>, names: &[Declared<'a>]) -> Option<Word<'a>> {
+    if word.text.len() < MIN_NEAR {
+        return None;
+    }
+    let near = names.iter().find(|name| is_near(word.text, name.word.text));
+    near.map(|name| name.word)
+}
+
+/// Writes which name is meant, where one is nearly.
+pub(crate) fn put_near(out: &mut String, near: Option<Word<'_>>) -> Written {
+    match near {
+        Some(near) => writeln!(out, "; did you mean {near}?"),
+        None => out.push_str("\n"),
+    }
 }
 
 /// Writes which of these a name that is taken is already.

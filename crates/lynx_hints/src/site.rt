@@ -5,7 +5,7 @@ ghost use Rattle.std.specs.Prelude.{◌≡◌, None};
 use crate::before::Before;
 use crate::hints::Part;
 use crate::line::Line;
-use crate::verb::Verb;
+use crate::verb::{Kind, Verb};
 use crate::word::{Mark, Word, word_at};
 use lynx_lex::{FaultKind, TextFault};
 use std::alloc::{AllocError, Global};
@@ -32,16 +32,14 @@ impl<'a> Site<'a> {
         part: Part<'a>,
         fault: TextFault,
     ) -> Result<Site<'a>, AllocError> {
-        let before = match part {
-            Part::Set => Before::of_text(alloc, text, fault.line)?,
-            Part::Script(set) => Before::of_set(alloc, set)?,
+        let (before, number) = match part {
+            Part::Set => (Before::of_text(alloc, text, fault.line)?, fault.line),
+            Part::Script(set) => (Before::of_set(alloc, set, Kind::Script)?, fault.line),
+            Part::Asked(set) => (Before::of_set(alloc, set, Kind::Asked)?, 1),
         };
-        let line = Line::new(alloc, text, fault.line)?;
-        let after = Line::new(alloc, text, fault.line.saturating_add(1))?;
-        let verb = match Verb::of(line.word(1).text) {
-            Some(verb) if verb.is_of_script() == before.is_script => Some(verb),
-            _ => None,
-        };
+        let line = Line::new(alloc, text, number)?;
+        let after = Line::new(alloc, text, number.saturating_add(1))?;
+        let verb = Verb::among(before.kind, line.word(1).text);
         let word = match fault.word {
             0 => word_at(&[], 0),
             place => part_at_fault(verb, line.word(place), fault),
@@ -74,7 +72,7 @@ impl<'a> Site<'a> {
 fn part_at_fault<'a>(verb: Option<Verb>, word: Word<'a>, fault: TextFault) -> Word<'a> {
     let parts = match (verb, fault.word) {
         (Some(Verb::Range), 3) => word.cut_at(b"..".as_slice()),
-        (Some(Verb::Deliver | Verb::Lose), 2) => word.cut_at(b":".as_slice()),
+        (Some(verb), 2) if verb.has_chain() => word.cut_at(b":".as_slice()),
         _ => None,
     };
     match (parts, fault.kind) {

@@ -1,10 +1,19 @@
 //! The first words of lines, and what has to stand behind them.
 
-use crate::line::Line;
-use crate::word::{Mark, Marked, Written};
+use crate::word::Written;
 use std::fmt::Write;
 
-/// The first word of a line of a set, but for the version's, or of a script.
+/// What a line is of.
+#[derive(Clone, Copy, PartialEq, Eq)]
+pub(crate) enum Kind {
+    Set,
+    Script,
+    /// What a service is asked.
+    Asked,
+}
+
+/// The first word of a line of a set, but for the version's, of a script, or of what a service is
+/// asked.
 #[derive(Clone, Copy, PartialEq, Eq)]
 pub(crate) enum Verb {
     Servers,
@@ -26,11 +35,16 @@ pub(crate) enum Verb {
     Lose,
     Wake,
     Restart,
+    /// A begin without its server.
+    Request,
+    Look,
+    Quit,
+    Shut,
 }
 
 /// The words of the line of each verb, and how many there are; at least, where the line is open.
 /// Those of a set stand in the order in which they are told.
-pub(crate) const LINES: [(Verb, &str, usize); 19] = [
+pub(crate) const LINES: [(Verb, &str, usize); 23] = [
     (Verb::Servers, "servers N", 2),
     (Verb::Table, "table NAME", 2),
     (Verb::Shard, "shard LO HI SERVER", 4),
@@ -54,6 +68,14 @@ pub(crate) const LINES: [(Verb, &str, usize); 19] = [
     (Verb::Lose, "lose ORIGIN:INDEX HOP", 3),
     (Verb::Wake, "wake SERVER", 2),
     (Verb::Restart, "restart SERVER", 2),
+    (Verb::Request, "begin CLIENT NUMBER PROGRAM ARG..", 4),
+    (
+        Verb::Look,
+        "look ORIGIN:INDEX HOP, with wait behind it or without",
+        3,
+    ),
+    (Verb::Quit, "quit", 1),
+    (Verb::Shut, "shut", 1),
 ];
 
 /// What a word of a line is to be that has to be known.
@@ -67,7 +89,7 @@ pub(crate) enum Role {
 }
 
 impl Verb {
-    /// The verb that the word is.
+    /// The verb that the word is, of whatever lines.
     pub fn of(word: &[u8]) -> Option<Verb> {
         for (verb, _, _) in LINES {
             if verb.spelled().as_bytes() == word {
@@ -77,8 +99,18 @@ impl Verb {
         None
     }
 
+    /// The verb that the word is among lines of that kind.
+    pub fn among(kind: Kind, word: &[u8]) -> Option<Verb> {
+        for (verb, _, _) in LINES {
+            if verb.kind() == kind && verb.spelled().as_bytes() == word {
+                return Some(verb);
+            }
+        }
+        None
+    }
+
     /// The words of its line, and how many there are.
-    fn line(self) -> (&'static str, usize) {
+    pub fn line(self) -> (&'static str, usize) {
         let line = LINES.iter().find(|line| line.0 == self);
         line.map_or(("", 0), |line| (line.1, line.2))
     }
@@ -88,10 +120,19 @@ impl Verb {
         words.split_once(' ').map_or(words, |parts| parts.0)
     }
 
-    /// Whether its line is one of scripts.
-    pub fn is_of_script(self) -> bool {
+    /// What its line is of.
+    pub fn kind(self) -> Kind {
         match self {
-            Verb::Begin | Verb::Deliver | Verb::Lose | Verb::Wake | Verb::Restart => true,
+            Verb::Begin | Verb::Deliver | Verb::Lose | Verb::Wake | Verb::Restart => Kind::Script,
+            Verb::Request | Verb::Look | Verb::Quit | Verb::Shut => Kind::Asked,
+            _ => Kind::Set,
+        }
+    }
+
+    /// Whether its second word is a chain.
+    pub fn has_chain(self) -> bool {
+        match self {
+            Verb::Deliver | Verb::Lose | Verb::Look => true,
             _ => false,
         }
     }
@@ -104,7 +145,7 @@ impl Verb {
         }
     }
 
-    fn is_update(self) -> bool {
+    pub fn is_update(self) -> bool {
         match self {
             Verb::Set | Verb::Add | Verb::Sub | Verb::Max => true,
             _ => false,
@@ -115,7 +156,7 @@ impl Verb {
     pub fn role(self, word: usize) -> Role {
         match (self, word) {
             (Verb::Hop, _) => Role::Server,
-            (_, 2) if self.is_of_script() => Role::Server,
+            (_, 2) if self.has_chain() || self.kind() == Kind::Script => Role::Server,
             (Verb::Get, 3) => Role::Table,
             (Verb::Get, 4) => Role::Key,
             (Verb::Let, 3 | 5) | (Verb::Need, 2 | 4) => Role::Value,
@@ -129,36 +170,6 @@ impl Verb {
     /// Writes how its line looks.
     pub fn put_form(self, out: &mut String) -> Written {
         writeln!(out, "  the line is: {}", self.line().0)
-    }
-
-    /// Writes that its line has a wrong count of words, and gives those that are too many.
-    pub fn put_wrong_count(self, out: &mut String, line: &Line<'_>) -> Marked {
-        let words = line.words.as_slice();
-        if let Some(comment) = words.iter().find(|word| begins_comment(word.text)) {
-            out.push_str("  a text has no comments, behind a line neither\n")?;
-            return Ok(Some(Mark::from(line.bytes, comment.start)));
-        }
-        let least = self.line().1;
-        let is_open = self == Verb::Program || self == Verb::Begin;
-        let at_least = if is_open { "at least " } else { "" };
-        write!(out, "  {} takes {at_least}", self.spelled())?;
-        put_count(out, least.saturating_sub(1))?;
-        out.push_str(", and has ")?;
-        put_count(out, words.len().saturating_sub(1))?;
-        out.push_str(" here\n")?;
-        self.put_form(out)?;
-        match words.get(least) {
-            Some(surplus) => Ok(Some(Mark::from(line.bytes, surplus.start))),
-            None => Ok(None),
-        }
-    }
-}
-
-fn put_count(out: &mut String, words: usize) -> Written {
-    match words {
-        0 => out.push_str("no word"),
-        1 => out.push_str("1 word"),
-        _ => write!(out, "{words} words"),
     }
 }
 

@@ -1,6 +1,15 @@
--- What a client sends.
+-- What a line asks, and what a client sends.
+use Rattle.std.specs.Prelude.{◌≡◌, ℕ, Bool, List, [], ◌∷◌, ◌++◌, true, false, codes}
 use Rattle.lynx_codec.specs.declared.item.Item.{Item}
 use Rattle.lynx_codec.specs.declared.item.Item.TheVariants.{Request, Look, Quit, Shut}
+use Rattle.lynx_entry.specs.declared.event.Event.{Event}
+use Rattle.lynx_entry.specs.declared.event.Event.TheVariants.{Begin, Deliver}
+use Rattle.lynx_entry.specs.declared.request.Request as requests
+use Rattle.lynx_names.specs.declared.chain.ChainId.{ChainId}
+use Rattle.lynx_lines.specs.Scripts.{script_of}
+use Rattle.lynx_set.specs.Set.{Set}
+use Rattle.lynx_ask.specs.declared.reading.Asked.{Asked}
+use Rattle.lynx_ask.specs.declared.reading.Asked.TheVariants as asks
 
 -- an item that a client may send
 abbrev pub IsFromClient : Item → Type 0
@@ -9,3 +18,44 @@ IsFromClient (Look look) = Unit {0}
 IsFromClient Quit = Unit {0}
 IsFromClient Shut = Unit {0}
 IsFromClient other = ⊥
+
+-- these words, behind others, are the line of a script that has one event
+abbrev pub Spells : Set → List ℕ → List ℕ → Event → Type 0
+Spells set verb words event = script_of set (event ∷ []) ≡ verb ++ words ++ 10 ∷ []
+
+-- A begin that a script spells at server 0.
+pub record AsksBegin (set : Set) (words : List ℕ) (request : requests.Request) : Type 0 where
+  pub server : ℕ
+  pub seen : ℕ
+  pub spelled : Spells set (codes "begin 0 ") words (Begin server request seen)
+
+-- the words of a look, with `wait` behind it where it waits
+abbrev pub with_wait : Bool → List ℕ → List ℕ
+with_wait true message = message ++ codes " wait"
+with_wait false message = message
+
+-- A look that a script spells as a delivery.
+pub record AsksLook (set : Set) (words : List ℕ) (chain : ChainId) (hop : ℕ) (waits : Bool) : Type
+    0 where
+  pub message : List ℕ
+  pub told : words ≡ with_wait waits message
+  pub spelled : Spells set (codes "deliver ") message (Deliver chain hop)
+
+-- what the words behind `begin` ask: a begin
+abbrev pub IsBeginOf : Set → List ℕ → Asked → Type 0
+IsBeginOf set words (asks.Begin request) = AsksBegin set words request
+IsBeginOf set words other = ⊥
+
+-- what the words behind `look` ask: a look
+abbrev pub IsLookOf : Set → List ℕ → Asked → Type 0
+IsLookOf set words (asks.Look chain hop waits) = AsksLook set words chain hop waits
+IsLookOf set words other = ⊥
+
+-- what a line asks, without its LF
+abbrev pub IsAskedBy : Set → List ℕ → Asked → Type 0
+IsAskedBy set line asks.Quit = line ≡ codes "quit"
+IsAskedBy set line asks.Shut = line ≡ codes "shut"
+IsAskedBy set line (asks.Begin request) =
+    (words : List ℕ) × (line ≡ codes "begin " ++ words) × AsksBegin set words request
+IsAskedBy set line (asks.Look chain hop waits) =
+    (words : List ℕ) × (line ≡ codes "look " ++ words) × AsksLook set words chain hop waits

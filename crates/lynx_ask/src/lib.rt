@@ -1,12 +1,12 @@
 //! Asking a service by lines: each line is read to what a client sends, it is sent, and the answer
-//! is printed.
+//! is printed. A faulty line is told, and the next one asked.
 #![tactic(auto)]
 
-pub use asking::ask;
 pub use fault::AskFault;
 pub use reading::{Asked, read_asked};
+pub use session::{Reply, Session};
 
 mod answering;
-pub mod asking;
 pub mod fault;
 pub mod reading;
+pub mod session;

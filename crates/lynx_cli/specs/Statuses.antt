@@ -2,8 +2,6 @@
 use Rattle.std.specs.Prelude.{ℕ, Bool, false, Result, Ok, Err}
 use Rattle.lynx_cli.specs.declared.fault.Fault.{Fault}
 use Rattle.lynx_cli.specs.declared.fault.Fault.TheVariants.{Ask, Command, Memory, NoSeparator, Sample, Script, Serve, Set, Store, Unread, Write}
-use Rattle.lynx_ask.specs.declared.fault.AskFault.{AskFault}
-use Rattle.lynx_ask.specs.declared.fault.AskFault.TheVariants.{Line}
 use Rattle.lynx_sample.specs.declared.fault.SampleFault.{SampleFault}
 use Rattle.lynx_sample.specs.declared.fault.SampleFault.TheVariants.{NoCycle, TooLong, Run as Stopped}
 use Rattle.lynx_report.specs.declared.run.RunFault.{RunFault}
@@ -12,11 +10,6 @@ use Rattle.lynx_report.specs.declared.run.Ending.{Ending}
 use Rattle.lynx_report.specs.declared.run.Ending.TheVariants.{Ordered, Cyclic}
 use Rattle.lynx_report.specs.declared.verdict.Finding.{Finding}
 use Rattle.lynx_report.specs.declared.verdict.Finding.TheVariants.{Accepted, Offending}
-
--- of asking a service: 2 for a line that asks for nothing that there is
-abbrev pub status_of_asking : AskFault → ℕ
-status_of_asking (Line fault) = 2
-status_of_asking fault = 4
 
 -- of a run, a check or a picture: 2 for a text, 3 for want of memory, 4 for what can't be written
 abbrev pub status_of_run : RunFault → ℕ
@@ -41,7 +34,7 @@ status_of (Set fault) = 2
 status_of (Script fault) = 2
 status_of (Store fault) = 4
 status_of (Serve fault) = 4
-status_of (Ask fault) = status_of_asking fault
+status_of (Ask fault) = 4
 status_of (Sample fault) = status_of_sampling fault
 status_of Write = 4
 status_of Memory = 3

@@ -156,7 +156,6 @@ impl<'a> Fault<'a> {
     {
         match self {
             Fault::Command(_) | Fault::NoSeparator | Fault::Set(_) | Fault::Script(_) => 2,
-            Fault::Ask(AskFault::Line(_)) => 2,
             Fault::Unread(_) | Fault::Store(_) | Fault::Serve(_) | Fault::Ask(_) => 4,
             Fault::Sample(SampleFault::NoCycle) => 1,
             Fault::Sample(SampleFault::TooLong) => 2,

@@ -1,17 +1,23 @@
-//! The lines behind the one that tells a fault, where they are wanted: where in a text it is, and
-//! what was expected.
+//! The lines behind the one that tells a fault, where they are wanted: where in a text it is and
+//! what was expected, or why the system refused.
 use crate::fault::Fault;
 use crate::input::split_input;
 use crate::job::INPUT;
 use crate::reading::is_named_pipe;
 use crate::shown::Shown;
+use lynx_ask::AskFault;
 use lynx_hints::{Part, hint, separator_hint};
 use lynx_lex::TextFault;
 use lynx_text::parse;
 use std::alloc::Global;
 use std::io::Read;
+use std::net::Ipv4Addr;
 use std::rt::Files;
 use std::{fs, io};
+
+/// What is told where a connection was lost.
+const LOST: &str =
+    "  the service ended, or hung up\n  what was asked last was done or was not: asked again under its number, it tells\n";
 
 /// A text, and the name by which its lines are told.
 #[derive(Clone, Copy, Debug)]
@@ -134,6 +140,23 @@ impl Hints {
             }
             None if self.is_wanted => self.lines = separator_hint(alloc, input).ok(),
             None => {}
+        }
+    }
+
+    /// Notes why the port of this machine can't be had, as the system tells it.
+    pub(crate) fn note_port(&mut self, alloc: Global, port: u16, error: &io::Error) {
+        if self.is_wanted {
+            let address = Ipv4Addr::LOCALHOST;
+            self.lines = format!(in alloc; "  {address}:{port}: {error}\n").ok();
+        }
+    }
+
+    /// Notes what may have become of what was asked last, where the connection was lost.
+    pub(crate) fn note_lost<T>(&mut self, alloc: Global, done: &Result<T, Fault<'_>>) {
+        if let Err(Fault::Ask(AskFault::Lost)) = done {
+            if self.is_wanted {
+                self.lines = String::from_str(alloc, LOST).ok();
+            }
         }
     }
 

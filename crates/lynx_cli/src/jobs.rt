@@ -2,11 +2,12 @@
 ghost use Rattle.std.specs.Prelude.{◌≡◌, Ok, Err};
 ghost use Rattle.lynx_cli.specs.Statuses.{finished_as};
 
+use crate::asking::ask_port;
 use crate::fault::Fault;
 use crate::hints::{Hints, Named};
 use crate::job::{INPUT, Job, RunFlags, SampleFlags};
 use crate::reading::text_of;
-use crate::serving::{ask_port, serve_file};
+use crate::serving::serve_file;
 use crate::source::{MAX_INPUT_BYTES, read_all};
 use crate::stored::{StoresIn, rerun_script};
 use crate::storing::{show_file, upgrade_file};
@@ -30,7 +31,7 @@ pub fn do_job<
     'a,
     R: Host + Net<Listener = TcpListener, Stream = TcpStream>,
     K: Keeper + Send + Drop + 'static,
-    S: Stores<K>,
+    S: Stores<K> + Sync,
 >(host: &HostRuntime, rt: R, stores: &S, job: Job<'a>, hints: &mut Hints) -> Result<u8, Fault<'a>> {
     let Ok(mut writer) = BufWriter::new(host.alloc(), io::writer(host)) else {
         return Err(Fault::Memory);
@@ -150,12 +151,13 @@ fn run_files<'a, R: Files + AllocGlobal, W: Write>(
     let done = run_script(rt.alloc(), set_text, script_text, flags, writer);
     let (set, script) = (Named::new(set, set_text), Named::new(script, script_text));
     hints.note_run(rt.alloc(), set, script, &done);
+    hints.note_begins(rt.alloc(), set, script, &done);
     done
 }
 
 /// Runs the script of a file over the set of another, which is read first, and over stores.
-fn run_over_stores<'a, R: Files + AllocGlobal, K: Keeper + Drop, S: Stores<K>, W: Write>(
-    rt: &R,
+fn run_over_stores<'a, K: Keeper + Drop, S: Stores<K>, W: Write>(
+    rt: &HostRuntime,
     over: StoresIn<'_, S>,
     set: &'a str,
     script: &'a str,
@@ -165,9 +167,12 @@ fn run_over_stores<'a, R: Files + AllocGlobal, K: Keeper + Drop, S: Stores<K>, W
 ) -> Result<u8, Fault<'a>> {
     let (set_read, script_read) = (text_of(rt, set)?, text_of(rt, script)?);
     let (set_text, script_text) = (set_read.as_slice(), script_read.as_slice());
+    let folder = over.folder;
     let done = rerun_script(rt.alloc(), over, set_text, script_text, flags, writer);
     let (set, script) = (Named::new(set, set_text), Named::new(script, script_text));
     hints.note_run(rt.alloc(), set, script, &done);
+    hints.note_begins(rt.alloc(), set, script, &done);
+    hints.note_store(rt, folder, &done);
     done
 }
 

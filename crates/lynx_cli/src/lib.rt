@@ -11,6 +11,7 @@ pub use parser::{command, job_of, wants_hints};
 pub use source::{InputFault, MAX_FILE_BYTES, MAX_INPUT_BYTES, read_all};
 pub use texts::{chart_script, check_set, draw_set, run_input, run_script, sample_set};
 
+mod asking;
 pub mod fault;
 pub mod hints;
 pub mod input;

@@ -230,7 +230,7 @@ fn ask_command<'a>(alloc: Global) -> Result<Command<'a>, AllocError> {
     Command::new(alloc, "ask")
         .about("Ask a service what the lines of standard input ask, and print its answers")
         .after_help(
-            "Lines:\n  begin CLIENT NUMBER PROGRAM ARG..  begin a chain; the same CLIENT and NUMBER never begin two\n  look ORIGIN:INDEX HOP              whether that hop of a chain is done, and its results\n  quit                               leave, as the end of the input does\n  shut                               have the service end\nExample: echo 'begin 1 1 pay 30' | lynx ask payment.set 7000",
+            "Lines:\n  begin CLIENT NUMBER PROGRAM ARG..  begin a chain; the same CLIENT and NUMBER never begin two\n  look ORIGIN:INDEX HOP              whether that hop of a chain is done, and its results\n  look ORIGIN:INDEX HOP wait         the same, once the hop is done, or after ten seconds\n  quit                               leave, as the end of the input does\n  shut                               have the service end\nA faulty line is told on standard error, and the next one asked; the status is then 2.\nExample: echo 'begin 1 1 pay 30' | lynx ask payment.set 7000",
         )
         .arg(set_file(alloc))?
         .arg(port(alloc))?

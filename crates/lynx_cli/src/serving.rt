@@ -1,4 +1,4 @@
-//! Serving clients, and asking a service.
+//! Serving clients.
 ghost use Rattle.std.specs.Prelude.{◌≡◌, IfErr, IfOk, IfNone, IfSome};
 ghost use Rattle.lynx_set.specs.Rules.{IsSet};
 ghost use Rattle.lynx_set.specs.Text.{text_of};
@@ -8,31 +8,17 @@ ghost use Rattle.lynx_cli.specs.Stopped.{StopsJudging};
 
 use crate::fault::Fault;
 use crate::hints::{Hints, Named};
-use crate::job::INPUT;
 use crate::reading::text_of;
-use crate::source::InputFault;
 use crate::texts::{DONE, OFFENDING};
-use lynx_ask::{AskFault, ask};
 use lynx_cluster::Host;
 use lynx_keep::Keeper;
 use lynx_order::Explained;
-use lynx_report::read_set;
 use lynx_service::{Progress, Service, serve_stores};
 use lynx_set::ChainSet;
 use lynx_store_files::Stores;
 use std::alloc::Global;
-use std::io::{BufReader, Write};
-use std::net::{Ipv4Addr, Net, TcpListener, TcpStream};
-
-/// The set that a text spells.
-fn set_of<'a>(alloc: Global, text: &[u8]) -> Result<ChainSet, Fault<'a>>
-    ensures { IfOk result (λ set. IsSet set × (text.now ≡ text_of set)) }
-{
-    match read_set(alloc, text) {
-        Ok(set) => Ok(set),
-        Err(fault) => Err(Fault::of_run(fault)),
-    }
-}
+use std::io::Write;
+use std::net::{Net, TcpListener, TcpStream};
 
 /// The set that a text spells, if it is accepted. None where it offends, and then the verdict is
 /// written as by a check.
@@ -82,32 +68,5 @@ pub(crate) fn serve_file<
         Ok(Explained::Order(_)) => Ok(DONE),
         Ok(Explained::Cycle(_)) => Ok(OFFENDING),
         Err(fault) => Err(Fault::of_serving(fault)),
-    }
-}
-
-/// Asks the service at the port what the lines of standard input ask, by the set of a file.
-pub(crate) fn ask_port<'a, R: Net<Listener = TcpListener, Stream = TcpStream>, W: Write>(
-    host: &HostRuntime,
-    rt: &R,
-    name: &'a str,
-    port: u16,
-    hints: &mut Hints,
-    writer: &mut W,
-) -> Result<u8, Fault<'a>> {
-    let read = text_of(host, name)?;
-    let text = read.as_slice();
-    let set = set_of(host.alloc(), text);
-    hints.note_set(host.alloc(), Named { name, text }, &set);
-    let set = set?;
-    let Ok(mut stream) = TcpStream::connect(rt, (Ipv4Addr::LOCALHOST, port)) else {
-        return Err(Fault::of_asking(AskFault::Connect));
-    };
-    let Ok(lines) = BufReader::new(host.alloc(), host.reader()) else {
-        return Err(Fault::Memory);
-    };
-    match ask(host.alloc(), &set, lines, &mut stream, writer) {
-        Ok(()) => Ok(DONE),
-        Err(AskFault::Read) => Err(Fault::of_reading(INPUT, InputFault::Read)),
-        Err(fault) => Err(Fault::of_asking(fault)),
     }
 }

@@ -1,0 +1,145 @@
+//! Asking a service what the lines of standard input ask.
+use crate::fault::Fault;
+use crate::hints::{Hints, Named};
+use crate::job::INPUT;
+use crate::reading::text_of;
+use crate::source::InputFault;
+use crate::texts::{DONE, FAULTY};
+use lynx_ask::{AskFault, Reply, Session};
+use lynx_codec::Item;
+use lynx_entry::Answer;
+use lynx_hints::{Part, asked_begin_hint, hint};
+use lynx_lex::TextFault;
+use lynx_report::read_set;
+use lynx_set::ChainSet;
+use std::alloc::Global;
+use std::io::{BufRead, BufReader, ErrorKind, Write};
+use std::net::{Ipv4Addr, Net, TcpListener, TcpStream};
+
+/// How hints name standard input.
+const STANDARD_INPUT: &str = "standard input";
+
+/// A line of standard input with its LF, which the last one may lack, and its number, counted from
+/// 1.
+#[derive(Clone, Copy)]
+struct AskedLine<'a> {
+    text: &'a [u8],
+    number: usize,
+}
+
+/// Tells on standard error which line is faulty and why, and where hints are wanted where.
+fn tell_fault(
+    host: &HostRuntime,
+    hints: &Hints,
+    set: &ChainSet,
+    line: &AskedLine<'_>,
+    fault: TextFault,
+) {
+    let _ = eprintln!(host; "lynx: {fault}");
+    if hints.are_wanted() {
+        let part = Part::Asked(set);
+        if let Ok(lines) = hint(host.alloc(), STANDARD_INPUT, line.text, part, fault) {
+            let _ = eprint!(host; "{lines}");
+        }
+    }
+}
+
+/// Tells on standard error, where hints are wanted, how many arguments a program takes of which a
+/// line begins a chain with another count.
+fn tell_count(
+    host: &HostRuntime,
+    hints: &Hints,
+    set: &ChainSet,
+    line: &AskedLine<'_>,
+    answer: &Item,
+) {
+    if hints.are_wanted() && matches!(answer, Item::Answer(Answer::ArgCount)) {
+        let text = line
+            .text
+            .strip_suffix(b"\n".as_slice())
+            .unwrap_or(line.text);
+        let told = asked_begin_hint(host.alloc(), STANDARD_INPUT, set, text, line.number);
+        if let Ok(lines) = told {
+            let _ = eprint!(host; "{lines}");
+        }
+    }
+}
+
+/// The next line with its LF, or with one where the last one lacks it. None where there is none.
+fn next_line<'a, L: BufRead>(alloc: Global, lines: &mut L) -> Result<Option<Vec<u8>>, Fault<'a>> {
+    let mut line = Vec::new(alloc);
+    match lines.read_until(b'\n', &mut line) {
+        Ok(0) => Ok(None),
+        Ok(_) if line.as_slice().last() == Some(&b'\n') => Ok(Some(line)),
+        Ok(_) => match line.push(b'\n') {
+            Ok(()) => Ok(Some(line)),
+            Err(_) => Err(Fault::Memory),
+        },
+        Err(error) if error.kind() == ErrorKind::OutOfMemory => Err(Fault::Memory),
+        Err(_) => Err(Fault::of_reading(INPUT, InputFault::Read)),
+    }
+}
+
+/// Asks over the stream what the lines ask, one after the other, until there are none or the
+/// service takes leave. Faulty lines are told, and the status is theirs if there is one.
+fn ask_lines<'a, L: BufRead, W: Write>(
+    host: &HostRuntime,
+    set: &ChainSet,
+    lines: &mut L,
+    stream: &mut TcpStream,
+    hints: &Hints,
+    writer: &mut W,
+) -> Result<u8, Fault<'a>> {
+    let mut session = Session::new(host.alloc());
+    let mut status = DONE;
+    for number in 1..usize::MAX {
+        let Some(read) = next_line(host.alloc(), lines)? else {
+            return Ok(status);
+        };
+        let text = read.as_slice();
+        let line = AskedLine { text, number };
+        let asked = text.strip_suffix(b"\n".as_slice()).unwrap_or(text);
+        match session.ask(host, host.alloc(), set, asked, stream, writer) {
+            Ok(Reply::Answered(answer)) => tell_count(host, hints, set, &line, &answer),
+            Ok(Reply::Bye) => return Ok(status),
+            Ok(Reply::Faulty(fault)) => {
+                tell_fault(host, hints, set, &line, fault);
+                status = FAULTY;
+            }
+            Err(fault) => return Err(Fault::of_asking(fault)),
+        }
+    }
+    Ok(status)
+}
+
+/// Asks the service at the port what the lines of standard input ask, by the set of a file.
+pub(crate) fn ask_port<'a, R: Net<Listener = TcpListener, Stream = TcpStream>, W: Write>(
+    host: &HostRuntime,
+    rt: &R,
+    name: &'a str,
+    port: u16,
+    hints: &mut Hints,
+    writer: &mut W,
+) -> Result<u8, Fault<'a>> {
+    let read = text_of(host, name)?;
+    let text = read.as_slice();
+    let set = match read_set(host.alloc(), text) {
+        Ok(set) => Ok(set),
+        Err(fault) => Err(Fault::of_run(fault)),
+    };
+    hints.note_set(host.alloc(), Named::new(name, text), &set);
+    let set = set?;
+    let mut stream = match TcpStream::connect(rt, (Ipv4Addr::LOCALHOST, port)) {
+        Ok(stream) => stream,
+        Err(error) => {
+            hints.note_port(host.alloc(), port, &error);
+            return Err(Fault::of_asking(AskFault::Connect));
+        }
+    };
+    let Ok(mut lines) = BufReader::new(host.alloc(), host.reader()) else {
+        return Err(Fault::Memory);
+    };
+    let done = ask_lines(host, &set, &mut lines, &mut stream, hints, writer);
+    hints.note_lost(host.alloc(), &done);
+    done
+}

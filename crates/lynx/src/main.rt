@@ -53,7 +53,7 @@ fn command_line<'a, R: Env + AllocGlobal>(rt: &R) -> Result<Vec<String>, Fault<'
     }
 }
 
-/// Prints the lines behind that of a fault, if there are any.
+/// Prints the lines behind that of a fault, or behind a run, if there are any.
 fn tell<R: Eprint>(rt: &R, hints: &Hints) {
     if let Some(lines) = hints.lines() {
         let _ = eprint!(rt; "{lines}");
@@ -97,7 +97,10 @@ fn do_matches<
         Err(fault) => Err(Fault::Command(fault)),
     };
     match done {
-        Ok(status) => status,
+        Ok(status) => {
+            tell(host, &hints);
+            status
+        }
         Err(fault) => {
             let status = report(host, &fault);
             tell(host, &hints);

@@ -1,17 +1,19 @@
 //! The lines behind the one that tells a fault, where they are wanted: where in a text it is and
 //! what was expected, or why the system refused.
+use crate::causes::cause_of_store;
 use crate::fault::Fault;
 use crate::input::split_input;
 use crate::job::INPUT;
 use crate::reading::is_named_pipe;
 use crate::shown::Shown;
 use lynx_ask::AskFault;
-use lynx_hints::{Part, hint, separator_hint};
+use lynx_hints::{Part, begin_hints, hint, separator_hint};
 use lynx_lex::TextFault;
+use lynx_service::{ServeFault, StoreWord};
 use lynx_text::parse;
 use std::alloc::Global;
 use std::io::Read;
-use std::net::Ipv4Addr;
+use std::net::{Ipv4Addr, Net, TcpListener, TcpStream};
 use std::rt::Files;
 use std::{fs, io};
 
@@ -137,9 +139,45 @@ impl Hints {
                 let set = Named::new("standard input", set);
                 let script = Named::new("standard input, script", script);
                 self.note_run(alloc, set, script, done);
+                self.note_begins(alloc, set, script, done);
             }
             None if self.is_wanted => self.lines = separator_hint(alloc, input).ok(),
             None => {}
+        }
+    }
+
+    /// Notes which begins of a script that ran were at another server than their programs', or had
+    /// other counts of arguments.
+    pub(crate) fn note_begins<T>(
+        &mut self,
+        alloc: Global,
+        set: Named<'_>,
+        script: Named<'_>,
+        done: &Result<T, Fault<'_>>,
+    ) {
+        if !self.is_wanted || done.is_err() {
+            return;
+        }
+        let Ok(set) = parse(alloc, set.text) else {
+            return;
+        };
+        let shown = Shown { name: script.name };
+        if let Ok(name) = format!(in alloc; "{shown}") {
+            self.lines = begin_hints(alloc, name.as_str(), &set, script.text).ok();
+        }
+    }
+
+    /// Notes why the store of a folder can't be opened that a job was to open.
+    pub(crate) fn note_store<T>(
+        &mut self,
+        host: &HostRuntime,
+        folder: &str,
+        done: &Result<T, Fault<'_>>,
+    ) {
+        if let Err(Fault::Serve(ServeFault::Store { server, word })) = done {
+            if self.is_wanted && *word == StoreWord::Store {
+                self.lines = cause_of_store(host, host.alloc(), folder, *server).ok();
+            }
         }
     }
 
@@ -148,6 +186,19 @@ impl Hints {
         if self.is_wanted {
             let address = Ipv4Addr::LOCALHOST;
             self.lines = format!(in alloc; "  {address}:{port}: {error}\n").ok();
+        }
+    }
+
+    /// Notes why nobody can listen at the port: that is tried once more.
+    pub(crate) fn note_listening<R: Net<Listener = TcpListener, Stream = TcpStream>>(
+        &mut self,
+        rt: &R,
+        alloc: Global,
+        port: u16,
+    ) {
+        match TcpListener::bind(rt, (Ipv4Addr::LOCALHOST, port)) {
+            Ok(_) => {}
+            Err(error) => self.note_port(alloc, port, &error),
         }
     }
 

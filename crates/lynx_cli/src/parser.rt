@@ -63,12 +63,12 @@ fn flag<'a>(alloc: Global, name: &'a str, help: &'a str) -> Arg<'a> {
         .help(help)
 }
 
-/// The option by which faults of texts show the place.
+/// The option by which faults tell the place in a text, or the cause.
 fn hints_flag<'a>(alloc: Global) -> Arg<'a> {
     flag(
         alloc,
         HINTS,
-        "Show behind the line of a fault where it is in the text, and what was expected, as on a terminal always",
+        "Show behind the line of a fault where it is in the text and what was expected, or why the system refused, as on a\nterminal always",
     )
 }
 

@@ -13,7 +13,7 @@ use crate::texts::{DONE, OFFENDING};
 use lynx_cluster::Host;
 use lynx_keep::Keeper;
 use lynx_order::Explained;
-use lynx_service::{Progress, Service, serve_stores};
+use lynx_service::{Progress, ServeFault, Service, serve_stores};
 use lynx_set::ChainSet;
 use lynx_store_files::Stores;
 use std::alloc::Global;
@@ -67,6 +67,13 @@ pub(crate) fn serve_file<
     match serve_stores(rt, host.alloc(), &set, stores, service, writer, &progress) {
         Ok(Explained::Order(_)) => Ok(DONE),
         Ok(Explained::Cycle(_)) => Ok(OFFENDING),
-        Err(fault) => Err(Fault::of_serving(fault)),
+        Err(fault) => {
+            if fault == ServeFault::Listen {
+                hints.note_listening(&rt, host.alloc(), service.port);
+            }
+            let done = Err(Fault::of_serving(fault));
+            hints.note_store(host, service.folder, &done);
+            done
+        }
     }
 }

@@ -11,8 +11,8 @@ use Rattle.lynx_entry.specs.declared.answer.Answer as answers
 use Rattle.lynx_lex.specs.Lines.{with_feed}
 use Rattle.lynx_lines.specs.Printed.{answer_text, values_text}
 use Rattle.lynx_lines.specs.Written.{AppendsPart}
-use Rattle.lynx_ask.specs.declared.session.Reply.{Reply}
-use Rattle.lynx_ask.specs.declared.session.Reply.TheVariants as replies
+use Rattle.lynx_ask.specs.declared.session.LineReply.{LineReply}
+use Rattle.lynx_ask.specs.declared.session.LineReply.TheVariants as replies
 
 -- what is printed of what a look was answered
 abbrev pub looked_text : looks.Looked → List ℕ
@@ -33,13 +33,13 @@ item_line Bye = with_feed (codes "bye")
 item_line other = []
 
 -- what was written for a line: the line of one answer, and nothing where it is faulty
-abbrev pub HasReplied : Option (List ℕ) → Option (List ℕ) → Reply → Type 0
+abbrev pub HasReplied : Option (List ℕ) → Option (List ℕ) → LineReply → Type 0
 HasReplied old new (replies.Answered item) = Appends old new (item_line item)
 HasReplied old new replies.Bye = Appends old new (item_line Bye)
 HasReplied old new (replies.Faulty fault) = Keeps old new
 
 -- the line was asked, and is not a faulty one
-abbrev pub IsHeard : Reply → Type 0
+abbrev pub IsHeard : LineReply → Type 0
 IsHeard (replies.Faulty fault) = ⊥
 IsHeard other = ⊤
 

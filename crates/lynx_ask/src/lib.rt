@@ -4,7 +4,7 @@
 
 pub use fault::AskFault;
 pub use reading::{Asked, read_asked};
-pub use session::{Reply, Session};
+pub use session::{AskSession, LineReply};
 
 mod answering;
 pub mod fault;

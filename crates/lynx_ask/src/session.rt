@@ -27,7 +27,7 @@ const PAUSES: u32 = 106;
 
 /// What came of a line.
 #[derive(Debug, PartialEq, Eq, Drop)]
-pub enum Reply {
+pub enum LineReply {
     /// It was asked, and the line of this answer was written.
     Answered(Item),
     /// The service took leave, which was written: nothing more can be asked of it.
@@ -39,15 +39,15 @@ pub enum Reply {
 
 /// A talk with a service: what it has sent and wasn't read yet, and how many lines were asked.
 #[derive(Debug, Drop)]
-pub struct Session {
+pub struct AskSession {
     feed: Feed,
     lines: usize,
 }
 
-impl Session {
+impl AskSession {
     /// One in which nothing was asked yet. It takes no memory.
-    pub fn new(alloc: Global) -> Session {
-        Session {
+    pub fn new(alloc: Global) -> AskSession {
+        AskSession {
             feed: Feed::new(alloc),
             lines: 0,
         }
@@ -68,7 +68,7 @@ impl Session {
         line: &[u8],
         stream: &mut S,
         writer: &mut W,
-    ) -> Result<Reply, AskFault>
+    ) -> Result<LineReply, AskFault>
         // One answer is written, or nothing for a faulty line; or asking stops within one.
         ensures replied { IfOk result (HasReplied (W.contents writer.old) (W.contents writer.new)) }
         ensures stopped { OnErr result (HasStopped (W.contents writer.old)
@@ -147,24 +147,24 @@ impl Session {
 }
 
 /// What comes of a line whose answer was written.
-fn reply_of(answer: Item) -> Reply
+fn reply_of(answer: Item) -> LineReply
     ensures replied { (old new : Option (List ℕ)) → Appends old new (item_line answer)
         → HasReplied old new result }
     ensures heard { IsHeard result }
 {
     match answer {
-        Item::Bye => Reply::Bye,
-        answer => Reply::Answered(answer),
+        Item::Bye => LineReply::Bye,
+        answer => LineReply::Answered(answer),
     }
 }
 
 /// What comes of a line with that fault.
-fn faulty(fault: TextFault) -> Result<Reply, AskFault>
+fn faulty(fault: TextFault) -> Result<LineReply, AskFault>
     ensures { IfOk result (λ reply. (known : Option (List ℕ)) → HasReplied known known reply) }
 {
     match fault.kind {
         FaultKind::Memory => Err(AskFault::Memory),
-        _ => Ok(Reply::Faulty(fault)),
+        _ => Ok(LineReply::Faulty(fault)),
     }
 }
 

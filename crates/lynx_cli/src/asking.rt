@@ -5,7 +5,7 @@ use crate::job::INPUT;
 use crate::reading::text_of;
 use crate::source::InputFault;
 use crate::texts::{DONE, FAULTY};
-use lynx_ask::{AskFault, Reply, Session};
+use lynx_ask::{AskFault, AskSession, LineReply};
 use lynx_codec::Item;
 use lynx_entry::Answer;
 use lynx_hints::{Part, asked_begin_hint, hint};
@@ -90,7 +90,7 @@ fn ask_lines<'a, L: BufRead, W: Write>(
     hints: &Hints,
     writer: &mut W,
 ) -> Result<u8, Fault<'a>> {
-    let mut session = Session::new(host.alloc());
+    let mut session = AskSession::new(host.alloc());
     let mut status = DONE;
     for number in 1..usize::MAX {
         let Some(read) = next_line(host.alloc(), lines)? else {
@@ -100,9 +100,9 @@ fn ask_lines<'a, L: BufRead, W: Write>(
         let line = AskedLine { text, number };
         let asked = text.strip_suffix(b"\n".as_slice()).unwrap_or(text);
         match session.ask(host, host.alloc(), set, asked, stream, writer) {
-            Ok(Reply::Answered(answer)) => tell_count(host, hints, set, &line, &answer),
-            Ok(Reply::Bye) => return Ok(status),
-            Ok(Reply::Faulty(fault)) => {
+            Ok(LineReply::Answered(answer)) => tell_count(host, hints, set, &line, &answer),
+            Ok(LineReply::Bye) => return Ok(status),
+            Ok(LineReply::Faulty(fault)) => {
                 tell_fault(host, hints, set, &line, fault);
                 status = FAULTY;
             }

@@ -1,4 +1,4 @@
-ghost use Rattle.std.specs.Prelude.{◌≡◌, ◌+◌, ◌<◌, length, IfErr, IsOk, OnOk};
+ghost use Rattle.std.specs.Prelude.{◌≡◌, ◌+◌, ◌<◌, ◌↔◌, length, IfErr, IsOk, IsTrue, OnOk};
 ghost use Rattle.lynx_link.specs.Rings.{Sends, SeesRoom, SeesParcels};
 ghost use Rattle.lynx_link.specs.declared.ring.TheConstants.{RING_PARCELS};
 
@@ -44,6 +44,14 @@ impl Sender {
             Ok(()) => Ok(()),
             Err(PushError::Full(back)) => Err(back),
         }
+    }
+
+    /// Whether there is no room now. The receiver may make room at any time.
+    pub fn is_full(&mut self) -> bool
+        ensures looked { SeesRoom self.old self.new }
+        ensures value { IsTrue result ↔ (self.new.room ≡ 0) }
+    {
+        self.producer.is_full()
     }
 
     /// For how many parcels there is room, as seen by a thread that has both ends.

@@ -1,5 +1,5 @@
 -- The words of an event are words, and only it has them.
-use Rattle.std.proofs.Common.{◌≡◌, ◌≢◌, ◌⊎◌, inl, inr, not, eqb, ℕ, suc, ◌^◌, ◌<◌, true, List, [], ◌∷◌, ◌++◌, map, length, get_or, Some, refl, sym, ap, subst, ◌∙◌, append_assoc, arith}
+use Rattle.std.proofs.Common.{◌≡◌, ◌≢◌, ◌⊎◌, inl, inr, not, eqb, nat_eq, eq-eqb, ℕ, suc, ◌^◌, ◌<◌, true, false, List, [], ◌∷◌, ◌++◌, map, length, get_or, Some, refl, sym, ap, subst, ◌∙◌, append_assoc, arith}
 use Rattle.std.specs.Prelude.{codes, decimal}
 use Rattle.std.specs.Borrow.{Bor}
 use Rattle.std.specs.List.{AllByRecursion, list_all}
@@ -84,70 +84,12 @@ event_are_words set (Restart server) fits = (omega arith, server_is_word (codes 
 
 -- ---- verbs
 
--- no verb is another
-begin_is_not_deliver : codes "begin" ≡ codes "deliver" → ⊥
-begin_is_not_deliver e = cc
-
-begin_is_not_wake : codes "begin" ≡ codes "wake" → ⊥
-begin_is_not_wake e = cc
-
-begin_is_not_lose : codes "begin" ≡ codes "lose" → ⊥
-begin_is_not_lose e = cc
-
-begin_is_not_restart : codes "begin" ≡ codes "restart" → ⊥
-begin_is_not_restart e = cc
-
-deliver_is_not_begin : codes "deliver" ≡ codes "begin" → ⊥
-deliver_is_not_begin e = cc
-
-deliver_is_not_wake : codes "deliver" ≡ codes "wake" → ⊥
-deliver_is_not_wake e = cc
-
-deliver_is_not_lose : codes "deliver" ≡ codes "lose" → ⊥
-deliver_is_not_lose e = cc
-
-deliver_is_not_restart : codes "deliver" ≡ codes "restart" → ⊥
-deliver_is_not_restart e = let first : 100 ≡ 114 = ap (λ (xs : List ℕ). get_or xs 0 0) e in absurd (omega (arith, first))
-
-wake_is_not_begin : codes "wake" ≡ codes "begin" → ⊥
-wake_is_not_begin e = cc
-
-wake_is_not_deliver : codes "wake" ≡ codes "deliver" → ⊥
-wake_is_not_deliver e = cc
-
-wake_is_not_lose : codes "wake" ≡ codes "lose" → ⊥
-wake_is_not_lose e = let first : 119 ≡ 108 = ap (λ (xs : List ℕ). get_or xs 0 0) e in absurd (omega (arith, first))
-
-wake_is_not_restart : codes "wake" ≡ codes "restart" → ⊥
-wake_is_not_restart e = cc
-
-lose_is_not_begin : codes "lose" ≡ codes "begin" → ⊥
-lose_is_not_begin e = cc
-
-lose_is_not_deliver : codes "lose" ≡ codes "deliver" → ⊥
-lose_is_not_deliver e = cc
-
-lose_is_not_wake : codes "lose" ≡ codes "wake" → ⊥
-lose_is_not_wake e = let first : 108 ≡ 119 = ap (λ (xs : List ℕ). get_or xs 0 0) e in absurd (omega (arith, first))
-
-lose_is_not_restart : codes "lose" ≡ codes "restart" → ⊥
-lose_is_not_restart e = cc
-
-restart_is_not_begin : codes "restart" ≡ codes "begin" → ⊥
-restart_is_not_begin e = cc
-
-restart_is_not_deliver : codes "restart" ≡ codes "deliver" → ⊥
-restart_is_not_deliver e = let first : 114 ≡ 100 = ap (λ (xs : List ℕ). get_or xs 0 0) e in absurd (omega (arith, first))
-
-restart_is_not_wake : codes "restart" ≡ codes "wake" → ⊥
-restart_is_not_wake e = cc
-
-restart_is_not_lose : codes "restart" ≡ codes "lose" → ⊥
-restart_is_not_lose e = cc
-
--- a verb and what follows it, of words that begin with it
-other_verb : (words others more : List (List ℕ)) (verb other : List ℕ) → (verb ≡ other → ⊥) → words ≡ verb ∷ others → words ≢ other ∷ more
-other_verb words others more verb other differs is e = differs (first_is verb other others more (sym is ∙ e))
+-- a verb and what follows it, of words that begin with it: no two verbs have one first letter
+other_verb : (words others more : List (List ℕ)) (verb other : List ℕ) → nat_eq (get_or verb 0 0) (get_or other 0 0) ≡ false → words ≡ verb ∷ others →
+    words ≢ other ∷ more
+other_verb words others more verb other differs is e =
+    let alike = eq-eqb (get_or verb 0 0) (get_or other 0 0) (ap (λ (letters : List ℕ). get_or letters 0 0) (first_is verb other others more (sym is ∙ e))) in
+    cc
 
 same_verb : (words others more : List (List ℕ)) (verb : List ℕ) → others ≢ more → words ≡ verb ∷ others → words ≢ verb ∷ more
 same_verb words others more verb differs is e = differs (rest_is verb verb others more (sym is ∙ e))
@@ -159,71 +101,71 @@ pub no_begin : (set : Set) (words others : List (List ℕ)) → words ≡ codes 
 no_begin set words others is none (Begin server request seen) fits =
     same_verb words others (begin_words (program_names set) server request) (codes "begin") (none (server, request) (subst (FitsBegin set server request) fits.unseen fits)) is
 no_begin set words others is none (Deliver chain hop) fits =
-    other_verb words others (message_words chain hop) (codes "begin") (codes "deliver") begin_is_not_deliver is
+    other_verb words others (message_words chain hop) (codes "begin") (codes "deliver") refl is
 no_begin set words others is none (Wake server) fits =
-    other_verb words others (decimal server ∷ []) (codes "begin") (codes "wake") begin_is_not_wake is
+    other_verb words others (decimal server ∷ []) (codes "begin") (codes "wake") refl is
 no_begin set words others is none (Lost chain hop) fits =
-    other_verb words others (message_words chain hop) (codes "begin") (codes "lose") begin_is_not_lose is
+    other_verb words others (message_words chain hop) (codes "begin") (codes "lose") refl is
 no_begin set words others is none (Restart server) fits =
-    other_verb words others (decimal server ∷ []) (codes "begin") (codes "restart") begin_is_not_restart is
+    other_verb words others (decimal server ∷ []) (codes "begin") (codes "restart") refl is
 
 -- words behind `deliver` that spell no message are no event's
 pub no_deliver : (set : Set) (words others : List (List ℕ)) → words ≡ codes "deliver" ∷ others
     → ((message : ChainId × ℕ) → FitsMessage set message.0 message.1 → others ≢ message_words message.0 message.1)
     → (event : Event) → FitsEvent set event → words ≢ event_words (program_names set) event
 no_deliver set words others is none (Begin server request seen) fits =
-    other_verb words others (begin_words (program_names set) server request) (codes "deliver") (codes "begin") deliver_is_not_begin is
+    other_verb words others (begin_words (program_names set) server request) (codes "deliver") (codes "begin") refl is
 no_deliver set words others is none (Deliver chain hop) fits =
     same_verb words others (message_words chain hop) (codes "deliver") (none (chain, hop) fits) is
 no_deliver set words others is none (Wake server) fits =
-    other_verb words others (decimal server ∷ []) (codes "deliver") (codes "wake") deliver_is_not_wake is
+    other_verb words others (decimal server ∷ []) (codes "deliver") (codes "wake") refl is
 no_deliver set words others is none (Lost chain hop) fits =
-    other_verb words others (message_words chain hop) (codes "deliver") (codes "lose") deliver_is_not_lose is
+    other_verb words others (message_words chain hop) (codes "deliver") (codes "lose") refl is
 no_deliver set words others is none (Restart server) fits =
-    other_verb words others (decimal server ∷ []) (codes "deliver") (codes "restart") deliver_is_not_restart is
+    other_verb words others (decimal server ∷ []) (codes "deliver") (codes "restart") refl is
 
 -- words behind `lose` that spell no message are no event's
 pub no_lose : (set : Set) (words others : List (List ℕ)) → words ≡ codes "lose" ∷ others
     → ((message : ChainId × ℕ) → FitsMessage set message.0 message.1 → others ≢ message_words message.0 message.1)
     → (event : Event) → FitsEvent set event → words ≢ event_words (program_names set) event
 no_lose set words others is none (Begin server request seen) fits =
-    other_verb words others (begin_words (program_names set) server request) (codes "lose") (codes "begin") lose_is_not_begin is
+    other_verb words others (begin_words (program_names set) server request) (codes "lose") (codes "begin") refl is
 no_lose set words others is none (Deliver chain hop) fits =
-    other_verb words others (message_words chain hop) (codes "lose") (codes "deliver") lose_is_not_deliver is
+    other_verb words others (message_words chain hop) (codes "lose") (codes "deliver") refl is
 no_lose set words others is none (Wake server) fits =
-    other_verb words others (decimal server ∷ []) (codes "lose") (codes "wake") lose_is_not_wake is
+    other_verb words others (decimal server ∷ []) (codes "lose") (codes "wake") refl is
 no_lose set words others is none (Lost chain hop) fits =
     same_verb words others (message_words chain hop) (codes "lose") (none (chain, hop) fits) is
 no_lose set words others is none (Restart server) fits =
-    other_verb words others (decimal server ∷ []) (codes "lose") (codes "restart") lose_is_not_restart is
+    other_verb words others (decimal server ∷ []) (codes "lose") (codes "restart") refl is
 
 -- words behind `wake` that spell no server are no event's
 pub no_wake : (set : Set) (words others : List (List ℕ)) → words ≡ codes "wake" ∷ others
     → ((server : ℕ) → FitsServer set server → others ≢ decimal server ∷ [])
     → (event : Event) → FitsEvent set event → words ≢ event_words (program_names set) event
 no_wake set words others is none (Begin server request seen) fits =
-    other_verb words others (begin_words (program_names set) server request) (codes "wake") (codes "begin") wake_is_not_begin is
+    other_verb words others (begin_words (program_names set) server request) (codes "wake") (codes "begin") refl is
 no_wake set words others is none (Deliver chain hop) fits =
-    other_verb words others (message_words chain hop) (codes "wake") (codes "deliver") wake_is_not_deliver is
+    other_verb words others (message_words chain hop) (codes "wake") (codes "deliver") refl is
 no_wake set words others is none (Wake server) fits =
     same_verb words others (decimal server ∷ []) (codes "wake") (none server fits) is
 no_wake set words others is none (Lost chain hop) fits =
-    other_verb words others (message_words chain hop) (codes "wake") (codes "lose") wake_is_not_lose is
+    other_verb words others (message_words chain hop) (codes "wake") (codes "lose") refl is
 no_wake set words others is none (Restart server) fits =
-    other_verb words others (decimal server ∷ []) (codes "wake") (codes "restart") wake_is_not_restart is
+    other_verb words others (decimal server ∷ []) (codes "wake") (codes "restart") refl is
 
 -- words behind `restart` that spell no server are no event's
 pub no_restart : (set : Set) (words others : List (List ℕ)) → words ≡ codes "restart" ∷ others
     → ((server : ℕ) → FitsServer set server → others ≢ decimal server ∷ [])
     → (event : Event) → FitsEvent set event → words ≢ event_words (program_names set) event
 no_restart set words others is none (Begin server request seen) fits =
-    other_verb words others (begin_words (program_names set) server request) (codes "restart") (codes "begin") restart_is_not_begin is
+    other_verb words others (begin_words (program_names set) server request) (codes "restart") (codes "begin") refl is
 no_restart set words others is none (Deliver chain hop) fits =
-    other_verb words others (message_words chain hop) (codes "restart") (codes "deliver") restart_is_not_deliver is
+    other_verb words others (message_words chain hop) (codes "restart") (codes "deliver") refl is
 no_restart set words others is none (Wake server) fits =
-    other_verb words others (decimal server ∷ []) (codes "restart") (codes "wake") restart_is_not_wake is
+    other_verb words others (decimal server ∷ []) (codes "restart") (codes "wake") refl is
 no_restart set words others is none (Lost chain hop) fits =
-    other_verb words others (message_words chain hop) (codes "restart") (codes "lose") restart_is_not_lose is
+    other_verb words others (message_words chain hop) (codes "restart") (codes "lose") refl is
 no_restart set words others is none (Restart server) fits =
     same_verb words others (decimal server ∷ []) (codes "restart") (none server fits) is
 

@@ -20,7 +20,7 @@ use Rattle.lynx_weave.specs.declared.told.ToldItem.{ToldItem}
 use Rattle.lynx_weave.specs.declared.told.ToldItem.TheVariants.{Answered, Seen}
 use Rattle.lynx_weave.specs.inner.Judging.{IsAgreedAt, IsSolePlace, agrees_at, is_sought, passes_at}
 use Rattle.lynx_weave.specs.Lists.{entry_in}
-use Rattle.lynx_weave.specs.inner.Rebuilt.{histories_of}
+use Rattle.lynx_weave.specs.Servers.{histories_of}
 use Rattle.lynx_weave.specs.Told.{bears, is_other_call, same_request, server_told}
 use Rattle.lynx_weave.proofs.Gets.{found_none, found_passes, item}
 use Rattle.lynx_weave.proofs.Lawfuls.{IsSole, sole_act, sole_record}
@@ -170,10 +170,10 @@ agreed_nowhere histories told none server place =
 
 -- ---- by servers
 
-pub history_there : (servers : Servers) (server : ℕ) (here : Serving KeptState) → slice_get servers server ≡ Some here →
+pub history_there : {K : Type 0} (servers : List (Serving K)) (server : ℕ) (here : Serving K) → slice_get servers server ≡ Some here →
     slice_get (histories_of servers) server ≡ Some here.history
-history_there servers server here there =
-    slice_get-map (λ (h : Serving KeptState). h.history) servers server ∙ ap (option_map (λ (h : Serving KeptState). h.history)) there
+history_there {K} servers server here there =
+    slice_get-map (λ (h : Serving K). h.history) servers server ∙ ap (option_map (λ (h : Serving K). h.history)) there
 
 pub history_nowhere : (servers : Servers) (server : ℕ) → slice_get servers server ≡ None → slice_get (histories_of servers) server ≡ None
 history_nowhere servers server none =

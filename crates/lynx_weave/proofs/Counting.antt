@@ -19,7 +19,8 @@ use Rattle.lynx_world.specs.Servers.{Servers}
 use Rattle.lynx_world.proofs.Once.{both}
 use Rattle.lynx_weave.specs.declared.told.ToldItem.{ToldItem}
 use Rattle.lynx_weave.specs.inner.Judging.{AreAllWellTold, StandsIn, agrees_at, is_fresh_at, is_full_here}
-use Rattle.lynx_weave.specs.inner.Rebuilt.{AreRebuilt, histories_of}
+use Rattle.lynx_weave.specs.inner.Rebuilt.{AreRebuilt}
+use Rattle.lynx_weave.specs.Servers.{histories_of}
 use Rattle.lynx_weave.specs.Since.{answers_begin, counts_at, is_fresh_of}
 use Rattle.lynx_weave.specs.Told.{bears, is_fresh, server_told, tells_full}
 use Rattle.lynx_weave.specs.Weaving.{all_told}

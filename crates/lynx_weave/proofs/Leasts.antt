@@ -10,7 +10,7 @@ use Rattle.lynx_server.specs.Serving.{Serving}
 use Rattle.lynx_world.specs.Servers.{Servers}
 use Rattle.lynx_weave.specs.Lists.{entry_in}
 use Rattle.lynx_weave.specs.inner.Orders.{IsNextAt, next_in, with_next}
-use Rattle.lynx_weave.specs.inner.Rebuilt.{histories_of}
+use Rattle.lynx_weave.specs.Servers.{histories_of}
 use Rattle.lynx_weave.proofs.Agreements.{history_there}
 use Rattle.lynx_weave.proofs.Sending.{entry_here}
 

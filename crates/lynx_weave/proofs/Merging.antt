@@ -19,7 +19,7 @@ use Rattle.lynx_world.proofs.LegalSteps.{legal-push}
 use Rattle.lynx_world.proofs.Members.{IsIn, in-push, in_list}
 use Rattle.lynx_weave.specs.Lists.{ComesBefore, IsInOrder, IsListOf, entry_in}
 use Rattle.lynx_weave.specs.inner.Orders.{IsLeastNext, IsNextAt, next_in}
-use Rattle.lynx_weave.specs.inner.Senders.{AreAllSent}
+use Rattle.lynx_weave.specs.Senders.{AreAllSent}
 use Rattle.lynx_weave.proofs.Gets.{get_take, in_place, item, take_next, take_whole}
 use Rattle.lynx_weave.proofs.Lawfuls.{above_message, rises}
 use Rattle.lynx_server.proofs.InHistory.{lawful_in}

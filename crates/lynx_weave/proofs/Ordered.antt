@@ -16,8 +16,9 @@ use Rattle.lynx_world.specs.Legal.{IsSent}
 use Rattle.lynx_world.specs.Servers.{Servers, list_of, placed_of}
 use Rattle.lynx_weave.specs.Lists.{IsListOf}
 use Rattle.lynx_weave.specs.inner.Orders.{IsLeastNext, IsNextAt, IsOrderOf}
-use Rattle.lynx_weave.specs.inner.Rebuilt.{AreRebuilt, histories_of}
-use Rattle.lynx_weave.specs.inner.Senders.{AreAllSent}
+use Rattle.lynx_weave.specs.inner.Rebuilt.{AreRebuilt}
+use Rattle.lynx_weave.specs.Servers.{histories_of}
+use Rattle.lynx_weave.specs.Senders.{AreAllSent}
 use Rattle.lynx_weave.proofs.Agreements.{history_there}
 use Rattle.lynx_weave.proofs.Lawfuls.{few_before}
 use Rattle.lynx_server.proofs.InHistory.{lawful_in}

@@ -15,7 +15,8 @@ use Rattle.lynx_world.specs.Servers.{Servers}
 use Rattle.lynx_weave.specs.declared.fault.WeaveFault.{WeaveFault}
 use Rattle.lynx_weave.specs.declared.fault.WeaveFault.TheVariants.{Mismatch, Told, Memory}
 use Rattle.lynx_weave.specs.Rebuilt.{histories_in}
-use Rattle.lynx_weave.specs.inner.Rebuilt.{AreRebuilt, IsRebuildFault, RebuildsOne, histories_of}
+use Rattle.lynx_weave.specs.inner.Rebuilt.{AreRebuilt, IsRebuildFault, RebuildsOne}
+use Rattle.lynx_weave.specs.Servers.{histories_of}
 use Rattle.lynx_weave.specs.Weaving.{IsUnlawfulAt}
 use Rattle.lynx_weave.proofs.Gets.{take_next, take_whole}
 

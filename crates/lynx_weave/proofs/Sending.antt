@@ -26,7 +26,7 @@ use Rattle.lynx_server.specs.History.{IsLawfulHistory}
 use Rattle.lynx_world.specs.Order.{hop_in}
 use Rattle.lynx_world.proofs.Once.{both, chosen_hop, program_of, sends_after}
 use Rattle.lynx_weave.specs.Lists.{entry_in}
-use Rattle.lynx_weave.specs.inner.Senders.{AreAllSent, AreSent, IsSentBefore, IsUnsent, sent_before}
+use Rattle.lynx_weave.specs.Senders.{AreAllSent, AreSent, IsSentBefore, IsUnsent, sent_before}
 use Rattle.lynx_weave.specs.Weaving.{IsUnsentAt}
 use Rattle.lynx_weave.proofs.Gets.{found_at, found_none, found_passes}
 use Rattle.lynx_weave.proofs.Lawfuls.{sole_act}

@@ -13,42 +13,53 @@ use Rattle.lynx_weave.specs.declared.told.ToldItem.{ToldItem}
 use Rattle.lynx_weave.specs.inner.Judging.{are_topped}
 use Rattle.lynx_weave.specs.Told.{is_topmost}
 use Rattle.lynx_weave.specs.Rebuilt.{told_in}
-use Rattle.lynx_weave.specs.inner.Rebuilt.{AreRebuilt, histories_of}
+use Rattle.lynx_weave.specs.inner.Rebuilt.{AreRebuilt}
+use Rattle.lynx_weave.specs.Servers.{AreServersOf, histories_of}
 use Rattle.lynx_weave.proofs.Gets.{in_place}
 use Rattle.lynx_world.proofs.Members.{any_of}
-use Rattle.lynx_weave.specs.inner.Senders.{IsUnsent}
+use Rattle.lynx_weave.specs.Senders.{IsUnsent}
 use Rattle.lynx_weave.specs.Weaving.{IsUnsentAt}
 use Rattle.lynx_weave.proofs.Agreements.{history_there}
 use Rattle.lynx_weave.proofs.Sending.{AreLawful, unsent_at}
 
 -- the server of a history
-pub record IsServer (servers : Servers) (server : ℕ) (history : History) : Type 0 where
-  pub here : Serving KeptState
+pub record IsServer {K : Type 0} (servers : List (Serving K)) (server : ℕ) (history : History) : Type 0 where
+  pub here : Serving K
   pub there : slice_get servers server ≡ Some here
   pub history_is : here.history ≡ history
 
-pub server_of : (servers : Servers) (server : ℕ) (history : History) → slice_get (histories_of servers) server ≡ Some history → IsServer servers server history
-server_of servers server history is = by (slice_get servers server) refl (sym (slice_get-map (λ (h : Serving KeptState). h.history) servers server) ∙ is)
+pub server_of : {K : Type 0} (servers : List (Serving K)) (server : ℕ) (history : History) → slice_get (histories_of servers) server ≡ Some history → IsServer servers server history
+server_of {K} servers server history is = by (slice_get servers server) refl (sym (slice_get-map (λ (h : Serving K). h.history) servers server) ∙ is)
   where
-    by : (o : Option (Serving KeptState)) → slice_get servers server ≡ o → option_map (λ (h : Serving KeptState). h.history) o ≡ Some history → IsServer servers server history
+    by : (o : Option (Serving K)) → slice_get servers server ≡ o → option_map (λ (h : Serving K). h.history) o ≡ Some history → IsServer servers server history
     by None there found = cc
     by (Some here) there found = record { here = here; there = there; history_is = cc }
 
-pub lawful_all : (set : Set) (servers : Servers) → AreRebuilt set servers → AreLawful set (histories_of servers)
-lawful_all set servers are server history there =
+-- servers that were made of histories are those of the set
+pub servers_of : (set : Set) (servers : Servers) → AreRebuilt set servers → AreServersOf set servers
+servers_of set servers are = record {
+  many = are.many;
+  each = λ server here there. let one = are.each server here there in record { set_is = one.set_is; server_is = one.server_is; lawful = one.lawful };
+}
+
+pub lawful_servers : {K : Type 0} (set : Set) (servers : List (Serving K)) → AreServersOf set servers → AreLawful set (histories_of servers)
+lawful_servers {K} set servers are server history there =
     let one = server_of servers server history there in
     subst (IsLawfulHistory set server) one.history_is (are.each server one.here one.there).lawful
 
+pub lawful_all : (set : Set) (servers : Servers) → AreRebuilt set servers → AreLawful set (histories_of servers)
+lawful_all set servers are = lawful_servers set servers (servers_of set servers are)
+
 -- a server's entry whose message nobody sent
-pub unsent_there : (set : Set) (servers : Servers) (number server place : ℕ) (here : Serving KeptState) → AreRebuilt set servers →
+pub unsent_there : {K : Type 0} (set : Set) (servers : List (Serving K)) (number server place : ℕ) (here : Serving K) → AreServersOf set servers →
     slice_get servers number ≡ Some here → server ≡ here.server → IsUnsent set (histories_of servers) here.history place →
     IsUnsentAt set (histories_of servers) server place
 unsent_there set servers number server place here are there is unsent =
     subst (λ n. IsUnsentAt set (histories_of servers) n place) (sym (is ∙ (are.each number here there).server_is))
-    (unsent_at set (histories_of servers) number place here.history (lawful_all set servers are) (history_there servers number here there) unsent)
+    (unsent_at set (histories_of servers) number place here.history (lawful_servers set servers are) (history_there servers number here there) unsent)
 
 -- one history for each
-pub many_of : (servers : Servers) → length (histories_of servers) ≡ length servers
+pub many_of : {K : Type 0} (servers : List (Serving K)) → length (histories_of servers) ≡ length servers
 many_of [] = refl
 many_of (here ∷ servers) = ap suc (many_of servers)
 

@@ -17,7 +17,8 @@ use Rattle.lynx_weave.specs.declared.told.ToldItem.{ToldItem}
 use Rattle.lynx_weave.specs.inner.Judging.{AreAllWellTold, IsBadIn, IsFreshAgain, JudgesAll, agrees_at, is_fresh_at}
 use Rattle.lynx_weave.specs.Lists.{IsListOf}
 use Rattle.lynx_weave.specs.inner.Orders.{IsOrderOf}
-use Rattle.lynx_weave.specs.inner.Rebuilt.{AreRebuilt, histories_of}
+use Rattle.lynx_weave.specs.inner.Rebuilt.{AreRebuilt}
+use Rattle.lynx_weave.specs.Servers.{histories_of}
 use Rattle.lynx_weave.specs.Since.{IsFreshByOld, IsToldFaultSince, WeavesSince}
 use Rattle.lynx_weave.specs.Told.{is_fresh}
 use Rattle.lynx_weave.specs.Weaving.{IsToldAgain, IsWoven, all_told}

@@ -5,4 +5,6 @@ pub mod Since
 pub mod Rebuilt
 pub mod Gathering
 pub mod Parts
+pub mod Senders
+pub mod Servers
 pub mod inner

@@ -3,4 +3,3 @@ pub mod Judging
 pub mod Loading
 pub mod Orders
 pub mod Rebuilt
-pub mod Senders

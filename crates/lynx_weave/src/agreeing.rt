@@ -2,7 +2,7 @@
 ghost use Rattle.std.specs.Prelude.{◌≡◌, find};
 ghost use Rattle.lynx_server.specs.Books.{IsFoundAt};
 ghost use Rattle.lynx_weave.specs.inner.Judging.{IsAgreedAt, IsSolePlace, is_sought, passes_at};
-ghost use Rattle.lynx_weave.specs.inner.Rebuilt.{histories_of};
+ghost use Rattle.lynx_weave.specs.Servers.{histories_of};
 ghost use Rattle.lynx_weave.specs.Told.{bears, bears_answer, is_begun_as, is_clash_of, is_look_at, is_other_call, is_refused_as, same_request};
 
 use crate::servers::server_at;

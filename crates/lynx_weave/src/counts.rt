@@ -2,7 +2,7 @@
 ghost use Rattle.std.specs.Prelude.{◌≡◌, ◌+◌, ◌<◌, ◌^◌, ℕ, IfOk, count_by, drop, length, map, slice_index};
 ghost use Rattle.std.specs.List.{range_with_len};
 ghost use Rattle.lynx_weave.specs.Rebuilt.{told_in};
-ghost use Rattle.lynx_weave.specs.inner.Rebuilt.{histories_of};
+ghost use Rattle.lynx_weave.specs.Servers.{histories_of};
 ghost use Rattle.lynx_weave.specs.Since.{answers_begin, counts_at, is_fresh_of};
 ghost use Rattle.lynx_weave.specs.Weaving.{all_told};
 

@@ -3,7 +3,7 @@ ghost use Rattle.std.specs.Prelude.{◌≡◌, IfOk, max};
 ghost use Rattle.std.specs.List.{list_any};
 ghost use Rattle.lynx_weave.specs.inner.Judging.{JudgesAll, JudgesItem, JudgesItems, are_topped, is_full_here};
 ghost use Rattle.lynx_weave.specs.Rebuilt.{told_in};
-ghost use Rattle.lynx_weave.specs.inner.Rebuilt.{histories_of};
+ghost use Rattle.lynx_weave.specs.Servers.{histories_of};
 ghost use Rattle.lynx_weave.specs.Since.{is_from_before};
 ghost use Rattle.lynx_weave.specs.Told.{is_full_answer, is_topmost, server_told, tells_full};
 

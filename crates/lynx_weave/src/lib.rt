@@ -7,6 +7,7 @@ pub use counts::ServerCounts;
 pub use fault::WeaveFault;
 pub use gather_fault::GatherFault;
 pub use gathering::gather;
+pub use senders::check_senders;
 pub use told::ToldItem;
 pub use weaving::{Woven, weave, weave_since};
 
@@ -19,7 +20,7 @@ mod judging;
 pub mod laws;
 mod order;
 mod rebuilding;
-mod senders;
+pub mod senders;
 mod servers;
 pub mod told;
 pub mod weaving;

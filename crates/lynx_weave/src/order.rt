@@ -1,8 +1,9 @@
 //! The one order of all entries: by stamp, then server.
 ghost use Rattle.std.specs.Prelude.{◌≡◌, IfOk, length, option_copied};
 ghost use Rattle.lynx_weave.specs.inner.Orders.{IsNextAt, IsOrderOf, lesser, with_next};
-ghost use Rattle.lynx_weave.specs.inner.Rebuilt.{AreRebuilt, histories_of};
-ghost use Rattle.lynx_weave.specs.inner.Senders.{AreAllSent};
+ghost use Rattle.lynx_weave.specs.inner.Rebuilt.{AreRebuilt};
+ghost use Rattle.lynx_weave.specs.Servers.{histories_of};
+ghost use Rattle.lynx_weave.specs.Senders.{AreAllSent};
 
 use lynx_entry::Entry;
 use lynx_keep::MemoryKeeper;

@@ -1,7 +1,8 @@
 //! Servers made of histories.
 ghost use Rattle.std.specs.Prelude.{◌≡◌, ◌∷◌, ◌++◌, [], IfErr, IfOk, OnOk, length};
 ghost use Rattle.lynx_weave.specs.Rebuilt.{histories_in};
-ghost use Rattle.lynx_weave.specs.inner.Rebuilt.{AreRebuilt, IsRebuildFault, RebuildsOne, histories_of};
+ghost use Rattle.lynx_weave.specs.inner.Rebuilt.{AreRebuilt, IsRebuildFault, RebuildsOne};
+ghost use Rattle.lynx_weave.specs.Servers.{histories_of};
 
 use crate::fault::WeaveFault;
 use lynx_entry::Entry;

@@ -1,12 +1,12 @@
 //! Where the messages of later hops were sent.
 ghost use Rattle.std.specs.Prelude.{◌≡◌, ◌↔◌, IfOk, IsTrue, option_copied};
-ghost use Rattle.lynx_weave.specs.inner.Rebuilt.{AreRebuilt, histories_of};
-ghost use Rattle.lynx_weave.specs.inner.Senders.{FindsSenders, IsSentBefore, IsUnsentFirst, sender_at, sent_before};
+ghost use Rattle.lynx_weave.specs.Servers.{AreServersOf, histories_of};
+ghost use Rattle.lynx_weave.specs.Senders.{FindsSenders, IsSentBefore, IsUnsentFirst, sender_at, sent_before};
 
 use crate::fault::WeaveFault;
 use crate::servers::server_at;
 use lynx_entry::{Entry, Message};
-use lynx_keep::MemoryKeeper;
+use lynx_keep::Keeper;
 use lynx_names::Memory;
 use lynx_rules::next_of;
 use lynx_server::Server;
@@ -14,9 +14,9 @@ use lynx_set::ChainSet;
 use std::alloc::Global;
 
 /// The entry of that hop of the message's chain, at the server of that hop: one look-up there.
-fn sender_at<'a>(
+fn sender_at<'a, K: Keeper>(
     set: &ChainSet,
-    servers: &'a [Server<MemoryKeeper>],
+    servers: &'a [Server<K>],
     message: &Message,
     before: u8,
 ) -> Option<&'a Entry>
@@ -33,10 +33,10 @@ fn sender_at<'a>(
 }
 
 /// What the entry of the hop before the message's sends.
-fn sent_before(
+fn sent_before<K: Keeper>(
     alloc: Global,
     set: &ChainSet,
-    servers: &[Server<MemoryKeeper>],
+    servers: &[Server<K>],
     message: &Message,
 ) -> Result<Option<Message>, Memory>
     ensures { IfOk result (λ sent. sent
@@ -52,10 +52,10 @@ fn sent_before(
 }
 
 /// The entry of the hop before sends this very message.
-fn is_sent(
+fn is_sent<K: Keeper>(
     alloc: Global,
     set: &ChainSet,
-    servers: &[Server<MemoryKeeper>],
+    servers: &[Server<K>],
     message: &Message,
 ) -> Result<bool, Memory>
     ensures { IfOk result (λ sent. IsTrue sent
@@ -68,10 +68,10 @@ fn is_sent(
 }
 
 /// The place of the first entry whose message isn't sent by the entry of the hop before.
-fn first_unsent(
+fn first_unsent<K: Keeper>(
     alloc: Global,
     set: &ChainSet,
-    servers: &[Server<MemoryKeeper>],
+    servers: &[Server<K>],
     history: &[Entry],
 ) -> Result<Option<usize>, Memory>
     ensures { IfOk result (IsUnsentFirst set.now (histories_of servers.now) history.now) }
@@ -86,14 +86,16 @@ fn first_unsent(
     Ok(None)
 }
 
-/// The message of each later hop's entry is looked up where it must have been sent: one look-up an
-/// entry.
-pub(crate) fn check_senders(
+/// Whether each later hop ran on a message that an entry of the hop's server before sends. Where
+/// the servers are all that ran it always is so: the parts of a legal list never mismatch. Mismatch
+/// names the first entry whose message nobody sends, by server and place. One look-up and two
+/// copies of a message for each such entry.
+pub fn check_senders<K: Keeper>(
     alloc: Global,
     set: &ChainSet,
-    servers: &[Server<MemoryKeeper>],
+    servers: &[Server<K>],
 ) -> Result<(), WeaveFault>
-    requires { AreRebuilt set.now servers.now }
+    requires { AreServersOf set.now servers.now }
     ensures { FindsSenders set.now (histories_of servers.now) result }
 {
     for here in servers {

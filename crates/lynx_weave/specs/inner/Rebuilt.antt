@@ -1,5 +1,5 @@
 -- Servers made of histories.
-use Rattle.std.specs.Prelude.{◌≡◌, ℕ, List, map, length, slice_get, Some, Result, Ok, Err}
+use Rattle.std.specs.Prelude.{◌≡◌, ℕ, List, length, slice_get, Some, Result, Ok, Err}
 use Rattle.lynx_set.specs.Set.{Set}
 use Rattle.lynx_entry.specs.Entry.{History}
 use Rattle.lynx_keep.specs.Kept.{KeptState}
@@ -10,10 +10,6 @@ use Rattle.lynx_world.specs.Servers.{Servers}
 use Rattle.lynx_weave.specs.declared.fault.WeaveFault.{WeaveFault}
 use Rattle.lynx_weave.specs.declared.fault.WeaveFault.TheVariants.{Mismatch, Told, Memory}
 use Rattle.lynx_weave.specs.Weaving.{IsUnlawfulAt}
-
--- what each server did
-abbrev pub histories_of : Servers → List History
-histories_of servers = map (λ (here : Serving KeptState). here.history) servers
 
 -- one server for each of the set, made of its history
 pub record AreRebuilt (set : Set) (servers : Servers) : Type 0 where

@@ -1,5 +1,5 @@
 use Rattle.std.proofs.Common.{◌∙◌, slice_get, sym, ap}
-use Rattle.lynx_weave.specs.inner.Rebuilt.{histories_of}
+use Rattle.lynx_weave.specs.Servers.{histories_of}
 use Rattle.lynx_weave.proofs.Agreements.{agreed_nowhere, agreed_there, history_nowhere, history_there}
 use Rattle.lynx_weave.specs.Told.{server_told}
 use Rattle.lynx_weave.proofs.agreeing.agreed_at.Goals as goal

@@ -1,7 +1,7 @@
 use Rattle.std.proofs.Common.{◌≡◌, map}
 use Rattle.std.specs.List.{range_with_len}
 use Rattle.lynx_weave.specs.Rebuilt.{told_in}
-use Rattle.lynx_weave.specs.inner.Rebuilt.{histories_of}
+use Rattle.lynx_weave.specs.Servers.{histories_of}
 use Rattle.lynx_weave.specs.Since.{counts_at}
 use Rattle.lynx_weave.specs.Weaving.{all_told}
 use Rattle.lynx_weave.proofs.counts.counts_of.Given as goal

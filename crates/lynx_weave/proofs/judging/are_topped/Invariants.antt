@@ -1,6 +1,6 @@
 use Rattle.std.proofs.Common.{◌≡◌, take, false}
 use Rattle.std.specs.List.{list_any}
-use Rattle.lynx_weave.specs.inner.Rebuilt.{histories_of}
+use Rattle.lynx_weave.specs.Servers.{histories_of}
 use Rattle.lynx_weave.specs.Told.{is_topmost}
 use Rattle.lynx_weave.proofs.judging.are_topped.Given as goal
 

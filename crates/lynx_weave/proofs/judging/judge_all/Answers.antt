@@ -2,7 +2,7 @@ use Rattle.std.proofs.Common.{◌∙◌, Some, sym, ap, subst, arith}
 use Rattle.std.proofs.lemmas.Option.{slice_get-get_or}
 use Rattle.lynx_weave.specs.inner.Judging.{AreMarked, AreWellTold, IsBadAt, JudgesItems, marks_at}
 use Rattle.lynx_weave.specs.Rebuilt.{told_in}
-use Rattle.lynx_weave.specs.inner.Rebuilt.{histories_of}
+use Rattle.lynx_weave.specs.Servers.{histories_of}
 use Rattle.lynx_weave.proofs.Marking.{all_well, bad_in, counted_more, well_before_more}
 use Rattle.lynx_weave.proofs.Servings.{many_told, told_there}
 use Rattle.lynx_weave.proofs.judging.judge_all.Goals as goal

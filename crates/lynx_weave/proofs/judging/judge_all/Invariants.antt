@@ -1,6 +1,6 @@
 use Rattle.std.proofs.Common.{take}
 use Rattle.lynx_weave.specs.Rebuilt.{told_in}
-use Rattle.lynx_weave.specs.inner.Rebuilt.{histories_of}
+use Rattle.lynx_weave.specs.Servers.{histories_of}
 use Rattle.lynx_weave.specs.Weaving.{all_told}
 use Rattle.lynx_weave.proofs.Marking.{AreCounted, AreWellBefore}
 use Rattle.lynx_weave.proofs.judging.judge_all.Given as goal

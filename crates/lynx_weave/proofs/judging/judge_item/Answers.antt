@@ -2,7 +2,7 @@ use Rattle.std.proofs.Common.{◌<◌, ◌∙◌, true, not, cond, sym, ap, arit
 use Rattle.std.specs.BTreeSet.{contains}
 use Rattle.std.specs.Ordering.{eq_by_cmp}
 use Rattle.lynx_cells.specs.Database.{cell_cmp}
-use Rattle.lynx_weave.specs.inner.Rebuilt.{histories_of}
+use Rattle.lynx_weave.specs.Servers.{histories_of}
 use Rattle.lynx_weave.specs.Since.{is_from_before}
 use Rattle.lynx_weave.specs.Told.{stamp_told}
 use Rattle.lynx_weave.proofs.Marking.{judged_before, judged_new, judged_old}

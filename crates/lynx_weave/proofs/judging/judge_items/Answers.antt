@@ -1,6 +1,6 @@
 use Rattle.std.proofs.Common.{◌∙◌, Some, max, take, sym, ap, arith}
 use Rattle.std.proofs.lemmas.Option.{slice_get-get_or}
-use Rattle.lynx_weave.specs.inner.Rebuilt.{histories_of}
+use Rattle.lynx_weave.specs.Servers.{histories_of}
 use Rattle.lynx_weave.specs.Told.{greatest_told}
 use Rattle.lynx_weave.proofs.Marking.{bad_at, greatest_more, marked_all, stepped, well_all}
 use Rattle.lynx_weave.proofs.judging.judge_items.Goals as goal

@@ -1,6 +1,6 @@
 use Rattle.std.proofs.Common.{◌≡◌, take}
 use Rattle.lynx_weave.specs.inner.Judging.{AreMarked}
-use Rattle.lynx_weave.specs.inner.Rebuilt.{histories_of}
+use Rattle.lynx_weave.specs.Servers.{histories_of}
 use Rattle.lynx_weave.specs.Told.{greatest_told}
 use Rattle.lynx_weave.proofs.Marking.{AreWellBelow}
 use Rattle.lynx_weave.proofs.judging.judge_items.Given as goal

@@ -1,7 +1,7 @@
 use Rattle.std.proofs.Common.{◌+◌, ◌∙◌, Some, None, get_or, sym, ap, subst, arith}
 use Rattle.std.proofs.lemmas.Option.{slice_get-get_or}
 use Rattle.lynx_weave.specs.inner.Orders.{with_next}
-use Rattle.lynx_weave.specs.inner.Rebuilt.{histories_of}
+use Rattle.lynx_weave.specs.Servers.{histories_of}
 use Rattle.lynx_weave.proofs.Leasts.{IsLeastBelow, least_end, least_walk}
 use Rattle.lynx_weave.proofs.order.least_next.Goals as goal
 

@@ -1,4 +1,4 @@
-use Rattle.lynx_weave.specs.inner.Rebuilt.{histories_of}
+use Rattle.lynx_weave.specs.Servers.{histories_of}
 use Rattle.lynx_weave.proofs.Leasts.{IsLeastBelow}
 use Rattle.lynx_weave.proofs.order.least_next.Given as goal
 

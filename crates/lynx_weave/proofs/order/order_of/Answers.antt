@@ -1,7 +1,7 @@
 use Rattle.std.proofs.Common.{◌∙◌, None, Some, refl, sym, ap, subst, arith}
 use Rattle.std.proofs.lemmas.Option.{slice_get-get_or}
 use Rattle.lynx_weave.specs.inner.Orders.{IsLeastNext, IsNextAt}
-use Rattle.lynx_weave.specs.inner.Rebuilt.{histories_of}
+use Rattle.lynx_weave.specs.Servers.{histories_of}
 use Rattle.lynx_weave.proofs.Ordered.{going_on, least_within, order_end, place_few}
 use Rattle.lynx_weave.proofs.order.order_of.Goals as goal
 

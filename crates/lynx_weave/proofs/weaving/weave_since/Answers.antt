@@ -5,12 +5,18 @@ use Rattle.lynx_world.specs.Servers.{held_of, list_of}
 use Rattle.lynx_weave.specs.inner.Judging.{AreAllWellTold, JudgesAll}
 use Rattle.lynx_weave.specs.inner.Orders.{IsOrderOf}
 use Rattle.lynx_weave.specs.Rebuilt.{told_in}
-use Rattle.lynx_weave.specs.inner.Rebuilt.{histories_of}
+use Rattle.lynx_weave.specs.Servers.{AreServersOf, histories_of}
 use Rattle.lynx_weave.specs.Since.{IsFreshByOld, WeavesSince, counts_at}
 use Rattle.lynx_weave.specs.Weaving.{IsWoven, all_told}
 use Rattle.lynx_weave.proofs.Counting.{fresh_fits}
+use Rattle.lynx_weave.proofs.Servings.{servers_of}
 use Rattle.lynx_weave.proofs.Weavings.{judged_fault, none_old, woven}
 use Rattle.lynx_weave.proofs.weaving.weave_since.Goals as goal
+
+pub check_senders-requires : goal.check_senders-requires
+check_senders-requires c =
+    subst (AreServersOf c.args.set.now) (sym c.as_slice-lent.ensures.value)
+    (servers_of c.args.set.now c.in_ok-servers.servers.items c.in_ok-servers.ensures.servers.0)
 
 pub returns-in-Err : goal.returns-in-Err
 returns-in-Err c =

@@ -1,5 +1,5 @@
 -- How a cluster starts, and why not.
-use Rattle.std.specs.Prelude.{◌≡◌, ◌≢◌, ℕ, List, length, slice_get, Some, Ok, Err}
+use Rattle.std.specs.Prelude.{◌≡◌, ◌≢◌, ℕ, List, length, map, slice_get, Some, Ok, Err}
 use Rattle.lynx_keep.specs.Kept.{Terms}
 use Rattle.lynx_server.specs.declared.fault.OpenFault.{OpenFault}
 use Rattle.lynx_server.specs.declared.fault.OpenFault.TheVariants as faults
@@ -10,26 +10,30 @@ use Rattle.lynx_cluster.specs.declared.fault.StartFault.{StartFault}
 use Rattle.lynx_cluster.specs.declared.fault.StartFault.TheVariants.{OtherCount, Open, NoThread, Memory}
 use Rattle.lynx_cluster.specs.Clusters.{ClusterState}
 
--- the server was opened over the keeper, with a history of that length
-pub record IsOpenedAt {K : Type 0} (terms : Terms K) (set : Set) (server : ℕ) (keeper : K)
-    (start : ℕ) : Type 0 where
-  pub opened : Serving K
-  pub opens : Opens terms set server keeper (Ok opened)
-  pub start_is : start ≡ length opened.history
-
 -- each server of the set was opened over its keeper
 pub record AreOpened {K : Type 0} (terms : Terms K) (set : Set) (keepers : List K)
-    (starts : List ℕ) : Type 0 where
+    (servers : List (Serving K)) : Type 0 where
   pub one_keeper : length keepers ≡ set.servers
-  pub one_start : length starts ≡ set.servers
-  pub each : (server : ℕ) (keeper : K) (start : ℕ) → slice_get keepers server ≡ Some keeper →
-      slice_get starts server ≡ Some start → IsOpenedAt terms set server keeper start
+  pub one_server : length servers ≡ set.servers
+  pub each : (server : ℕ) (keeper : K) (here : Serving K) → slice_get keepers server ≡ Some keeper
+      → slice_get servers server ≡ Some here → Opens terms set server keeper (Ok here)
+
+-- how long the history of a server is that starts
+abbrev pub start_of : {K : Type 0} → Serving K → ℕ
+start_of here = length here.history
+
+-- a cluster of that set and these servers
+pub record Starts {K : Type 0} (set : Set) (servers : List (Serving K))
+    (cluster : ClusterState) : Type 0 where
+  pub set_is : cluster.set ≡ set
+  pub starts_are : cluster.starts ≡ map start_of servers
 
 -- A cluster of that set, each server of which was opened over its keeper.
 pub record IsStarted {K : Type 0} (terms : Terms K) (set : Set) (keepers : List K)
     (cluster : ClusterState) : Type 0 where
-  pub set_is : cluster.set ≡ set
-  pub opened : AreOpened terms set keepers cluster.starts
+  pub servers : List (Serving K)
+  pub opened : AreOpened terms set keepers servers
+  pub starts : Starts set servers cluster
 
 -- that server didn't open over its keeper, for another reason than want of memory
 pub record IsUnopenedAt {K : Type 0} (terms : Terms K) (set : Set) (keepers : List K) (server : ℕ)

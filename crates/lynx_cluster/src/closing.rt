@@ -75,7 +75,7 @@ impl<K: Keeper + Drop, G: Gate + Drop> Front<K, G> {
         let Front {
             set,
             starts,
-            states,
+            posts,
             gate: _,
             sessions: made,
         } = self;
@@ -83,7 +83,7 @@ impl<K: Keeper + Drop, G: Gate + Drop> Front<K, G> {
             return Err(CloseFault::Absent { session });
         }
         let told = told_of(alloc, sessions)?;
-        let taken = take_all(alloc, &set, states)?;
+        let taken = take_all(alloc, &set, posts)?;
         let woven = weave_since(
             alloc,
             &set,

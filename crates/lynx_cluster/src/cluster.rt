@@ -6,6 +6,7 @@ ghost use Rattle.lynx_cluster.specs.Clusters.{IsOf, home_of};
 ghost use Rattle.lynx_cluster.specs.Looks.{Looks};
 
 use crate::gate::{Gate, Passage};
+use crate::post::Post;
 use crate::session::Session;
 use lynx_codec::Looked;
 use lynx_entry::{Answer, Entry, Request};
@@ -28,7 +29,7 @@ pub const MAX_SESSIONS: u64 = 1_000_000;
 pub struct Front<K: Keeper, G: Gate> {
     pub(crate) set: ChainSet,
     pub(crate) starts: Vec<u64>,
-    pub(crate) states: Vec<Arc<Mutex<Server<K>>>>,
+    pub(crate) posts: Vec<Arc<Post<K>>>,
     pub(crate) gate: Arc<G>,
     pub(crate) sessions: Mutex<u64>,
 }
@@ -43,7 +44,7 @@ impl<K: Keeper, G: Gate> Model for Front<K, G> {
 
     ghost invariant = { λ front. record {
       one_start : length front.starts.items ≡ front.set.servers;
-      one_state : length front.states.items ≡ front.set.servers;
+      one_post : length front.posts.items ≡ front.set.servers;
     } };
 }
 
@@ -166,10 +167,10 @@ impl<K: Keeper, G: Gate> Front<K, G> {
         ensures { AnswersBegin self.now.set session.old request result session.new }
     {
         let server = self.home_of(&request);
-        let Some(state) = self.states.as_slice().get(server.index()) else {
+        let Some(post) = self.posts.as_slice().get(server.index()) else {
             return Answer::Stopped;
         };
-        let mut state = state.lock(rt);
+        let mut state = post.lock(rt);
         self.gate.enter(server, Passage::Begin);
         let answer = if is_of(&state, &self.set, server) {
             session.begin_at(alloc, &mut state, request)
@@ -184,7 +185,7 @@ impl<K: Keeper, G: Gate> Front<K, G> {
     /// The program of the chain, by its entry at its origin, whose lock is taken and given back.
     /// None where it hasn't begun.
     fn program_of<R: Wait>(&self, rt: &R, chain: &ChainId) -> Option<ProgramId> {
-        let state = self.states.as_slice().get(chain.origin.index())?.lock(rt);
+        let state = self.posts.as_slice().get(chain.origin.index())?.lock(rt);
         if !is_of(&state, &self.set, chain.origin) {
             return None;
         }
@@ -218,10 +219,10 @@ impl<K: Keeper, G: Gate> Front<K, G> {
             return Ok(Looked::Absent);
         };
         let server = asked.server;
-        let Some(state) = self.states.as_slice().get(server.index()) else {
+        let Some(post) = self.posts.as_slice().get(server.index()) else {
             return Ok(Looked::Absent);
         };
-        let state = state.lock(rt);
+        let state = post.lock(rt);
         if !is_of(&state, &self.set, server) {
             return Ok(Looked::Absent);
         }

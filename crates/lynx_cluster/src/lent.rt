@@ -1,22 +1,28 @@
 //! The steps of a server behind its lock.
 use crate::cluster::is_of;
 use crate::gate::{Gate, Passage};
-use crate::steps::{Arrived, Due, Owed, Receipt, Steps};
+use crate::post::Post;
+use crate::steps::{Arrived, Due, Heard, Owed, Receipt, Served, Steps};
 use lynx_entry::{Delivered, Entry, Message};
 use lynx_keep::Keeper;
 use lynx_link::Parcel;
-use lynx_names::limits::MAX_HELD;
-use lynx_names::{ChainId, ServerId};
+use lynx_names::{ChainId, Memory, ServerId};
 use lynx_server::Server;
 use lynx_set::ChainSet;
 use std::alloc::Global;
 use std::collections::VecDeque;
-use std::sync::{Arc, Mutex, Wait};
+use std::sync::{Arc, Wait};
 use std::time::{Clock, Duration, Instant};
 
-/// Milliseconds for which the lock is held to serve parcels, about. Then those get it that begin
-/// and look meanwhile, which matters where a keeper writes to a disk.
-const LOCK_MILLIS: u64 = 1;
+/// Microseconds for which the lock is held to serve parcels, about, or for one step where that
+/// takes longer: a keeper may write to a disk, ..
+const LOCK_MICROS: u64 = 1_000;
+
+/// .. and the same where a client waits for the lock.
+const AWAITED_LOCK_MICROS: u64 = 100;
+
+/// Steps that are made under one taking of the lock, at most.
+const MOST_STEPS: u32 = 1_024;
 
 /// What the worker of one server is lent: a part in the server's state behind its lock, and in the
 /// gate. Where the lock has the state of another server or another set, no step is made.
@@ -24,7 +30,7 @@ const LOCK_MILLIS: u64 = 1;
 pub struct Lent<K: Keeper, G: Gate> {
     set: ChainSet,
     server: ServerId,
-    state: Arc<Mutex<Server<K>>>,
+    post: Arc<Post<K>>,
     gate: Arc<G>,
 }
 
@@ -43,13 +49,16 @@ fn sender_of<K: Keeper>(state: &Server<K>, chain: &ChainId, hop: u8) -> Option<S
 }
 
 /// Adds a receipt. One for which there is no memory is let go: the message comes again.
-fn note(receipts: &mut Vec<Receipt>, receipt: Receipt) {
-    let _ = receipts.push(receipt);
+fn note(served: &mut Served, receipt: Receipt) {
+    let _ = served.receipts.push(receipt);
 }
 
 /// Wakes one held message of the server. False where there is none whose turn it is, or it can't be
 /// woken now.
-fn wake_next<K: Keeper>(alloc: Global, state: &mut Server<K>, receipts: &mut Vec<Receipt>) -> bool {
+fn wake_next<K: Keeper>(alloc: Global, state: &mut Server<K>, served: &mut Served) -> bool {
+    if state.held().is_empty() {
+        return false;
+    }
     let Some(woken) = state.wake(alloc) else {
         return false;
     };
@@ -59,74 +68,88 @@ fn wake_next<K: Keeper>(alloc: Global, state: &mut Server<K>, receipts: &mut Vec
         Delivered::Held | Delivered::Dropped | Delivered::Malformed => true,
         Delivered::Done { .. } | Delivered::Repeat { .. } => {
             if let Some(to) = sender_of(state, &chain, hop) {
-                note(receipts, Receipt { to, chain, hop });
+                note(served, Receipt { to, chain, hop });
             }
             true
         }
     }
 }
 
-/// Wakes the held messages of the server whose turn it is.
-fn wake_all<K: Keeper>(alloc: Global, state: &mut Server<K>, receipts: &mut Vec<Receipt>) {
-    for _ in 0..MAX_HELD {
-        if state.held().is_empty() || !wake_next(alloc, state, receipts) {
-            break;
-        }
+/// Marks the message of that hop as acknowledged by its server. A note for which there is no memory
+/// is let go: the worker finds it out when it sends the message again.
+fn acknowledge<K: Keeper>(
+    state: &mut Server<K>,
+    from: ServerId,
+    chain: &ChainId,
+    hop: u8,
+    served: &mut Served,
+) {
+    state.acknowledge(*chain, hop);
+    let Some(before) = hop.checked_sub(1) else {
+        return;
+    };
+    if let Some(place) = state.place_of(*chain, before) {
+        let place = place as u64;
+        let _ = served.heard.push(Heard { from, place });
     }
 }
 
-/// Does what a parcel asks. Where a hop was done, the held messages that wait for it are woken
-/// before another message comes: one for which there is no room to be held would be dropped.
+/// Does what a parcel asks. Whether a hop was done, for which a held message may wait.
 fn serve_one<K: Keeper>(
     alloc: Global,
     state: &mut Server<K>,
     arrived: Arrived,
-    receipts: &mut Vec<Receipt>,
-) {
-    let to = arrived.from;
+    served: &mut Served,
+) -> bool {
+    let from = arrived.from;
     match arrived.parcel {
         Parcel::Message(message) => {
             let (chain, hop) = (message.chain, message.hop);
-            if is_done(&state.deliver(alloc, message)) {
-                note(receipts, Receipt { to, chain, hop });
-                wake_all(alloc, state, receipts);
+            let is_done = is_done(&state.deliver(alloc, message));
+            if is_done {
+                let to = from;
+                note(served, Receipt { to, chain, hop });
             }
+            is_done
         }
-        Parcel::Done { chain, hop } => state.acknowledge(chain, hop),
+        Parcel::Done { chain, hop } => {
+            acknowledge(state, from, &chain, hop, served);
+            false
+        }
     }
 }
 
-/// The lock was held for a while, or no clock can tell.
-fn is_long<R: Clock>(rt: &R, since: &Option<Instant>) -> bool {
+/// The lock was held for as long as it may be, or no clock can tell.
+fn is_long<R: Clock>(rt: &R, since: &Option<Instant>, is_awaited: bool) -> bool {
+    let most = if is_awaited {
+        AWAITED_LOCK_MICROS
+    } else {
+        LOCK_MICROS
+    };
     match since {
         Some(since) => match since.elapsed(rt) {
-            Ok(elapsed) => elapsed >= Duration::from_millis(LOCK_MILLIS),
+            Ok(elapsed) => elapsed >= Duration::from_micros(most),
             Err(_) => true,
         },
         None => true,
     }
 }
 
-/// Wakes what is held, then does what the parcels of the inbox ask until the lock was held for a
-/// while.
-fn serve_some<K: Keeper, R: Clock>(
-    rt: &R,
+/// One step: a held message whose turn it may be is woken before another parcel is taken, since a
+/// message for which there is no room to be held is dropped. None where there is no step to make,
+/// else whether a held message may be woken then.
+fn step<K: Keeper>(
     alloc: Global,
     state: &mut Server<K>,
     inbox: &mut VecDeque<Arrived>,
-    receipts: &mut Vec<Receipt>,
-) {
-    let since = Instant::now(rt).ok();
-    wake_all(alloc, state, receipts);
-    for _ in 0..inbox.len() {
-        let Some(arrived) = inbox.pop_front() else {
-            break;
-        };
-        serve_one(alloc, state, arrived, receipts);
-        if is_long(rt, &since) {
-            break;
-        }
+    may_wake: bool,
+    served: &mut Served,
+) -> Option<bool> {
+    if may_wake && wake_next(alloc, state, served) {
+        return Some(true);
     }
+    let arrived = inbox.pop_front()?;
+    Some(serve_one(alloc, state, arrived, served))
 }
 
 /// Some parcel brings a message.
@@ -143,13 +166,13 @@ impl<K: Keeper, G: Gate> Lent<K, G> {
     pub(crate) fn new(
         set: ChainSet,
         server: ServerId,
-        state: Arc<Mutex<Server<K>>>,
+        post: Arc<Post<K>>,
         gate: Arc<G>,
     ) -> Lent<K, G> {
         Lent {
             set,
             server,
-            state,
+            post,
             gate,
         }
     }
@@ -189,6 +212,56 @@ impl<K: Keeper, G: Gate> Lent<K, G> {
         }
         None
     }
+
+    /// The messages of those of these places that still owe one. What lies before the first that is
+    /// owed from some place on is passed over.
+    fn collect_at(
+        &self,
+        alloc: Global,
+        state: &Server<K>,
+        places: &[u64],
+    ) -> Result<Vec<Due>, Memory> {
+        let mut dues = Vec::with_capacity(alloc, places.len())?;
+        let mut clear: u64 = 0;
+        for place in places {
+            if *place < clear {
+                continue;
+            }
+            let Some((found, message)) = state.messages_due(alloc, *place)? else {
+                break;
+            };
+            clear = found;
+            if found == *place {
+                if let Some(due) = self.due(found, message) {
+                    dues.push(due)?;
+                }
+            }
+        }
+        Ok(dues)
+    }
+
+    /// Makes steps until there is none to make, or the lock was held for a while.
+    fn serve_some<R: Clock>(
+        &self,
+        rt: &R,
+        alloc: Global,
+        state: &mut Server<K>,
+        inbox: &mut VecDeque<Arrived>,
+        served: &mut Served,
+    ) {
+        let since = Instant::now(rt).ok();
+        let mut may_wake = true;
+        for _ in 0..MOST_STEPS {
+            let Some(is_done) = step(alloc, state, inbox, may_wake, served) else {
+                break;
+            };
+            may_wake = is_done;
+            served.is_busy = true;
+            if is_long(rt, &since, self.post.is_awaited()) {
+                break;
+            }
+        }
+    }
 }
 
 impl<K: Keeper, G: Gate> Steps for Lent<K, G> {
@@ -196,7 +269,7 @@ impl<K: Keeper, G: Gate> Steps for Lent<K, G> {
     // nothing costs no walk over the set.
     fn owed<R: Wait>(&self, rt: &R, alloc: Global, from: u64, most: usize) -> Owed {
         let mut dues = Vec::new(alloc);
-        let state = self.state.lock(rt);
+        let state = self.post.lock_shortly(rt);
         let len = state.history().len() as u64;
         let end = if len <= from {
             Some(len)
@@ -209,20 +282,29 @@ impl<K: Keeper, G: Gate> Steps for Lent<K, G> {
         Owed { dues, end, holds }
     }
 
+    fn owed_at<R: Wait>(&self, rt: &R, alloc: Global, places: &[u64]) -> Result<Vec<Due>, Memory> {
+        let state = self.post.lock_shortly(rt);
+        if is_of(&state, &self.set, self.server) {
+            self.collect_at(alloc, &state, places)
+        } else {
+            Err(Memory)
+        }
+    }
+
     fn serve<R: Wait + Clock>(
         &self,
         rt: &R,
         alloc: Global,
         inbox: &mut VecDeque<Arrived>,
-    ) -> Vec<Receipt> {
-        let mut receipts = Vec::new(alloc);
-        let mut state = self.state.lock(rt);
+    ) -> Served {
+        let mut served = Served::new(alloc);
+        let mut state = self.post.lock_after_clients(rt);
         let delivers = brings_message(inbox) || !state.held().is_empty();
         if delivers {
             self.gate.enter(self.server, Passage::Deliver);
         }
         if is_of(&state, &self.set, self.server) {
-            serve_some(rt, alloc, &mut state, inbox, &mut receipts);
+            self.serve_some(rt, alloc, &mut state, inbox, &mut served);
         } else {
             inbox.clear();
         }
@@ -230,6 +312,6 @@ impl<K: Keeper, G: Gate> Steps for Lent<K, G> {
         if delivers {
             self.gate.leave(self.server, Passage::Deliver);
         }
-        receipts
+        served
     }
 }

@@ -1,23 +1,22 @@
 //! Which messages are sent again, and when.
+use crate::unheard::Unheard;
 use std::time::{Clock, Duration, Instant};
 
-/// Milliseconds that go by at least between the beginnings of two passes over all that a server
-/// owes.
+/// Milliseconds that go by at least between the beginnings of two passes over all that is owed to a
+/// server. While nothing is heard of it they double, up to [`LONGEST_MILLIS`].
 pub const RESEND_MILLIS: u64 = 100;
 
-/// Milliseconds that go by at least between the beginnings of two passes over the first that it
-/// owes, where something was acknowledged meanwhile. Where nothing is, they double, up to
-/// [`RESEND_MILLIS`].
-const FIRST_MILLIS: u64 = 1;
+/// Milliseconds that go by at least between the beginnings of two passes over the first that is
+/// owed to a server. While the very first stays owed they double, up to [`LONGEST_MILLIS`].
+const FIRST_MILLIS: u64 = 8;
+
+/// Milliseconds between the beginnings of two passes, at most.
+pub const LONGEST_MILLIS: u64 = 4_000;
 
 /// Messages that a pass over the first sends again, at most.
-const FIRST_MESSAGES: u64 = 64;
+const FIRST_MESSAGES: usize = 64;
 
-/// Places of the history that a pass over the first looks at, at most, so that it takes a short
-/// time also where most there were acknowledged.
-const FIRST_PLACES: u64 = 1_024;
-
-/// How much of what a server owes a pass goes over.
+/// How much of what is owed to a server a pass goes over.
 #[derive(Clone, Copy, PartialEq, Eq)]
 pub(crate) enum Reach {
     /// The first messages, and only where the very first is still owed that was so when the last
@@ -30,18 +29,10 @@ pub(crate) enum Reach {
 
 impl Reach {
     /// Messages that a pass sends again, at most.
-    fn messages(self) -> u64 {
+    fn messages(self) -> usize {
         match self {
             Reach::First => FIRST_MESSAGES,
-            Reach::All => u64::MAX,
-        }
-    }
-
-    /// Places of the history that a pass looks at, at most.
-    fn places(self) -> u64 {
-        match self {
-            Reach::First => FIRST_PLACES,
-            Reach::All => u64::MAX,
+            Reach::All => usize::MAX,
         }
     }
 
@@ -54,27 +45,23 @@ impl Reach {
     }
 }
 
-/// The passes of a worker over what its server owes. A message stays due until it was acknowledged,
-/// so a pass over all comes to it again, and none is lost for ever. What a pass sends again was
-/// sent before the last one began.
+/// The passes over what is owed to one server. A message stays owed until it was acknowledged, so a
+/// pass over all comes to it again, and none is lost for ever. What a pass sends again was sent
+/// before the last one began.
 #[derive(Drop)]
 pub(crate) struct Passes {
     reach: Reach,
-    /// Nothing is owed before this place.
-    floor: u64,
     /// The pass goes on from this place ..
     next: u64,
     /// .. up to this one ..
     end: u64,
     /// .. and sends so many messages more, at most.
-    left: u64,
-    /// From this place on nothing is owed ..
-    clear: u64,
-    /// .. up to this one.
-    clear_end: u64,
-    /// Up to this place all was sent when the last pass began.
+    left: usize,
+    /// The first that was owed when the last pass began, ..
+    first: Option<u64>,
+    /// .. and a place behind all that was sent then.
     sent: u64,
-    /// When the last pass began.
+    /// When it began.
     since: Option<Instant>,
     /// Milliseconds from then to the next.
     wait: u64,
@@ -85,12 +72,10 @@ impl Passes {
     pub(crate) fn new(reach: Reach) -> Passes {
         Passes {
             reach,
-            floor: 0,
             next: 0,
             end: 0,
             left: 0,
-            clear: 0,
-            clear_end: 0,
+            first: None,
             sent: 0,
             since: None,
             wait: reach.shortest(),
@@ -108,73 +93,54 @@ impl Passes {
         }
     }
 
-    /// Where a pass that begins now is to end. It looks at no place again that is known to owe
-    /// nothing, so that the way to the next one, which may be long, is gone once.
-    fn reached(&self) -> u64 {
-        let end = self
-            .sent
-            .min(self.floor.saturating_add(self.reach.places()));
-        if self.clear <= end && end <= self.clear_end {
-            self.clear
-        } else {
-            end
-        }
-    }
-
-    /// Begins a pass, if the last one ended, something that was sent may still be owed and it is
-    /// time. All was sent before that place.
-    pub(crate) fn begin<R: Clock>(&mut self, rt: &R, sent: u64) {
-        if self.next().is_some() || self.floor >= sent || !self.is_due(rt) {
+    /// Begins a pass, if the last one ended, something is owed and it is time.
+    pub(crate) fn begin<R: Clock>(&mut self, rt: &R, unheard: &Unheard) {
+        let Some(first) = unheard.first() else {
+            return;
+        };
+        if self.goes_on() || !self.is_due(rt) {
             return;
         }
-        self.next = self.floor;
-        self.end = self.reached();
-        self.left = self.reach.messages();
-        self.sent = sent;
+        let stays = self.first == Some(first);
+        let is_early = self.reach == Reach::First && !stays;
+        self.left = if is_early { 0 } else { self.reach.messages() };
+        self.wait = if is_early {
+            self.reach.shortest()
+        } else {
+            self.wait.saturating_mul(2).min(LONGEST_MILLIS)
+        };
+        self.next = first;
+        self.end = self.sent;
+        self.first = Some(first);
+        self.sent = unheard.end();
         self.since = Instant::now(rt).ok();
-        self.wait = self.wait.saturating_mul(2).min(RESEND_MILLIS);
     }
 
-    /// Something was acknowledged, so the next pass need not wait long.
+    /// Something was heard of the server, so the next pass over all need not wait long.
     pub(crate) fn hear(&mut self) {
-        self.wait = self.reach.shortest();
+        if self.reach == Reach::All {
+            self.wait = self.reach.shortest();
+        }
     }
 
-    /// Where to look for the next message of the pass. None where it ended.
-    pub(crate) fn next(&self) -> Option<u64> {
-        if self.left > 0 && self.next < self.end {
-            Some(self.next)
+    /// A pass goes on.
+    fn goes_on(&self) -> bool {
+        self.left > 0 && self.next < self.end
+    }
+
+    /// What the pass comes to next: a place to go on from, one to end before, and how many messages
+    /// at most. None where it ended.
+    pub(crate) fn next(&self) -> Option<(u64, u64, usize)> {
+        if self.goes_on() {
+            Some((self.next, self.end, self.left))
         } else {
             None
         }
     }
 
-    /// The first message from there on is at that place. Whether it belongs to the pass.
-    pub(crate) fn found(&mut self, place: u64) -> bool {
-        if self.next == self.floor && !self.stands(place) {
-            self.left = 0;
-            return false;
-        }
-        if place < self.end {
-            self.next = place;
-            return true;
-        }
-        self.clear = self.next;
-        self.clear_end = place;
-        self.next = self.end;
-        false
-    }
-
-    /// The first message of all is at that place. Whether the pass goes on.
-    fn stands(&mut self, place: u64) -> bool {
-        let is_same = self.floor == place;
-        self.floor = place;
-        is_same || self.reach == Reach::All
-    }
-
-    /// The message at that place was sent again.
-    pub(crate) fn went(&mut self, place: u64) {
-        self.next = place.saturating_add(1);
-        self.left = self.left.saturating_sub(1);
+    /// The pass was gone over up to that place, and so many messages were sent again.
+    pub(crate) fn went(&mut self, next: u64, count: usize) {
+        self.next = next;
+        self.left = self.left.saturating_sub(count);
     }
 }

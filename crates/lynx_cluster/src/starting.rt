@@ -1,14 +1,18 @@
 //! Starting a cluster.
-ghost use Rattle.std.specs.Prelude.{◌≡◌, IfErr, IfOk};
-ghost use Rattle.lynx_cluster.specs.Starting.{IsStarted, IsUnstarted};
+ghost use Rattle.std.specs.Prelude.{◌≡◌, IfErr, IfOk, length, map};
+ghost use Rattle.lynx_weave.specs.Servers.{AreServersOf};
+ghost use Rattle.lynx_cluster.specs.Starting.{IsStarted, IsUnstarted, Starts, start_of};
+ghost use Rattle.lynx_cluster.specs.inner.Opening.{IsLate};
 
 use crate::cluster::{Cluster, Front};
 use crate::fault::StartFault;
 use crate::gate::Gate;
-use crate::opening::{Opened, open_all};
+use crate::opening::Opened;
+use crate::post::Post;
 use crate::workers::{lend_all, start_all};
 use lynx_keep::Keeper;
-use lynx_names::TryCopy;
+use lynx_names::Memory;
+use lynx_server::Server;
 use lynx_set::ChainSet;
 use std::alloc::Global;
 use std::sync::atomic::AtomicBool;
@@ -16,10 +20,77 @@ use std::sync::{Arc, Mutex, Wait};
 use std::thread::Threads;
 use std::time::Clock;
 
+/// Servers behind their locks, and how long each history was before.
+#[derive(Drop)]
+struct Posted<K: Keeper> {
+    posts: Vec<Arc<Post<K>>>,
+    starts: Vec<u64>,
+}
+
+/// How long the history of each server is.
+fn starts_of<K: Keeper>(alloc: Global, servers: &[Server<K>]) -> Result<Vec<u64>, Memory>
+    ensures { IfOk result (λ starts. starts.items ≡ map start_of servers.now) }
+{
+    let mut starts = Vec::new(alloc);
+    for server in servers {
+        starts.push(server.history().len() as u64)?;
+    }
+    Ok(starts)
+}
+
+/// Puts each server behind a lock.
+fn post_all<K: Keeper + Drop>(alloc: Global, servers: Vec<Server<K>>) -> Result<Posted<K>, Memory>
+    ensures starts { IfOk result (λ posted. posted.starts.items ≡ map start_of servers.items) }
+    ensures posts { IfOk result (λ posted. length posted.posts.items ≡ length servers.items) }
+{
+    let starts = starts_of(alloc, servers.as_slice())?;
+    let mut posts = Vec::new(alloc);
+    for server in servers {
+        posts.push(Arc::new(alloc, Post::new(server))?)?;
+    }
+    Ok(Posted { posts, starts })
+}
+
+impl<K: Keeper + Drop> Opened<K> {
+    /// Starts a worker thread for each server. The set is copied for each of them. Where it fails
+    /// the keepers are dropped, what they stored stands, and no thread is left.
+    pub fn start<R: Threads + Wait + Clock + Copy + Send + 'static, G: Gate + Drop>(
+        self,
+        rt: R,
+        alloc: Global,
+        gate: G,
+    ) -> Result<Cluster<K, G>, StartFault>
+    where
+        K: Send + 'static,
+        G: Send + Sync + 'static,
+        requires { AreServersOf self.set self.servers.items }
+        ensures started { IfOk result (Starts self.set self.servers.items) }
+        ensures fault { IfErr result IsLate }
+    {
+        let Opened { set, servers } = self;
+        let Posted { posts, starts } = post_all(alloc, servers)?;
+        let gate = Arc::new(alloc, gate)?;
+        let stop = Arc::new(alloc, AtomicBool::new(false))?;
+        let lents = lend_all(alloc, &set, posts.as_slice(), &gate)?;
+        let workers = start_all(rt, alloc, set.servers(), lents, &stop)?;
+        let front = Front {
+            set,
+            starts,
+            posts,
+            gate,
+            sessions: Mutex::new(0),
+        };
+        Ok(Cluster {
+            front,
+            stop,
+            workers,
+        })
+    }
+}
+
 impl<K: Keeper + Drop, G: Gate + Drop> Cluster<K, G> {
-    /// Opens each server of the set over its keeper, in order, and starts a worker thread for each.
-    /// The set is copied, once more for each worker. Where it fails the keepers are dropped, what
-    /// they stored stands, and no thread is left.
+    /// Opens each server of the set over its keeper, in order, and starts a worker thread for each:
+    /// [`Opened::open`] and [`Opened::start`].
     pub fn start<R: Threads + Wait + Clock + Copy + Send + 'static>(
         rt: R,
         alloc: Global,
@@ -33,26 +104,7 @@ impl<K: Keeper + Drop, G: Gate + Drop> Cluster<K, G> {
         ensures started { IfOk result (IsStarted K.terms set.now keepers.items) }
         ensures fault { IfErr result (IsUnstarted K.terms set.now keepers.items) }
     {
-        if keepers.len() != usize::from(set.servers()) {
-            return Err(StartFault::OtherCount);
-        }
-        let Opened { states, starts } = open_all(alloc, set, keepers)?;
-        let copy = set.copy(alloc)?;
-        let gate = Arc::new(alloc, gate)?;
-        let stop = Arc::new(alloc, AtomicBool::new(false))?;
-        let lents = lend_all(alloc, set, states.as_slice(), &gate)?;
-        let workers = start_all(rt, alloc, set.servers(), lents, &stop)?;
-        let front = Front {
-            set: copy,
-            starts,
-            states,
-            gate,
-            sessions: Mutex::new(0),
-        };
-        Ok(Cluster {
-            front,
-            stop,
-            workers,
-        })
+        let opened = Opened::open(alloc, set, keepers)?;
+        opened.start(rt, alloc, gate)
     }
 }

@@ -1,7 +1,7 @@
 //! What a worker does with the server that it serves.
 use lynx_entry::Message;
 use lynx_link::Parcel;
-use lynx_names::{ChainId, ServerId};
+use lynx_names::{ChainId, Memory, ServerId};
 use std::alloc::Global;
 use std::collections::VecDeque;
 use std::sync::Wait;
@@ -42,21 +42,52 @@ pub struct Receipt {
     pub hop: u8,
 }
 
+/// That server acknowledged the message of the entry at that place.
+#[derive(Clone, Copy, Debug, PartialEq, Eq)]
+pub struct Heard {
+    pub from: ServerId,
+    pub place: u64,
+}
+
+/// What came of the parcels that were taken.
+#[derive(Debug, PartialEq, Eq, Drop)]
+pub struct Served {
+    /// For the hops that were done, now or before, so that their messages need not be sent again.
+    pub receipts: Vec<Receipt>,
+    /// The messages of this server that were acknowledged.
+    pub heard: Vec<Heard>,
+    /// A parcel was taken, or a held message was delivered.
+    pub is_busy: bool,
+}
+
+impl Served {
+    /// Nothing came of anything yet. Takes no memory.
+    pub fn new(alloc: Global) -> Served {
+        Served {
+            receipts: Vec::new(alloc),
+            heard: Vec::new(alloc),
+            is_busy: false,
+        }
+    }
+}
+
 /// What a worker does with the server that it serves. Each call takes the server's lock once, for
 /// many messages or parcels: a lock that is taken for each makes those wait that begin there.
 pub trait Steps {
     /// What the server owes from that place of its history on, with so many messages at most.
     fn owed<R: Wait>(&self, rt: &R, alloc: Global, from: u64, most: usize) -> Owed;
 
-    /// Wakes the held messages whose turn it is, then takes parcels out of the inbox from its front
-    /// on, and does what they ask: one that a message brings is delivered, and then the held ones
-    /// are woken that waited for it. It takes one at least, and may leave the others to the next
-    /// call. The receipts are for the hops that were done, now or before, so that their messages
-    /// need not be sent again.
+    /// The messages of those of these places that still owe one, in order.
+    fn owed_at<R: Wait>(&self, rt: &R, alloc: Global, places: &[u64]) -> Result<Vec<Due>, Memory>;
+
+    /// Wakes the held messages whose turn it is, and takes parcels out of the inbox from its front
+    /// on and does what they ask: one that a message brings is delivered, and then the held ones
+    /// are woken that waited for it. It makes one step at least where there is one to make, and may
+    /// leave the others to the next call.
     fn serve<R: Wait + Clock>(
         &self,
         rt: &R,
         alloc: Global,
         inbox: &mut VecDeque<Arrived>,
-    ) -> Vec<Receipt>;
+    ) -> Served;
 }

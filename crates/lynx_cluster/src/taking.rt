@@ -6,15 +6,15 @@ ghost use Rattle.lynx_cluster.specs.inner.Closing.{IsTakeFault};
 
 use crate::cluster::is_of;
 use crate::fault::CloseFault;
+use crate::post::Post;
 use crate::session::Session;
 use lynx_entry::Entry;
 use lynx_keep::Keeper;
 use lynx_names::{Memory, ServerId};
-use lynx_server::Server;
 use lynx_set::ChainSet;
 use lynx_weave::ToldItem;
 use std::alloc::Global;
-use std::sync::{Arc, Mutex};
+use std::sync::Arc;
 
 /// The histories of all servers, and their keepers.
 #[derive(Drop)]
@@ -28,11 +28,11 @@ pub(crate) struct Taken<K: Keeper> {
 fn take_back<K: Keeper + Drop>(
     set: &ChainSet,
     server: ServerId,
-    state: Arc<Mutex<Server<K>>>,
+    post: Arc<Post<K>>,
 ) -> Option<(Vec<Entry>, K)>
     ensures { IfSome result (λ taken. IsTakenBack K.terms set.now server taken.0.items taken.1) }
 {
-    let state = Arc::into_inner(state)?.into_inner();
+    let state = Arc::into_inner(post)?.into_state();
     if !is_of(&state, set, server) || state.is_stopped() {
         return None;
     }
@@ -60,9 +60,9 @@ impl<K: Keeper + Drop> Taken<K> {
 pub(crate) fn take_all<K: Keeper + Drop>(
     alloc: Global,
     set: &ChainSet,
-    states: Vec<Arc<Mutex<Server<K>>>>,
+    posts: Vec<Arc<Post<K>>>,
 ) -> Result<Taken<K>, CloseFault>
-    requires { length states.items ≡ set.now.servers }
+    requires { length posts.items ≡ set.now.servers }
     ensures taken { IfOk result (λ taken. AreTakenBack K.terms set.now
         (histories_in taken.histories.items) taken.keepers.items) }
     ensures fault { IfErr result (IsTakeFault set.now.servers) }
@@ -72,13 +72,13 @@ pub(crate) fn take_all<K: Keeper + Drop>(
         histories: Vec::new(alloc),
         keepers: Vec::new(alloc),
     };
-    let mut states = states.into_iter();
+    let mut posts = posts.into_iter();
     for number in 0..count {
-        let Some(state) = states.next() else {
+        let Some(post) = posts.next() else {
             unreachable!()
         };
         let server = ServerId::at(number);
-        let Some(back) = take_back(set, server, state) else {
+        let Some(back) = take_back(set, server, post) else {
             return Err(CloseFault::Stopped { server });
         };
         taken.add(back)?;

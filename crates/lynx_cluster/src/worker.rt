@@ -1,21 +1,18 @@
 //! Workers: one thread for each server, which sends what the server owes and delivers what comes
 //! in.
-use crate::resending::{Passes, Reach};
-use crate::rest::rest;
-use crate::steps::{Arrived, Owed, Receipt, Steps};
+use crate::rest::{pause, rest};
+use crate::route::{Route, offer};
+use crate::steps::{Arrived, Heard, Owed, Receipt, Steps};
 use lynx_link::{Ends, Parcel};
-use lynx_names::ServerId;
+use lynx_names::{Memory, ServerId};
 use std::alloc::Global;
 use std::collections::VecDeque;
 use std::sync::Wait;
 use std::sync::atomic::{AtomicBool, Ordering};
 use std::time::Clock;
 
-/// Messages that one turn sends, at most.
+/// Messages that one turn sends, at most, and as many for each route that lags.
 const TURN_MESSAGES: usize = 64;
-
-/// Messages that one turn sends again of each pass, at most.
-const TURN_AGAIN: usize = 256;
 
 /// Rounds over all rings in which one turn takes parcels out of them, ..
 const TURN_ROUNDS: u32 = 4;
@@ -29,118 +26,76 @@ const ROUND_PARCELS: usize = 16;
 pub struct Worker<S: Steps> {
     steps: S,
     ends: Ends,
-    servers: u8,
-    /// The messages of all entries before this place were sent.
-    sent: u64,
+    /// By server.
+    routes: Vec<Route>,
+    /// The messages of all entries before this place were sent, but for those of routes that lag.
+    reached: u64,
     /// What was taken out of the rings and isn't served yet.
     inbox: VecDeque<Arrived>,
-    /// The passes over the first messages that are owed.
-    first: Passes,
-    /// The passes over all of them.
-    all: Passes,
 }
 
-/// Whether the ring to that server took the parcel. One that it didn't take is dropped: what it
-/// tells comes again.
-fn offer(ends: &mut Ends, to: ServerId, parcel: Parcel) -> bool {
-    match ends.sender(to) {
-        Some(sender) => sender.offer(parcel).is_ok(),
-        None => false,
-    }
-}
-
-/// Sends the next message of a pass again. False where the pass ended, or its ring is full.
-fn send_again_next<S: Steps, R: Wait>(
-    rt: &R,
-    alloc: Global,
-    steps: &S,
-    ends: &mut Ends,
-    passes: &mut Passes,
-) -> bool {
-    let Some(from) = passes.next() else {
-        return false;
-    };
-    let Owed { mut dues, end, .. } = steps.owed(rt, alloc, from, 1);
-    let Some(due) = dues.pop() else {
-        if let Some(len) = end {
-            passes.found(len);
+/// A route to each of so many servers.
+fn routes(alloc: Global, servers: u8) -> Result<Vec<Route>, Memory> {
+    let mut routes = Vec::with_capacity(alloc, usize::from(servers))?;
+    for number in 0..servers {
+        if let Some(to) = ServerId::new(number) {
+            routes.push(Route::new(alloc, to))?;
         }
-        return false;
-    };
-    if !passes.found(due.place) {
-        return false;
     }
-    let is_sent = offer(ends, due.to, Parcel::Message(due.message));
-    if is_sent {
-        passes.went(due.place);
-    }
-    is_sent
-}
-
-/// Goes on with a pass, after it began one if it is time. Whether there was a message to send.
-fn go_over<S: Steps, R: Wait + Clock>(
-    rt: &R,
-    alloc: Global,
-    steps: &S,
-    ends: &mut Ends,
-    passes: &mut Passes,
-    sent: u64,
-) -> bool {
-    passes.begin(rt, sent);
-    let mut is_busy = false;
-    for _ in 0..TURN_AGAIN {
-        if !send_again_next(rt, alloc, steps, ends, passes) {
-            break;
-        }
-        is_busy = true;
-    }
-    is_busy
+    Ok(routes)
 }
 
 impl<S: Steps> Worker<S> {
     /// A worker that has sent nothing yet, among so many servers.
-    pub fn new(alloc: Global, steps: S, ends: Ends, servers: u8) -> Worker<S> {
-        Worker {
+    pub fn new(alloc: Global, steps: S, ends: Ends, servers: u8) -> Result<Worker<S>, Memory>
+    where
+        S: Drop,
+    {
+        let routes = routes(alloc, servers)?;
+        Ok(Worker {
             steps,
             ends,
-            servers,
-            sent: 0,
+            routes,
+            reached: 0,
             inbox: VecDeque::new(alloc),
-            first: Passes::new(Reach::First),
-            all: Passes::new(Reach::All),
-        }
+        })
     }
 
-    /// Sends what is owed and was not sent yet, up to the first message whose ring is full. Whether
-    /// there was any.
+    /// Sends what is owed and was not sent yet. A message whose ring is full makes its route lag,
+    /// and no other. Whether there was any.
     fn send(&mut self, owed: Owed) -> bool {
         let mut is_busy = false;
         for due in owed.dues {
-            if !offer(&mut self.ends, due.to, Parcel::Message(due.message)) {
-                return is_busy;
+            self.reached = due.place.saturating_add(1);
+            if let Some(route) = self.routes.get_mut(due.to.index()) {
+                is_busy |= route.send(&mut self.ends, due);
             }
-            self.sent = due.place.saturating_add(1);
-            is_busy = true;
         }
         if let Some(len) = owed.end {
-            self.sent = self.sent.max(len);
+            self.reached = self.reached.max(len);
+        }
+        is_busy
+    }
+
+    /// Sends what lags. Whether there was any.
+    fn catch_up<R: Wait>(&mut self, rt: &R, alloc: Global) -> bool {
+        let mut is_busy = false;
+        for route in self.routes.iter_mut() {
+            if let Some(from) = route.lags_at(&mut self.ends) {
+                let owed = self.steps.owed(rt, alloc, from, TURN_MESSAGES);
+                is_busy |= route.catch_up(&mut self.ends, owed, self.reached);
+            }
         }
         is_busy
     }
 
     /// Sends again what was not acknowledged for a while. Whether there was any.
     fn send_again<R: Wait + Clock>(&mut self, rt: &R, alloc: Global) -> bool {
-        let sent = self.sent;
-        let has_first = go_over(
-            rt,
-            alloc,
-            &self.steps,
-            &mut self.ends,
-            &mut self.first,
-            sent,
-        );
-        let has_all = go_over(rt, alloc, &self.steps, &mut self.ends, &mut self.all, sent);
-        has_first || has_all
+        let mut is_busy = false;
+        for route in self.routes.iter_mut() {
+            is_busy |= route.send_again(rt, alloc, &self.steps, &mut self.ends);
+        }
+        is_busy
     }
 
     /// Puts what came from that server into the inbox. What there is no memory for stays in its
@@ -156,24 +111,25 @@ impl<S: Steps> Worker<S> {
             let Some(parcel) = receiver.take() else {
                 break;
             };
-            if matches!(parcel, Parcel::Done { .. }) {
-                self.first.hear();
-            }
             self.inbox.push_back_reserved(Arrived { from, parcel });
         }
     }
 
     /// Puts what came from each server into the inbox.
     fn take_round(&mut self) {
-        for number in 0..self.servers {
-            if let Some(from) = ServerId::new(number) {
+        for number in 0..self.routes.len() {
+            if let Some(from) = u8::try_from(number).ok().and_then(ServerId::new) {
                 self.take_from(from);
             }
         }
     }
 
-    /// Puts what came into the inbox, round by round. Whether there is any.
+    /// Puts what came into the inbox, round by round, once all that it held was served. Whether
+    /// there is any.
     fn take(&mut self) -> bool {
+        if !self.inbox.is_empty() {
+            return true;
+        }
         for _ in 0..TURN_ROUNDS {
             let before = self.inbox.len();
             self.take_round();
@@ -196,38 +152,45 @@ impl<S: Steps> Worker<S> {
         }
     }
 
-    /// Wakes what is held, and does what the parcels of the inbox ask. Whether a hop was done.
-    fn serve<R: Wait + Clock>(&mut self, rt: &R, alloc: Global) -> bool {
-        let mut is_busy = false;
-        for _ in 0..=self.inbox.len() {
-            let receipts = self.steps.serve(rt, alloc, &mut self.inbox);
-            is_busy |= !receipts.is_empty();
-            self.acknowledge(receipts);
-            if self.inbox.is_empty() {
-                break;
+    /// Notes which messages were acknowledged.
+    fn hear(&mut self, heard: Vec<Heard>) {
+        for heard in heard {
+            if let Some(route) = self.routes.get_mut(heard.from.index()) {
+                route.hear(heard.place);
             }
         }
-        is_busy
     }
 
-    /// One turn. It sends again what is owed for a while, then what was not sent yet, then delivers
-    /// what came in and wakes what is held. The first 64 messages that are owed are sent again
-    /// where the very first stays so for a millisecond, or, as long as nothing is acknowledged, for
-    /// a time that doubles; and all of them each [`RESEND_MILLIS`](crate::RESEND_MILLIS). False
-    /// where there was nothing to do. A turn has a bound: 64 messages sent and 320 sent again, 64
-    /// parcels taken from each server, and 64 wakes before them and after each. Where there is
-    /// nothing to do it takes the server's lock once.
+    /// Wakes what is held, and does what the parcels of the inbox ask, for as long as the lock may
+    /// be held. Whether there was any.
+    fn serve<R: Wait + Clock>(&mut self, rt: &R, alloc: Global) -> bool {
+        let served = self.steps.serve(rt, alloc, &mut self.inbox);
+        self.acknowledge(served.receipts);
+        self.hear(served.heard);
+        served.is_busy
+    }
+
+    /// One turn. It sends what was not sent yet, then delivers what came in and wakes what is held,
+    /// then sends again what is owed for a while. The first 64 messages that are owed to a server
+    /// are sent again where the very first stays so for 8 milliseconds, or for a time that doubles
+    /// while it does; and all of them each [`RESEND_MILLIS`](crate::RESEND_MILLIS), or after a time
+    /// that doubles while nothing is heard of that server, up to
+    /// [`LONGEST_MILLIS`](crate::LONGEST_MILLIS). False where there was nothing to do. A turn has a
+    /// bound: 64 messages sent, and for each server 64 more where its ring was full and 128 sent
+    /// again, 64 parcels taken, and one taking of the lock for what came in. Where there is nothing
+    /// to do it takes the server's lock once.
     pub fn turn<R: Wait + Clock>(&mut self, rt: &R, alloc: Global) -> bool {
-        let has_sent_again = self.send_again(rt, alloc);
-        let owed = self.steps.owed(rt, alloc, self.sent, TURN_MESSAGES);
+        let owed = self.steps.owed(rt, alloc, self.reached, TURN_MESSAGES);
         let holds = owed.holds;
         let has_sent = self.send(owed);
+        let has_caught_up = self.catch_up(rt, alloc);
         let has_taken = self.take();
         let has_served = (has_taken || holds) && self.serve(rt, alloc);
-        has_sent || has_sent_again || has_taken || has_served
+        let has_sent_again = self.send_again(rt, alloc);
+        has_sent || has_caught_up || has_served || has_sent_again
     }
 
-    /// Turn after turn, with rests between those without work, until it is to stop.
+    /// Turn after turn, with rests between them, until it is to stop.
     pub fn run<R: Wait + Clock>(mut self, rt: &R, alloc: Global, stop: &AtomicBool)
     where
         S: Drop,
@@ -239,6 +202,7 @@ impl<S: Steps> Worker<S> {
             }
             if self.turn(rt, alloc) {
                 idle = 0;
+                pause(rt);
             } else {
                 rest(rt, idle);
                 idle = idle.saturating_add(1);

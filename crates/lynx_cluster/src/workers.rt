@@ -5,15 +5,15 @@ ghost use Rattle.lynx_cluster.specs.inner.Opening.{IsLate};
 use crate::fault::StartFault;
 use crate::gate::Gate;
 use crate::lent::Lent;
+use crate::post::Post;
 use crate::worker::Worker;
 use lynx_keep::Keeper;
 use lynx_link::{Ends, links};
 use lynx_names::{ServerId, TryCopy};
-use lynx_server::Server;
 use lynx_set::ChainSet;
 use std::alloc::Global;
 use std::sync::atomic::{AtomicBool, Ordering};
-use std::sync::{Arc, Mutex, Wait};
+use std::sync::{Arc, Wait};
 use std::thread;
 use std::thread::{JoinHandle, Threads};
 use std::time::Clock;
@@ -26,7 +26,7 @@ pub(crate) fn stop_all<R: Threads>(rt: &R, stop: &AtomicBool, workers: Vec<JoinH
     }
 }
 
-/// One more worker. None where no thread can be made.
+/// One more worker.
 fn start_worker<
     K: Keeper + Send + Drop + 'static,
     G: Gate + Send + Sync + Drop + 'static,
@@ -37,10 +37,15 @@ fn start_worker<
     lent: Lent<K, G>,
     ends: Ends,
     stop: Arc<AtomicBool>,
-) -> Option<JoinHandle<()>> {
+) -> Result<JoinHandle<()>, StartFault>
+    ensures { IfErr result IsLate }
+{
     let servers = lent.servers();
-    let worker = Worker::new(alloc, lent, ends, servers);
-    thread::spawn(&rt, move || worker.run(&rt, alloc, &stop)).ok()
+    let worker = Worker::new(alloc, lent, ends, servers)?;
+    match thread::spawn(&rt, move || worker.run(&rt, alloc, &stop)) {
+        Ok(worker) => Ok(worker),
+        Err(_) => Err(StartFault::NoThread),
+    }
 }
 
 /// The next worker, added to those that run.
@@ -60,13 +65,8 @@ fn start_next<
 {
     workers.reserve(1)?;
     let stop = Arc::try_clone(stop)?;
-    match start_worker(rt, alloc, lent, ends, stop) {
-        Some(worker) => {
-            workers.push_reserved(worker);
-            Ok(())
-        }
-        None => Err(StartFault::NoThread),
-    }
+    workers.push_reserved(start_worker(rt, alloc, lent, ends, stop)?);
+    Ok(())
 }
 
 /// A worker for each server. Where one can't be started, those that run are stopped, and have
@@ -100,30 +100,30 @@ fn lend<K: Keeper + Drop, G: Gate + Drop>(
     alloc: Global,
     set: &ChainSet,
     server: ServerId,
-    state: &Arc<Mutex<Server<K>>>,
+    post: &Arc<Post<K>>,
     gate: &Arc<G>,
 ) -> Result<Lent<K, G>, StartFault>
     ensures { IfErr result IsLate }
 {
     let set = set.copy(alloc)?;
-    let state = Arc::try_clone(state)?;
+    let post = Arc::try_clone(post)?;
     let gate = Arc::try_clone(gate)?;
-    Ok(Lent::new(set, server, state, gate))
+    Ok(Lent::new(set, server, post, gate))
 }
 
 /// What each worker is lent.
 pub(crate) fn lend_all<K: Keeper + Drop, G: Gate + Drop>(
     alloc: Global,
     set: &ChainSet,
-    states: &[Arc<Mutex<Server<K>>>],
+    posts: &[Arc<Post<K>>],
     gate: &Arc<G>,
 ) -> Result<Vec<Lent<K, G>>, StartFault>
     ensures { IfErr result IsLate }
 {
     let mut lents = Vec::new(alloc);
     for number in 0..set.servers() {
-        if let Some(state) = states.get(usize::from(number)) {
-            lents.push(lend(alloc, set, ServerId::at(number), state, gate)?)?;
+        if let Some(post) = posts.get(usize::from(number)) {
+            lents.push(lend(alloc, set, ServerId::at(number), post, gate)?)?;
         }
     }
     Ok(lents)

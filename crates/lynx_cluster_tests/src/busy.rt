@@ -1,59 +1,19 @@
 //! A chain that is still to return to its origin.
+use crate::barrier::make_barrier;
 use crate::keepers::empty;
 use crate::talk::{Asked, is_explained, talk};
 use crate::trouble::Trouble;
-use lynx_cluster::{Cluster, Front, Gate, Passage, Session};
+use lynx_cluster::{Cluster, Front, Gate, Session};
 use lynx_fixtures::parts::{AnswerParts, RequestParts};
 use lynx_fixtures::texts::{TRIP, set_of};
 use lynx_keep::Keeper;
-use lynx_names::{Memory, ServerId};
+use lynx_names::Memory;
 use std::alloc::Global;
+use std::sync::Wait;
 use std::sync::atomic::{AtomicBool, Ordering};
-use std::sync::{Arc, Wait};
 use std::test::Fail;
-use std::thread;
 use std::thread::Threads;
-use std::time::{Clock, Duration};
-
-/// As many turns are waited at most, of a millisecond each.
-const MOST_TURNS: u32 = 10_000;
-
-/// Lets no delivery at server 1 go on before it is open.
-#[derive(Drop)]
-struct Barrier<R: Clock> {
-    rt: R,
-    is_open: Arc<AtomicBool>,
-}
-
-impl<R: Clock> Gate for Barrier<R> {
-    fn enter(&self, server: ServerId, passage: Passage) {
-        if passage != Passage::Deliver || server.index() != 1 {
-            return;
-        }
-        for _ in 0..MOST_TURNS {
-            if self.is_open.load(Ordering::SeqCst) {
-                return;
-            }
-            thread::sleep(&self.rt, Duration::from_millis(1));
-        }
-    }
-
-    fn leave(&self, _server: ServerId, _passage: Passage) {}
-}
-
-/// A barrier that isn't open, and its mark.
-fn make_barrier<R: Clock + Drop>(
-    rt: R,
-    alloc: Global,
-) -> Result<(Barrier<R>, Arc<AtomicBool>), Memory> {
-    let is_open = Arc::new(alloc, AtomicBool::new(false))?;
-    let theirs = Arc::try_clone(&is_open)?;
-    let gate = Barrier {
-        rt,
-        is_open: theirs,
-    };
-    Ok((gate, is_open))
-}
+use std::time::Clock;
 
 /// The first trip begins, the second is busy, ..
 const WHILE_AWAY: &[Asked] = &[

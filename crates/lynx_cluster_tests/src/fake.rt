@@ -1,6 +1,6 @@
 //! Servers that stand in for a worker's own: one owes messages to the other, and all is marked
 //! down.
-use lynx_cluster::{Arrived, Due, Owed, Receipt, Steps, Worker};
+use lynx_cluster::{Arrived, Due, Heard, Owed, Receipt, Served, Steps, Worker};
 use lynx_fixtures::made::message;
 use lynx_fixtures::parts::MessageParts;
 use lynx_link::{Parcel, links};
@@ -105,15 +105,37 @@ impl<'a> Fake<'a> {
         true
     }
 
+    /// What a parcel asks is done.
+    fn take(&self, arrived: Arrived, served: &mut Served) {
+        let from = arrived.from;
+        served.is_busy = true;
+        match arrived.parcel {
+            Parcel::Message(message) => {
+                let (to, chain, hop) = (from, message.chain, message.hop);
+                if self.deliver(chain.index) {
+                    let _ = served.receipts.push(Receipt { to, chain, hop });
+                }
+            }
+            Parcel::Done { chain, hop } => {
+                if hop == 1 {
+                    let (place, left) = (chain.index, !bit(chain.index));
+                    self.board.owed.fetch_and(left, Ordering::SeqCst);
+                    let _ = served.heard.push(Heard { from, place });
+                }
+            }
+        }
+    }
+
     /// The chains of server 0 that are held are done.
-    fn wake(&self, receipts: &mut Vec<Receipt>) {
+    fn wake(&self, served: &mut Served) {
         let held = self.board.held.swap(0, Ordering::SeqCst);
         for index in 0..LEN {
             if held & bit(index) != 0 {
                 self.board.done.fetch_or(bit(index), Ordering::SeqCst);
                 let to = ServerId::first();
                 let chain = ChainId { origin: to, index };
-                let _ = receipts.push(Receipt { to, chain, hop: 1 });
+                let _ = served.receipts.push(Receipt { to, chain, hop: 1 });
+                served.is_busy = true;
             }
         }
     }
@@ -127,34 +149,31 @@ impl<'a> Steps for Fake<'a> {
         Owed { dues, end, holds }
     }
 
-    // One parcel a call, so that a worker has to call again.
+    fn owed_at<R: Wait>(&self, _rt: &R, alloc: Global, places: &[u64]) -> Result<Vec<Due>, Memory> {
+        let chains = self.board.owed.load(Ordering::SeqCst);
+        let mut dues = Vec::new(alloc);
+        for place in places {
+            if chains & bit(*place) != 0 {
+                dues.push(due(alloc, *place)?)?;
+            }
+        }
+        Ok(dues)
+    }
+
     fn serve<R: Wait + Clock>(
         &self,
         _rt: &R,
         alloc: Global,
         inbox: &mut VecDeque<Arrived>,
-    ) -> Vec<Receipt> {
-        let mut receipts = Vec::new(alloc);
-        self.wake(&mut receipts);
-        let Some(arrived) = inbox.pop_front() else {
-            return receipts;
-        };
-        let to = arrived.from;
-        match arrived.parcel {
-            Parcel::Message(message) => {
-                let (chain, hop) = (message.chain, message.hop);
-                if self.deliver(chain.index) {
-                    let _ = receipts.push(Receipt { to, chain, hop });
-                }
-            }
-            Parcel::Done { chain, hop } => {
-                if hop == 1 {
-                    let left = !bit(chain.index);
-                    self.board.owed.fetch_and(left, Ordering::SeqCst);
-                }
+    ) -> Served {
+        let mut served = Served::new(alloc);
+        self.wake(&mut served);
+        for _ in 0..inbox.len() {
+            if let Some(arrived) = inbox.pop_front() {
+                self.take(arrived, &mut served);
             }
         }
-        receipts
+        served
     }
 }
 
@@ -168,7 +187,7 @@ pub fn workers<'a>(
     let first = ends.next().ok_or(Memory)?;
     let second = ends.next().ok_or(Memory)?;
     Ok((
-        Worker::new(alloc, Fake { board: sender }, first, 2),
-        Worker::new(alloc, Fake { board: receiver }, second, 2),
+        Worker::new(alloc, Fake { board: sender }, first, 2)?,
+        Worker::new(alloc, Fake { board: receiver }, second, 2)?,
     ))
 }

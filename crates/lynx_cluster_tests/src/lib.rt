@@ -4,6 +4,10 @@
 #![tactic(auto)]
 
 #[cfg(test)]
+mod apart;
+#[cfg(test)]
+mod barrier;
+#[cfg(test)]
 mod busy;
 #[cfg(test)]
 mod clients;
@@ -30,6 +34,8 @@ mod rows;
 #[cfg(test)]
 mod sessions;
 #[cfg(test)]
+mod slow;
+#[cfg(test)]
 mod starts;
 #[cfg(test)]
 mod talk;
@@ -37,5 +43,7 @@ mod talk;
 mod texts;
 #[cfg(test)]
 mod trouble;
+#[cfg(test)]
+mod waits;
 #[cfg(test)]
 mod workers;

@@ -8,6 +8,10 @@ pub const PUTS: &str =
 pub const GO_AND_COME: &str =
     "lynx 1\nservers 2\ntable t\nshard 0 9 0\nshard 10 18446744073709551615 1\nprogram go\nhop 0\nadd t 0 1\nhop 1\nadd t 10 1\nend\nprogram come\nhop 1\nadd t 10 1\nhop 0\nadd t 0 1\nend\n";
 
+/// Two programs that go from the first server, each to another one.
+pub const FAN: &str =
+    "lynx 1\nservers 3\ntable t\nshard 0 9 0\nshard 10 19 1\nshard 20 18446744073709551615 2\nprogram left\nhop 0\nadd t 0 1\nhop 1\nadd t 10 1\nend\nprogram right\nhop 0\nadd t 0 1\nhop 2\nadd t 20 1\nend\n";
+
 /// Four servers, each with a purse that is filled there. From it is paid to two servers further, by
 /// a way of one hop and by one of two that leaves a fee between; a third program reads what came
 /// there. The purse of server S is cell 1000 S, what came is in the cell behind it, and fees are in

@@ -46,14 +46,14 @@ fn a_turn_sends_delivers_and_acknowledges(rt: HostRuntime) {
     assert!(rt; first_turns(&rt, rt.alloc()) == Ok((turns, 0b111, 0)));
 }
 
-/// A turn of each after another, two milliseconds after the last.
+/// A turn of each after another, ten milliseconds after the last.
 fn turn_both<R: Wait + Clock>(
     rt: &R,
     alloc: Global,
     sender: &mut Worker<Fake<'_>>,
     receiver: &mut Worker<Fake<'_>>,
 ) {
-    thread::sleep(rt, Duration::from_millis(2));
+    thread::sleep(rt, Duration::from_millis(10));
     sender.turn(rt, alloc);
     receiver.turn(rt, alloc);
 }
@@ -77,20 +77,34 @@ fn what_was_dropped_comes_again_soon(rt: HostRuntime) {
     assert!(rt; done_around(&rt, rt.alloc()) == Ok((0b1110, 0b1111)));
 }
 
-/// How often a message comes that is never acknowledged, in 200 turns, and how often it may: each
-/// 100 milliseconds twice, and eight times at the beginning.
+/// How many waits of so many milliseconds, the next twice as long and so on, begin in that time.
+fn doubled(first: u64, millis: u64) -> u64 {
+    let mut waited = first;
+    let mut waits: u64 = 0;
+    for shift in 1..32u32 {
+        if waited > millis {
+            break;
+        }
+        waits = waits.saturating_add(1);
+        waited = waited.saturating_add(first << shift);
+    }
+    waits
+}
+
+/// How often a message comes that is never acknowledged, in 100 turns, and how often it may: first,
+/// then by each of both passes after a time that doubles.
 fn times_unheard<R: Wait + Clock>(rt: &R, alloc: Global) -> Result<(u64, u64), Memory> {
     let (payer, payee) = (Board::owing(0b1), Board::owing(0));
     payee.deaf.store(0b1, Ordering::SeqCst);
     let (mut sender, mut receiver) = workers(alloc, &payer, &payee)?;
     let begun = Instant::now(rt).map_err(|_| Memory)?;
-    for _ in 0..200 {
+    for _ in 0..100 {
         turn_both(rt, alloc, &mut sender, &mut receiver);
     }
     let elapsed = begun.elapsed(rt).map_err(|_| Memory)?;
-    let passes = u64::try_from(elapsed.as_millis()).unwrap_or(u64::MAX) / RESEND_MILLIS;
-    let most = passes.saturating_mul(2).saturating_add(10);
-    Ok((payee.came.load(Ordering::SeqCst), most))
+    let millis = u64::try_from(elapsed.as_millis()).unwrap_or(u64::MAX);
+    let passes = doubled(8, millis).saturating_add(doubled(RESEND_MILLIS, millis));
+    Ok((payee.came.load(Ordering::SeqCst), passes.saturating_add(1)))
 }
 
 /// Whether it comes as often as it may, and more than each 100 milliseconds once.

@@ -1,4 +1,4 @@
-use Rattle.std.proofs.Common.{Err, Ok, ◌+◌, ◌∙◌, refl, sym, subst, arith}
+use Rattle.std.proofs.Common.{Err, Ok, ◌+◌, ◌∙◌, sym, subst, arith}
 use Rattle.lynx_server.specs.Opening.{Opens}
 use Rattle.lynx_weave.proofs.Rebuildings.{first_behind}
 use Rattle.lynx_cluster.specs.inner.Opening.{OpensOne}
@@ -21,15 +21,10 @@ loop-number-preserved g c =
     let first = first_behind c.args.keepers.items c.next.new.self.rest.items number c.in-Some.keeper
     (sym c.loop-number.invariant.rest ∙ c.in-Some.ensures.items) in
     record {
-      opened = subst (AreOpenedBelow g.K.Keeper.terms set keepers (number + 1)) (sym c.in_ok-add-in-Ok.ensures.starts)
-          (opened_more g.K.Keeper.terms set keepers number c.loop-number.opened.starts.items c.in-Some.keeper _ first.0
-          (record {
-            opened = c.in-Ok.state;
-            opens = subst (λ n. Opens g.K.Keeper.terms set n c.in-Some.keeper (Ok c.in-Ok.state)) c.at.ensures c.in-Ok.ensures;
-            start_is = refl;
-          })
+      opened = subst (AreOpenedBelow g.K.Keeper.terms set keepers (number + 1)) (sym c.in_ok-add-in-Ok.ensures)
+          (opened_more g.K.Keeper.terms set keepers number c.loop-number.servers.items c.in-Some.keeper c.in-Ok.opened first.0
+          (subst (λ n. Opens g.K.Keeper.terms set n c.in-Some.keeper (Ok c.in-Ok.opened)) c.at.ensures c.in-Ok.ensures)
           c.loop-number.invariant.opened);
-      states = let states = c.loop-number.invariant.states in let more = c.in_ok-add-in-Ok.ensures.states in omega (arith, states, more);
       rest = sym first.1;
       count = c.loop-number.invariant.count;
       within = omega (arith, c.loop-number-test.true);

@@ -48,6 +48,8 @@ impl Desk for Stopped {
         self.asked = self.asked.saturating_add(1);
         Ok(Looked::Absent)
     }
+
+    fn shut(&mut self) {}
 }
 
 /// Serves a client that asks once. Where memory was wanting, whether the desk wasn't asked.

@@ -4,7 +4,7 @@ use lynx_names::{ChainId, Memory};
 
 /// Who answers a client: a session with a cluster, say. Whatever it answers has a byte form.
 pub trait Desk {
-    ghost use Rattle.std.specs.Prelude.{IfOk};
+    ghost use Rattle.std.specs.Prelude.{◌≡◌, IfOk};
     ghost use Rattle.lynx_codec.specs.Ranges.{IsAnswerInRange, IsLookedInRange};
     ghost use Rattle.lynx_port.specs.Desks.{Begins, Looks};
 
@@ -24,4 +24,9 @@ pub trait Desk {
     fn look(&mut self, chain: ChainId, hop: u8) -> Result<Looked, Memory>
         ensures looks { looks self.old chain hop result self.new }
         ensures range { IfOk result IsLookedInRange };
+
+    /// A client asks for the end of all. It is told so as soon as its item was read, before it is
+    /// answered: whether the answer can be written or not.
+    fn shut(&mut self)
+        ensures same { self.new ≡ self.old };
 }

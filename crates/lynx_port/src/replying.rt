@@ -19,7 +19,11 @@ fn reply_to<D: Desk>(frame: Item, desk: &mut D) -> Result<Item, PortFault>
     match frame {
         Item::Request(request) => Ok(Item::Answer(desk.begin(request))),
         Item::Look(look) => Ok(Item::Looked(desk.look(look.chain, look.hop)?)),
-        Item::Quit | Item::Shut => Ok(Item::Bye),
+        Item::Quit => Ok(Item::Bye),
+        Item::Shut => {
+            desk.shut();
+            Ok(Item::Bye)
+        }
         Item::Answer(_) | Item::Looked(_) | Item::Bye | Item::Message(_) | Item::Entry(_) => {
             Err(PortFault::NotAsked)
         }

@@ -89,4 +89,6 @@ impl Desk for OneChain {
             Ok(Looked::Absent)
         }
     }
+
+    fn shut(&mut self) {}
 }

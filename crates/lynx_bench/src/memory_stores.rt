@@ -42,6 +42,10 @@ impl Stores<MemoryStoreKeeper> for MemoryStores {
         Ok(false)
     }
 
+    fn entries(&self, keeper: &MemoryStoreKeeper) -> u64 {
+        u64::from(keeper.entries())
+    }
+
     fn close(&self, _keeper: MemoryStoreKeeper) -> Result<(), StoreFault> {
         Ok(())
     }

@@ -97,6 +97,13 @@ impl<S: Rising> SqlKeeper<S> {
         }
     }
 
+    /// How many entries it keeps.
+    pub fn entries(&self) -> u32
+        ensures { result ≡ self.now.count }
+    {
+        self.count
+    }
+
     /// Gives the connection back.
     pub fn into_connection(self) -> Connection<S>
         ensures { result ≡ self.conn }

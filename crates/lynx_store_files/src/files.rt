@@ -53,6 +53,10 @@ impl Stores<FileKeeper> for Files {
         has_store(&self.rt, self.path(folder, server)?.as_str())
     }
 
+    fn entries(&self, keeper: &FileKeeper) -> u64 {
+        u64::from(keeper.entries())
+    }
+
     fn close(&self, keeper: FileKeeper) -> Result<(), StoreFault> {
         match keeper.into_inner().into_connection().close() {
             Ok(()) => Ok(()),

@@ -33,6 +33,13 @@ impl FileKeeper {
         FileKeeper { keeper }
     }
 
+    /// How many entries it keeps.
+    pub fn entries(&self) -> u32
+        ensures { result ≡ self.now.keeper.count }
+    {
+        self.keeper.entries()
+    }
+
     /// The keeper in it.
     pub fn into_inner(self) -> StoreKeeper
         ensures { result ≡ self.keeper }

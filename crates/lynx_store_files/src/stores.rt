@@ -12,6 +12,9 @@ pub trait Stores<K> {
     /// where it would be, that isn't empty. Nothing is opened as a database, and nothing is made.
     fn has(&self, folder: &str, server: ServerId) -> Result<bool, StoreFault>;
 
+    /// How many entries a keeper keeps.
+    fn entries(&self, keeper: &K) -> u64;
+
     /// Lets go of a keeper, once nothing more is to be kept. A fault tells that what was kept
     /// stands, but not where it ought to stand: in a log beside the file, say.
     fn close(&self, keeper: K) -> Result<(), StoreFault>;

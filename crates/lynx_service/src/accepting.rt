@@ -36,7 +36,7 @@ pub(crate) fn serve_clients<
             requires { IsSync R.row × IsSend K.row × IsSend G.row × IsSync G.row }
         {
             for stream in listener.incoming() {
-                if hall.is_shut() {
+                if hall.ending().is_asked() {
                     break;
                 }
                 let Ok(stream) = stream else {
@@ -51,6 +51,7 @@ pub(crate) fn serve_clients<
                     hall.leave(rt, None);
                 }
             }
+            hall.close();
         },
     );
     shared.into_sessions()

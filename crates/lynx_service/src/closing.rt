@@ -3,7 +3,7 @@ ghost use Rattle.std.specs.Prelude.{◌≡◌, IfOk};
 ghost use Rattle.lynx_service.specs.Services.{IsEnded, IsExplainedBy, last_lines};
 
 use crate::fault::ServeFault;
-use lynx_cluster::Closed;
+use lynx_cluster::{CloseFault, Closed};
 use lynx_keep::Keeper;
 use lynx_lines::{chains_line, write_bytes};
 use lynx_names::ServerId;
@@ -53,21 +53,28 @@ fn last_lines(alloc: Global, explained: &Explained) -> Result<Vec<u8>, ServeFaul
     Ok(lines)
 }
 
-/// Writes `closed`, and the line of the order that explains the world, or of a cycle.
-fn write_end<W: Write>(
-    alloc: Global,
-    world: &World,
-    writer: &mut W,
-) -> Result<Explained, ServeFault>
-    ensures { IfOk result (IsEnded world.now (W.contents writer.old) (W.contents writer.new)) }
+/// What explains the world, and the last lines that tell it.
+fn last_words(alloc: Global, world: &World) -> Result<(Explained, Vec<u8>), ServeFault>
+    ensures { IfOk result (λ words. IsExplainedBy world.now words.0
+        × (words.1.items ≡ last_lines words.0)) }
 {
     let explained = explained_by(alloc, world)?;
     let lines = last_lines(alloc, &explained)?;
-    write_bytes(writer, lines.as_slice())?;
-    Ok(explained)
+    Ok((explained, lines))
 }
 
-/// Writes how the service ended, and lets go of its keepers, in any case.
+/// Lets go of the keepers of a service that can't say that it listens.
+pub(crate) fn end_unheard<K: Keeper + Drop, S: Stores<K>>(
+    stores: &S,
+    closed: Result<Closed<K>, CloseFault>,
+) {
+    if let Ok(Closed { keepers, .. }) = closed {
+        let _ = close_keepers(stores, keepers);
+    }
+}
+
+/// Lets go of the keepers of a service, in any case, and then writes how it ended: nobody who reads
+/// slowly keeps a store locked.
 pub(crate) fn end<K: Keeper + Drop, S: Stores<K>, W: Write>(
     alloc: Global,
     stores: &S,
@@ -77,9 +84,10 @@ pub(crate) fn end<K: Keeper + Drop, S: Stores<K>, W: Write>(
     ensures { IfOk result (IsEnded closed.world (W.contents writer.old) (W.contents writer.new)) }
 {
     let Closed { world, keepers } = closed;
-    let written = write_end(alloc, &world, writer);
+    let words = last_words(alloc, &world);
     let closed = close_keepers(stores, keepers);
-    let explained = written?;
+    let (explained, lines) = words?;
+    write_bytes(writer, lines.as_slice())?;
     closed?;
     Ok(explained)
 }

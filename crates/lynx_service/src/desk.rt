@@ -1,4 +1,5 @@
 //! The desk of one client: its session with a cluster.
+use crate::ending::Ending;
 use lynx_cluster::{Front, Gate, Session};
 use lynx_codec::Looked;
 use lynx_entry::{Answer, Request};
@@ -7,17 +8,19 @@ use lynx_names::{ChainId, Memory};
 use lynx_port::Desk;
 use std::alloc::Global;
 use std::sync::Wait;
+use std::time::Clock;
 
-/// A client's session, and the cluster that it asks.
+/// A client's session, the cluster that it asks, and the ending that it may ask for.
 #[derive(Drop)]
-pub struct ClientDesk<'a, R: Wait, K: Keeper, G: Gate> {
+pub struct ClientDesk<'a, R: Wait + Clock, K: Keeper, G: Gate> {
     pub rt: &'a R,
     pub alloc: Global,
     pub front: &'a Front<K, G>,
     pub session: Session,
+    pub ending: &'a Ending,
 }
 
-impl<'a, R: Wait, K: Keeper, G: Gate> Desk for ClientDesk<'a, R, K, G> {
+impl<'a, R: Wait + Clock, K: Keeper, G: Gate> Desk for ClientDesk<'a, R, K, G> {
     ghost use Rattle.lynx_cluster.specs.Calls.{AnswersBegin};
     ghost use Rattle.lynx_service.specs.Desks.{AnswersLook};
 
@@ -35,5 +38,9 @@ impl<'a, R: Wait, K: Keeper, G: Gate> Desk for ClientDesk<'a, R, K, G> {
     fn look(&mut self, chain: ChainId, hop: u8) -> Result<Looked, Memory> {
         self.front
             .look(self.rt, self.alloc, &mut self.session, chain, hop)
+    }
+
+    fn shut(&mut self) {
+        self.ending.ask(self.rt);
     }
 }

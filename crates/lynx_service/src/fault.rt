@@ -4,8 +4,21 @@ use lynx_lines::WriteFailed;
 use lynx_names::{Memory, ServerId};
 use lynx_server::OpenFault;
 use lynx_store::StoreFault;
+use lynx_weave::WeaveFault;
 use std::alloc::{AllocError, AllocFailed};
 use thiserror::Error;
+
+/// Where a store is damaged.
+#[derive(Clone, Copy, Debug, PartialEq, Eq)]
+pub enum Damage {
+    /// In its tables or rows; which of them isn't known.
+    Somewhere,
+    /// The entry at that place isn't lawful behind those before it, or, at the count of the
+    /// entries, the cells aren't those that they leave.
+    At { place: u64 },
+    /// There is no store, where other servers of the set have stores with entries.
+    Missing,
+}
 
 /// What is wrong with a store.
 #[derive(Clone, Copy, Debug, PartialEq, Eq, Error)]
@@ -15,24 +28,27 @@ pub enum StoreWord {
     #[error("other-version")]
     OtherVersion,
     #[error("damaged")]
-    Damaged,
+    Damaged(Damage),
     #[error("store")]
     Store,
 }
 
-/// What is wrong with what servers did, or with what clients were told of it.
+/// What is wrong with what servers did, or with what clients were told of it. What it prints is one
+/// word, which tells no place.
 #[derive(Clone, Copy, Debug, PartialEq, Eq, Error)]
 pub enum CloseWord {
+    /// No world has that entry of that server: nobody sent its message, say.
     #[error("mismatch")]
-    Mismatch,
+    Mismatch { server: u8, place: u64 },
+    /// No world has that item of that session.
     #[error("told")]
-    Told,
+    Told { session: u64, place: u64 },
     #[error("stopped")]
-    Stopped,
+    Stopped { server: u8 },
     #[error("absent")]
-    Absent,
+    Absent { session: u64 },
     #[error("uncounted")]
-    Uncounted,
+    Uncounted { server: u8 },
 }
 
 /// Why a service didn't begin, or didn't end well. What was stored stands. The number of a server
@@ -49,7 +65,7 @@ pub enum ServeFault {
     /// No thread could be made for a server.
     #[error("no thread")]
     NoThread,
-    /// The audit at the end found that.
+    /// The look through the stores at the beginning, or the audit at the end, found that.
     #[error("close: {0}")]
     Close(CloseWord),
     #[error("cannot write")]
@@ -64,7 +80,7 @@ impl ServeFault {
         let word = match fault {
             StoreFault::OtherSet => StoreWord::OtherSet,
             StoreFault::OtherVersion => StoreWord::OtherVersion,
-            StoreFault::Damaged => StoreWord::Damaged,
+            StoreFault::Damaged => StoreWord::Damaged(Damage::Somewhere),
             StoreFault::Store => StoreWord::Store,
             StoreFault::Memory => return ServeFault::Memory,
         };
@@ -72,10 +88,17 @@ impl ServeFault {
         ServeFault::Store { server, word }
     }
 
+    /// The store of that server isn't there, where others have entries.
+    pub(crate) fn of_missing(server: ServerId) -> ServeFault {
+        let server = server.number();
+        let word = StoreWord::Damaged(Damage::Missing);
+        ServeFault::Store { server, word }
+    }
+
     /// The fault of what that server's store holds.
     fn of_contents(server: ServerId, fault: OpenFault) -> ServeFault {
         let word = match fault {
-            OpenFault::Damaged { .. } => StoreWord::Damaged,
+            OpenFault::Damaged { place } => StoreWord::Damaged(Damage::At { place }),
             OpenFault::Store => StoreWord::Store,
             OpenFault::Memory => return ServeFault::Memory,
         };
@@ -98,12 +121,33 @@ impl From<StartFault> for ServeFault {
 impl From<CloseFault> for ServeFault {
     fn from(fault: CloseFault) -> ServeFault {
         let word = match fault {
-            CloseFault::Mismatch { .. } => CloseWord::Mismatch,
-            CloseFault::Told { .. } => CloseWord::Told,
-            CloseFault::Stopped { .. } => CloseWord::Stopped,
-            CloseFault::Absent { .. } => CloseWord::Absent,
-            CloseFault::Uncounted { .. } => CloseWord::Uncounted,
+            CloseFault::Mismatch { server, place } => CloseWord::Mismatch {
+                server: server.number(),
+                place,
+            },
+            CloseFault::Told { session, place } => CloseWord::Told { session, place },
+            CloseFault::Stopped { server } => CloseWord::Stopped {
+                server: server.number(),
+            },
+            CloseFault::Absent { session } => CloseWord::Absent { session },
+            CloseFault::Uncounted { server } => CloseWord::Uncounted {
+                server: server.number(),
+            },
             CloseFault::Memory => return ServeFault::Memory,
+        };
+        ServeFault::Close(word)
+    }
+}
+
+impl From<WeaveFault> for ServeFault {
+    fn from(fault: WeaveFault) -> ServeFault {
+        let word = match fault {
+            WeaveFault::Mismatch { server, place } => CloseWord::Mismatch {
+                server: server.number(),
+                place,
+            },
+            WeaveFault::Told { session, place } => CloseWord::Told { session, place },
+            WeaveFault::Memory => return ServeFault::Memory,
         };
         ServeFault::Close(word)
     }

@@ -1,6 +1,8 @@
-//! Who is in: the clients whose connections are open, and the sessions of those that have gone.
+//! Who is in: the clients whose connections are open, and the sessions that wait for the next.
+use crate::ending::Ending;
 use crate::limits::MAX_CLIENTS;
-use lynx_cluster::Session;
+use lynx_cluster::{Front, Gate, Session};
+use lynx_keep::Keeper;
 use std::alloc::Global;
 use std::sync::atomic::{AtomicBool, Ordering};
 use std::sync::{Mutex, Wait};
@@ -14,11 +16,14 @@ struct Clients {
     sessions: Vec<Session>,
 }
 
-/// What the threads of a service share.
+/// What the threads of a service share. A connection that ends leaves its session to the next one,
+/// with all that it was told, so that a service makes no more of them than it has clients at a
+/// time.
 #[derive(Drop)]
 pub(crate) struct Hall {
     clients: Mutex<Clients>,
-    is_shut: AtomicBool,
+    ending: Ending,
+    is_closed: AtomicBool,
 }
 
 impl Hall {
@@ -29,23 +34,24 @@ impl Hall {
                 count: 0,
                 sessions: Vec::new(alloc),
             }),
-            is_shut: AtomicBool::new(false),
+            ending: Ending::new(),
+            is_closed: AtomicBool::new(false),
         }
     }
 
-    /// The flag that tells that the service is to end.
-    pub(crate) fn shut_flag(&self) -> &AtomicBool {
-        &self.is_shut
-    }
-
     /// Whether the service is to end.
-    pub(crate) fn is_shut(&self) -> bool {
-        self.is_shut.load(Ordering::SeqCst)
+    pub(crate) fn ending(&self) -> &Ending {
+        &self.ending
     }
 
-    /// The service is to end.
-    pub(crate) fn shut(&self) {
-        self.is_shut.store(true, Ordering::SeqCst);
+    /// Nobody is let in any more.
+    pub(crate) fn close(&self) {
+        self.is_closed.store(true, Ordering::SeqCst);
+    }
+
+    /// Whether nobody is let in any more.
+    pub(crate) fn is_closed(&self) -> bool {
+        self.is_closed.load(Ordering::SeqCst)
     }
 
     /// Lets one more client in, with room for its session when it goes. False where as many are in
@@ -58,6 +64,20 @@ impl Hall {
         }
         clients.count = count + 1;
         true
+    }
+
+    /// A session for a client that is in: that of one that has gone, or a new one.
+    pub(crate) fn session<R: Wait, K: Keeper, G: Gate>(
+        &self,
+        rt: &R,
+        alloc: Global,
+        front: &Front<K, G>,
+    ) -> Option<Session> {
+        let left = self.clients.lock(rt).sessions.pop();
+        match left {
+            Some(session) => Some(session),
+            None => front.session(rt, alloc),
+        }
     }
 
     /// A client goes, and leaves its session, if it was given one. Entering made the room for it.

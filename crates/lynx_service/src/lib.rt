@@ -4,14 +4,18 @@
 #![tactic(auto)]
 
 pub use desk::ClientDesk;
-pub use fault::{CloseWord, ServeFault, StoreWord};
-pub use limits::{MAX_CLIENTS, MAX_IDLE_SECONDS, MAX_SHUT_SECONDS, MAX_WRITE_SECONDS};
+pub use ending::Ending;
+pub use fault::{CloseWord, Damage, ServeFault, StoreWord};
+pub use limits::{
+    MAX_CLIENTS, MAX_CLOSING_SECONDS, MAX_IDLE_SECONDS, MAX_SHUT_SECONDS, MAX_WRITE_SECONDS,
+};
 pub use progress::Progress;
 pub use service::{Service, serve_stores};
 
 mod accepting;
 mod closing;
 pub mod desk;
+pub mod ending;
 pub mod fault;
 mod hall;
 pub mod limits;

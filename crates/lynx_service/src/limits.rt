@@ -10,10 +10,13 @@ pub const MAX_IDLE_SECONDS: u64 = 600;
 /// Seconds for which a client may be silent once a client asked for the end.
 pub const MAX_SHUT_SECONDS: u64 = 1;
 
-/// Seconds for which a client may take nothing of an answer.
+/// Seconds after which nothing more is read of any client once one asked for the end.
+pub const MAX_CLOSING_SECONDS: u64 = 10;
+
+/// Seconds for which a client may leave answers untaken, from the first byte on that doesn't go.
 pub const MAX_WRITE_SECONDS: u64 = 10;
 
-/// Milliseconds after which a read that waits looks whether it has to end.
+/// Milliseconds after which a read or a write that waits looks whether it has to end.
 pub(crate) const TICK_MILLIS: u64 = 250;
 
 /// Milliseconds that go by after a connection could not be taken, for want of file handles say,

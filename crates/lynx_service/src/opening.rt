@@ -1,28 +1,127 @@
 //! Opening the stores and the port.
 use crate::fault::ServeFault;
 use crate::progress::Progress;
+use lynx_keep::Keeper;
 use lynx_names::ServerId;
 use lynx_set::ChainSet;
+use lynx_store::StoreFault;
 use lynx_store_files::Stores;
 use std::alloc::Global;
 use std::net::{Ipv4Addr, Net, SocketAddr, TcpListener, TcpStream};
+use std::thread;
+use std::thread::Threads;
 
-/// The keepers of all servers of the set, in order.
-pub(crate) fn open_keepers<K: Drop, S: Stores<K>>(
+/// Threads that open stores, at most: as many as a set has servers.
+const OPENERS: usize = 16;
+
+/// The store of a server: whether there is one, and its keeper once it is open.
+#[derive(Drop)]
+pub(crate) struct Place<K> {
+    server: ServerId,
+    is_there: bool,
+    opened: Option<Result<K, StoreFault>>,
+}
+
+/// What there is of the stores of a folder.
+pub(crate) fn places<K: Drop, S: Stores<K>>(
     alloc: Global,
     set: &ChainSet,
     stores: &S,
     folder: &str,
-    progress: &Progress<'_>,
-) -> Result<Vec<K>, ServeFault> {
-    let mut keepers = Vec::new(alloc);
+) -> Result<Vec<Place<K>>, ServeFault> {
+    let mut places = Vec::new(alloc);
     for number in 0..set.servers() {
         let server = ServerId::at(number);
-        progress.opens(server);
-        match stores.open(folder, set, server) {
-            Ok(keeper) => keepers.push(keeper)?,
+        match stores.has(folder, server) {
+            Ok(is_there) => places.push(Place {
+                server,
+                is_there,
+                opened: None,
+            })?,
             Err(fault) => return Err(ServeFault::of_store(server, fault)),
         }
+    }
+    Ok(places)
+}
+
+/// Opens the stores that are there, side by side: reading one takes some seconds where it is large.
+/// Nothing is made.
+pub(crate) fn open_there<R: Threads + Sync, K: Keeper + Send + Drop, S: Stores<K> + Sync>(
+    rt: &R,
+    set: &ChainSet,
+    stores: &S,
+    folder: &str,
+    places: &mut [Place<K>],
+    progress: &Progress<'_>,
+) {
+    progress.opens();
+    thread::for_each_mut(
+        rt,
+        places,
+        OPENERS,
+        &|_, place: &mut Place<K>| {
+            if place.is_there {
+                place.opened = Some(stores.open(folder, set, place.server));
+            }
+        },
+    );
+}
+
+/// The first fault, by number, of the stores that are there; or the first store that isn't there,
+/// where another has entries. A folder is new as a whole, or has the stores of all servers.
+pub(crate) fn judge<K, S: Stores<K>>(stores: &S, places: &[Place<K>]) -> Result<(), ServeFault> {
+    let mut missing = None;
+    let mut has_entries = false;
+    for place in places {
+        match &place.opened {
+            Some(Ok(keeper)) => has_entries |= stores.entries(keeper) > 0,
+            Some(Err(fault)) => return Err(ServeFault::of_store(place.server, *fault)),
+            None => {
+                if missing.is_none() {
+                    missing = Some(place.server);
+                }
+            }
+        }
+    }
+    match missing {
+        Some(server) if has_entries => Err(ServeFault::of_missing(server)),
+        _ => Ok(()),
+    }
+}
+
+/// The keeper of one server: that which is open, or a new one, which is made now.
+fn keeper_of<K: Drop, S: Stores<K>>(
+    set: &ChainSet,
+    stores: &S,
+    folder: &str,
+    place: Place<K>,
+) -> Result<K, ServeFault> {
+    let Place {
+        server,
+        is_there: _,
+        opened,
+    } = place;
+    match opened {
+        Some(Ok(keeper)) => Ok(keeper),
+        Some(Err(fault)) => Err(ServeFault::of_store(server, fault)),
+        None => match stores.open(folder, set, server) {
+            Ok(keeper) => Ok(keeper),
+            Err(fault) => Err(ServeFault::of_store(server, fault)),
+        },
+    }
+}
+
+/// The keepers of all servers, in order.
+pub(crate) fn keepers<K: Drop, S: Stores<K>>(
+    alloc: Global,
+    set: &ChainSet,
+    stores: &S,
+    folder: &str,
+    places: Vec<Place<K>>,
+) -> Result<Vec<K>, ServeFault> {
+    let mut keepers = Vec::new(alloc);
+    for place in places {
+        keepers.push(keeper_of(set, stores, folder, place)?)?;
     }
     Ok(keepers)
 }

@@ -1,5 +1,4 @@
 //! What a person at a terminal is told while something takes a while.
-use lynx_names::ServerId;
 use std::io::IsTerminal;
 use std::rt::HostRuntime;
 
@@ -18,10 +17,10 @@ impl<'a> Progress<'a> {
         Progress { rt, is_shown }
     }
 
-    /// The store of that server is being opened.
-    pub fn opens(&self, server: ServerId) {
+    /// The stores are being opened.
+    pub fn opens(&self) {
         if self.is_shown {
-            let _ = eprint!(self.rt; "\rlynx: opening store {server}\x1b[K");
+            let _ = eprint!(self.rt; "\rlynx: opening the stores\x1b[K");
         }
     }
 
@@ -29,6 +28,13 @@ impl<'a> Progress<'a> {
     pub fn starts(&self) {
         if self.is_shown {
             let _ = eprint!(self.rt; "\rlynx: reading what the stores hold\x1b[K");
+        }
+    }
+
+    /// What the stores hold is being compared.
+    pub fn compares(&self) {
+        if self.is_shown {
+            let _ = eprint!(self.rt; "\rlynx: looking whether the stores fit together\x1b[K");
         }
     }
 

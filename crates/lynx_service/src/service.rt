@@ -1,13 +1,15 @@
 //! A service, from its stores to its audit.
-ghost use Rattle.std.specs.Prelude.{IfOk, OnOk};
+ghost use Rattle.std.specs.Prelude.{◌≡◌, IfOk, OnOk};
+ghost use Rattle.lynx_weave.specs.Senders.{AreAllSent};
+ghost use Rattle.lynx_weave.specs.Servers.{AreServersOf, histories_of};
 ghost use Rattle.lynx_service.specs.Services.{AppendsSome, HasServed};
 
 use crate::accepting::serve_clients;
-use crate::closing::end;
+use crate::closing::{end, end_unheard};
 use crate::fault::ServeFault;
-use crate::opening::{listen, open_keepers};
+use crate::opening::{judge, keepers, listen, open_there, places};
 use crate::progress::Progress;
-use lynx_cluster::{Cluster, Host, OpenGate, Session};
+use lynx_cluster::{Cluster, Host, OpenGate, Opened, Session};
 use lynx_keep::Keeper;
 use lynx_lines::write_bytes;
 use lynx_order::Explained;
@@ -68,18 +70,60 @@ fn serve_when_told<
     (sessions, written)
 }
 
+/// The servers of the set over the stores of a folder, which fit together, and where clients are
+/// listened to.
+fn open_all<
+    R: Threads + Sync + Net<Listener = TcpListener, Stream = TcpStream>,
+    K: Keeper + Send + Drop,
+    S: Stores<K> + Sync,
+>(
+    rt: &R,
+    alloc: Global,
+    set: &ChainSet,
+    stores: &S,
+    service: Service<'_>,
+    progress: &Progress<'_>,
+) -> Result<(Opened<K>, TcpListener, SocketAddr), ServeFault>
+    ensures set { IfOk result (λ all. all.0.set ≡ set.now) }
+    ensures servers { IfOk result (λ all. AreServersOf all.0.set all.0.servers.items) }
+    ensures sent { IfOk result (λ all. AreAllSent all.0.set (histories_of all.0.servers.items)) }
+{
+    let mut places = places(alloc, set, stores, service.folder)?;
+    open_there(
+        rt,
+        set,
+        stores,
+        service.folder,
+        places.as_mut_slice(),
+        progress,
+    );
+    judge(stores, places.as_slice())?;
+    let (listener, address) = listen(rt, service.port)?;
+    let keepers = keepers(alloc, set, stores, service.folder, places)?;
+    progress.starts();
+    let opened = Opened::open(alloc, set, keepers)?;
+    progress.compares();
+    opened.check(alloc)?;
+    Ok((opened, listener, address))
+}
+
 /// Serves clients over the stores of a folder, until one of them asks for the end: opens the stores
-/// by number, then the port, then the cluster, writes `listening 127.0.0.1:PORT`, and in the end
-/// `closed` and the line of the order that explains all that the stores hold, or of a cycle. It
-/// gives that order or cycle. docs/FORMATS.md has what clients send and are sent,
-/// [`limits`](crate::limits) what a client may cost. The set is not judged.
+/// that are there, side by side; listens at the port; makes the stores of a new folder; looks
+/// whether all stores fit together; writes `listening 127.0.0.1:PORT`, and in the end `closed` and
+/// the line of the order that explains all that the stores hold, or of a cycle. It gives that order
+/// or cycle. docs/FORMATS.md has what clients send and are sent, [`limits`](crate::limits) what a
+/// client may cost. The set is not judged.
+///
+/// Stores that no one run left together are a mismatch, before anybody is served: one that is an
+/// older copy, say. Where the folder has stores with entries, and that of another server isn't
+/// there, that is damage.
 ///
 /// The close takes about as long, and as much memory, as opening the stores did; the answers of a
 /// session, and what its looks found, are kept until then.
 pub fn serve_stores<
     R: Host + Net<Listener = TcpListener, Stream = TcpStream>,
     K: Keeper + Send + Drop + 'static,
-    S: Stores<K>,
+    S: Stores<K> + Sync,
     W: Write,
 >(
     rt: R,
@@ -92,19 +136,18 @@ pub fn serve_stores<
 ) -> Result<Explained, ServeFault>
     ensures { IfOk result (HasServed set.now (W.contents writer.old) (W.contents writer.new)) }
 {
-    let opened = open_keepers(alloc, set, stores, service.folder, progress);
+    let opened = open_all(&rt, alloc, set, stores, service, progress);
     progress.ends();
-    let keepers = opened?;
-    let (listener, address) = listen(&rt, service.port)?;
-    progress.starts();
-    let started = Cluster::start(rt, alloc, set, keepers, OpenGate);
-    progress.ends();
-    let cluster = started?;
+    let (opened, listener, address) = opened?;
+    let cluster = opened.start(rt, alloc, OpenGate)?;
     let (sessions, written) = serve_when_told(&rt, alloc, &cluster, &listener, address, writer);
     drop(listener);
     progress.closes();
     let closed = cluster.close(&rt, alloc, sessions);
     progress.ends();
-    written?;
+    if let Err(fault) = written {
+        end_unheard(stores, closed);
+        return Err(fault);
+    }
     end(alloc, stores, closed?, writer)
 }

@@ -1,8 +1,9 @@
 //! One client's connection, from its first byte to its end.
 use crate::desk::ClientDesk;
+use crate::ending::Ending;
 use crate::hall::Hall;
-use crate::limits::{MAX_WRITE_SECONDS, TICK_MILLIS};
-use crate::patience::Patient;
+use crate::limits::{RETRY_MILLIS, TICK_MILLIS};
+use crate::patience::{PatientReader, PatientWriter};
 use lynx_cluster::{Front, Gate, Session};
 use lynx_keep::Keeper;
 use lynx_port::{Desk, serve};
@@ -10,19 +11,18 @@ use std::alloc::Global;
 use std::io::Read;
 use std::net::{Net, Shutdown, SocketAddr, TcpListener, TcpStream};
 use std::sync::Wait;
-use std::sync::atomic::AtomicBool;
-use std::time::Duration;
+use std::thread;
+use std::time::{Clock, Duration};
 
 /// Reads that are made of a client that has been told goodbye, at most, so that what it sent beyond
 /// doesn't cost it the answers that it hasn't read yet.
 const LAST_READS: u32 = 16;
 
-/// Has reads of the stream end after a tick, and writes after some seconds. Whether it can be done.
+/// Has reads and writes of the stream end after a tick. Whether it can be done.
 fn set_limits(stream: &TcpStream) -> bool {
     let tick = Duration::from_millis(TICK_MILLIS);
-    let write = Duration::from_secs(MAX_WRITE_SECONDS);
     let _ = stream.set_nodelay(true);
-    stream.set_read_timeout(Some(tick)).is_ok() && stream.set_write_timeout(Some(write)).is_ok()
+    stream.set_read_timeout(Some(tick)).is_ok() && stream.set_write_timeout(Some(tick)).is_ok()
 }
 
 /// Tells the client that no more is said, and takes what it sent beyond.
@@ -39,66 +39,82 @@ fn hang_up(mut stream: &TcpStream) {
     }
 }
 
-/// Serves one client over its stream. Whether it asked for the end of the service.
-fn serve_stream<D: Desk>(
+/// Serves one client over its stream.
+fn serve_stream<R: Wait + Clock, D: Desk>(
+    rt: &R,
     alloc: Global,
     stream: &TcpStream,
-    is_shut: &AtomicBool,
+    ending: &Ending,
     desk: &mut D,
-) -> bool {
+) {
     if !set_limits(stream) {
-        return false;
+        return;
     }
-    let mut reader = Patient::new(stream, is_shut);
-    let mut writer = stream;
-    let served = serve(alloc, &mut reader, &mut writer, desk);
+    let mut reader = PatientReader::new(rt, stream, ending);
+    let mut writer = PatientWriter::new(rt, stream, ending);
+    let _ = serve(alloc, &mut reader, &mut writer, desk);
     hang_up(stream);
-    match served {
-        Ok(served) => served.shut,
-        Err(_) => false,
-    }
 }
 
-/// Serves one client by that session, which is given back, and tells whether it asked for the end.
-fn serve_by<R: Wait, K: Keeper + Drop, G: Gate + Drop>(
+/// Serves one client by that session, which is given back.
+fn serve_by<R: Wait + Clock, K: Keeper + Drop, G: Gate + Drop>(
     rt: &R,
     alloc: Global,
     front: &Front<K, G>,
     session: Session,
     stream: &TcpStream,
-    is_shut: &AtomicBool,
-) -> (Session, bool) {
+    ending: &Ending,
+) -> Session {
     let mut desk = ClientDesk {
         rt,
         alloc,
         front,
         session,
+        ending,
     };
-    let shuts = serve_stream(alloc, stream, is_shut, &mut desk);
+    serve_stream(rt, alloc, stream, ending, &mut desk);
     let ClientDesk {
         rt: _,
         alloc: _,
         front: _,
         session,
+        ending: _,
     } = desk;
-    (session, shuts)
+    session
 }
 
-/// Serves one client to its end. Where it asks for the end of the service, it knocks at the port
-/// once, so that who accepts sees the flag. A client for which there is no session is hung up on.
+/// Knocks at the port until nobody is let in any more, so that who accepts sees that the service is
+/// to end. A knock takes a file handle, so it is made again where none is left: those of the other
+/// clients are given back within [`MAX_CLOSING_SECONDS`](crate::limits::MAX_CLOSING_SECONDS).
+fn knock<R: Wait + Clock + Net<Listener = TcpListener, Stream = TcpStream>>(
+    rt: &R,
+    hall: &Hall,
+    port: SocketAddr,
+) {
+    for _ in rt.forever() {
+        if hall.is_closed() {
+            break;
+        }
+        let _ = rt.connect(port);
+        thread::sleep(rt, Duration::from_millis(RETRY_MILLIS));
+    }
+}
+
+/// Serves one client to its end. Once the end of the service was asked for, by whomever, it knocks
+/// at the port when its own stream is closed. A client for which there is no session is hung up on.
 pub(crate) fn talk<
-    R: Wait + Net<Listener = TcpListener, Stream = TcpStream>,
+    R: Wait + Clock + Net<Listener = TcpListener, Stream = TcpStream>,
     K: Keeper + Drop,
     G: Gate + Drop,
 >(rt: &R, alloc: Global, front: &Front<K, G>, stream: TcpStream, hall: &Hall, port: SocketAddr) {
-    let Some(session) = front.session(rt, alloc) else {
+    let Some(session) = hall.session(rt, alloc, front) else {
         hall.leave(rt, None);
         return;
     };
-    let (session, shuts) = serve_by(rt, alloc, front, session, &stream, hall.shut_flag());
+    let session = serve_by(rt, alloc, front, session, &stream, hall.ending());
+    drop(stream);
     hall.leave(rt, Some(session));
-    if shuts {
-        hall.shut();
-        let _ = rt.connect(port);
+    if hall.ending().is_asked() {
+        knock(rt, hall, port);
     }
 }

@@ -84,7 +84,7 @@ fn suggest_check(rt: &HostRuntime, said: &Error, words: &[String]) {
 fn do_matches<
     R: Host + Net<Listener = TcpListener, Stream = TcpStream>,
     K: Keeper + Send + Drop + 'static,
-    S: Stores<K>,
+    S: Stores<K> + Sync,
 >(host: &HostRuntime, rt: R, stores: &S, matches: &ArgMatches) -> u8 {
     let mut hints = Hints::new(wants_hints(matches) || host.stderr().is_terminal());
     let done = match job_of(matches) {
@@ -113,7 +113,7 @@ fn do_matches<
 fn obey<
     R: Host + Net<Listener = TcpListener, Stream = TcpStream>,
     K: Keeper + Send + Drop + 'static,
-    S: Stores<K>,
+    S: Stores<K> + Sync,
 >(host: &HostRuntime, rt: R, stores: &S, words: &[String]) -> u8 {
     let Ok(command) = command(host.alloc()) else {
         return report(host, &Fault::Memory);

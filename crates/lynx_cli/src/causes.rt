@@ -36,6 +36,14 @@ fn cause_of_file(
     Ok(Some(format!(in alloc; "  {shown}: {error}\n")?))
 }
 
+/// Whether a file has no byte. Where it isn't there, that isn't seen.
+fn is_empty(host: &HostRuntime, file: &str) -> bool {
+    match fs::metadata(host, file) {
+        Ok(found) => found.is_file() && found.len() == 0,
+        Err(_) => false,
+    }
+}
+
 /// Whether a file has bytes that no database begins with. Where it can't be read, that isn't seen.
 fn is_no_database(host: &HostRuntime, file: &str) -> bool {
     let mut head = [0u8; 16];
@@ -87,9 +95,6 @@ pub(crate) fn cause_of_store(
     if let Some(cause) = cause_of_file(host, alloc, file.as_str())? {
         return Ok(cause);
     }
-    if is_no_database(host, file.as_str()) {
-        return format!(in alloc; "  {shown} is no SQLite database\n");
-    }
     let log = format!(in alloc; "{file}-wal")?;
     if fs::metadata(host, log.as_str()).is_ok() {
         if let Some(cause) = cause_of_file(host, alloc, log.as_str())? {
@@ -99,4 +104,26 @@ pub(crate) fn cause_of_store(
     format!(in alloc;
         "  {shown} opens, and no other process has it open: the disk fails, or its bytes are no database's\n"
     )
+}
+
+/// Why the file of the store of that number can't be a database's, in a line; none where it may be.
+pub(crate) fn cause_of_damage(
+    host: &HostRuntime,
+    alloc: Global,
+    folder: &str,
+    server: u8,
+) -> Result<Option<String>, AllocError> {
+    let file = format!(in alloc; "{folder}/server-{server}.lynx")?;
+    let shown = Shown {
+        name: file.as_str(),
+    };
+    if is_empty(host, file.as_str()) {
+        return Ok(Some(format!(in alloc;
+            "  {shown} is empty, and the log beside it isn't: put back the file, and the log with it\n"
+        )?));
+    }
+    if is_no_database(host, file.as_str()) {
+        return Ok(Some(format!(in alloc; "  {shown} is no SQLite database\n")?));
+    }
+    Ok(None)
 }

@@ -11,7 +11,7 @@ use lynx_lex::TextFault;
 use lynx_report::RunFault;
 use lynx_rerun::RerunFault;
 use lynx_sample::SampleFault;
-use lynx_service::{CloseWord, ServeFault};
+use lynx_service::ServeFault;
 use lynx_show::ShowFault;
 use thiserror::Error;
 
@@ -135,7 +135,7 @@ impl<'a> Fault<'a> {
             RerunFault::Store { server, fault } => {
                 Fault::of_serving(ServeFault::of_store(server, fault))
             }
-            RerunFault::Apart(_) => Fault::Serve(ServeFault::Close(CloseWord::Mismatch)),
+            RerunFault::Apart(fault) => Fault::of_serving(ServeFault::from(fault)),
         }
     }
 

@@ -1,15 +1,16 @@
 //! The lines behind the one that tells a fault, where they are wanted: where in a text it is and
 //! what was expected, or why the system refused.
-use crate::causes::cause_of_store;
+use crate::causes::{cause_of_damage, cause_of_store};
 use crate::fault::Fault;
 use crate::input::split_input;
 use crate::job::INPUT;
 use crate::reading::is_named_pipe;
 use crate::shown::Shown;
+use crate::spots::spot_of;
 use lynx_ask::AskFault;
 use lynx_hints::{Part, begin_hints, hint, separator_hint};
 use lynx_lex::TextFault;
-use lynx_service::{ServeFault, StoreWord};
+use lynx_service::{Damage, ServeFault, StoreWord};
 use lynx_text::parse;
 use std::alloc::Global;
 use std::io::Read;
@@ -167,16 +168,41 @@ impl Hints {
         }
     }
 
-    /// Notes why the store of a folder can't be opened that a job was to open.
+    /// Notes why the store of a folder can't be opened that a job was to open, or where it is
+    /// damaged.
     pub(crate) fn note_store<T>(
         &mut self,
         host: &HostRuntime,
         folder: &str,
         done: &Result<T, Fault<'_>>,
     ) {
-        if let Err(Fault::Serve(ServeFault::Store { server, word })) = done {
-            if self.is_wanted && *word == StoreWord::Store {
+        self.note_spot(host.alloc(), done);
+        let Err(Fault::Serve(ServeFault::Store { server, word })) = done else {
+            return;
+        };
+        if !self.is_wanted {
+            return;
+        }
+        match word {
+            StoreWord::Store => {
                 self.lines = cause_of_store(host, host.alloc(), folder, *server).ok();
+            }
+            StoreWord::Damaged(Damage::Somewhere) => {
+                if let Ok(lines) = cause_of_damage(host, host.alloc(), folder, *server) {
+                    self.lines = lines;
+                }
+            }
+            _ => {}
+        }
+    }
+
+    /// Notes where the fault of a service is.
+    fn note_spot<T>(&mut self, alloc: Global, done: &Result<T, Fault<'_>>) {
+        if let Err(Fault::Serve(fault)) = done {
+            if self.is_wanted {
+                if let Ok(Some(lines)) = spot_of(alloc, fault) {
+                    self.lines = Some(lines);
+                }
             }
         }
     }

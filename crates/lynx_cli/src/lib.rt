@@ -24,6 +24,7 @@ mod reading;
 mod serving;
 pub mod shown;
 pub mod source;
+mod spots;
 mod stored;
 mod storing;
 pub mod texts;

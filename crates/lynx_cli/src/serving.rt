@@ -45,7 +45,7 @@ pub(crate) fn serve_file<
     'a,
     R: Host + Net<Listener = TcpListener, Stream = TcpStream>,
     K: Keeper + Send + Drop + 'static,
-    S: Stores<K>,
+    S: Stores<K> + Sync,
     W: Write,
 >(
     host: &HostRuntime,

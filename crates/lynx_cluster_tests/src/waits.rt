@@ -21,6 +21,9 @@ use std::time::{Clock, Duration};
 /// Chains that are held at the slow server until the first one comes there.
 const HELD: u64 = 60;
 
+/// Commits of the slow server while one begins there, at most.
+const MOST_COMMITS: u64 = 12;
+
 /// Begins at the slow server while they are woken.
 const BEGINS: u64 = 5;
 
@@ -115,8 +118,8 @@ fn most_commits<R: Wait + Clock, K: Keeper, G: Gate>(
     Ok(Some(most))
 }
 
-/// Whether no begin at the slow server waits for more than one commit that is under way and one
-/// that began meanwhile, and some wait for one.
+/// Whether no begin at the slow server waits for the line of commits: for the one under way, or for
+/// some where its thread has to wait for a processor, but never for all that are woken.
 fn is_short<R: Wait + Clock, K: Keeper, G: Gate>(
     rt: &R,
     alloc: Global,
@@ -134,7 +137,7 @@ fn is_short<R: Wait + Clock, K: Keeper, G: Gate>(
         thread::sleep(rt, Duration::from_millis(1));
     }
     match most_commits(rt, alloc, front, session, commits)? {
-        Some(most) => Ok(have_begun && most <= 3),
+        Some(most) => Ok(have_begun && most <= MOST_COMMITS),
         None => Ok(false),
     }
 }

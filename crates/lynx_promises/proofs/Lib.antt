@@ -1,0 +1,11 @@
+pub mod Agreeing
+pub mod ToldLists
+pub mod Telling
+pub mod Honest
+pub mod Unfalse
+pub mod Promised
+pub mod Upgraded
+pub mod Extending
+pub mod Extended
+pub mod Narrowed
+pub mod Growing

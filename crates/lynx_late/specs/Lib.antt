@@ -1,0 +1,3 @@
+pub mod Abroad
+pub mod Blocks
+pub mod inner

@@ -1,24 +1,23 @@
 -- How many lines the parts of a set have, and that each hop stands on its line.
-use Rattle.std.proofs.Common.{◌≡◌, ℕ, ◌+◌, ◌<◌, ◌≤◌, List, [], ◌∷◌, ◌++◌, map, length, take, drop, get_or, Some, None, ⊎_elim, zero, suc, refl, sym, ap, subst, ◌∙◌, append_assoc, arith}
-use Rattle.std.specs.Prelude.{codes, decimal, Option, option_and_then, option_map, slice_get, sum_by}
+use Rattle.std.proofs.Common.{◌≡◌, ℕ, ◌+◌, ◌<◌, ◌≤◌, List, [], ◌∷◌, ◌++◌, map, length, take, drop, get_or, Some, None, ⊎_elim, zero, suc, refl, sym, ap, subst, ◌∙◌, arith}
+use Rattle.std.specs.Prelude.{codes, Option, option_map, slice_get, sum_by}
 use Rattle.std.specs.List.{range_with_len}
 use Rattle.std.specs.Option.{option_map_or}
 use Rattle.std.proofs.lemmas.Bool.{cases_lt}
 use Rattle.std.proofs.lemmas.List.{length-append, length-map}
 use Rattle.std.proofs.lemmas.List.Sums.{sum_by-cons, sum_by-take-le}
-use Rattle.std.proofs.lemmas.Option.{none-some, same_Some}
 use Rattle.lynx_shards.specs.declared.shard.Shard.{Shard}
 use Rattle.lynx_names.specs.declared.limits.TheConstants.{MAX_TEXT_BYTES}
 use Rattle.lynx_lex.specs.Lines.{joined, line}
 use Rattle.lynx_set.specs.Rules.{IsSet}
 use Rattle.lynx_set.specs.Set.{Set}
-use Rattle.lynx_set.specs.Lookups.{hop_at, program_at}
+use Rattle.lynx_set.specs.Lookups.{program_at}
 use Rattle.lynx_set.specs.declared.action.Action.{Action}
 use Rattle.lynx_set.specs.declared.program.Hop.{Hop}
 use Rattle.lynx_set.specs.declared.program.Program.{Program}
-use Rattle.lynx_set.specs.Text.{action_lines, action_words, bound_in, bound_names, head_lines, hop_lines, hops_lines, program_lines, program_words, programs_lines, range_words, set_lines, shard_words, table_lines, tables_lines, text, text_of}
+use Rattle.lynx_set.specs.Text.{action_lines, bound_in, bound_names, hop_lines, hops_lines, program_lines, programs_lines, range_words, set_lines, shard_words, table_lines, tables_lines, text}
 use Rattle.lynx_graph.specs.declared.meeting.Place.{Place}
-use Rattle.lynx_reasons.specs.HopLines.{line_of, lines_before, lines_to_hop}
+use Rattle.lynx_reasons.specs.HopLines.{line_of, lines_to_hop}
 use Rattle.lynx_reasons.specs.inner.Counts.{lines_of_hop, lines_of_program, lines_of_program_at, lines_to_hop as count_to_hop, lines_to_hop_of}
 
 -- ---- counts

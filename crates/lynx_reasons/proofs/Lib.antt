@@ -1,1 +1,4 @@
 pub mod HopLines
+pub mod Reasons
+pub mod LeftOnes
+pub mod Together

@@ -1,5 +1,5 @@
 -- The lines of groups of programs.
-use Rattle.std.specs.Prelude.{Bool, false, ◌==◌, ◌&&◌, ◌||◌, nat_lt, ℕ, List, ◌∷◌, ◌++◌, map, filter, length, codes, if◌then◌else◌}
+use Rattle.std.specs.Prelude.{Bool, ◌==◌, ◌&&◌, ◌||◌, nat_lt, ℕ, List, ◌∷◌, ◌++◌, filter, length, codes, if◌then◌else◌}
 use Rattle.std.specs.List.{enumerate_from, flat_map, list_all, list_any}
 use Rattle.lynx_lex.specs.Lines.{with_feed}
 use Rattle.lynx_set.specs.Set.{Set}

@@ -1,6 +1,11 @@
 pub mod HopLines
 pub mod Meets
 pub mod Groups
+pub mod Reasons
 pub mod Busy
+pub mod Late
+pub mod Mixed
+pub mod Culprits
+pub mod Blame
 pub mod Whys
 pub mod inner

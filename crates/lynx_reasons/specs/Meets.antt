@@ -29,17 +29,20 @@ abbrev pub lines_text : Set → Place → Place → List ℕ
 lines_text set left right =
     codes " lines " ++ decimal (line_of set left) ++ 32 ∷ decimal (line_of set right)
 
--- two hops that may conflict, and where they do
+-- two hops that may conflict, and their server
 abbrev pub hops_text : Set → Edge → List ℕ
 hops_text set edge =
-    codes "meet" ++ place_text set edge.left ++ place_text set edge.right
-    ++ server_text set edge.left
+    place_text set edge.left ++ place_text set edge.right ++ server_text set edge.left
+
+-- two hops that may conflict, and where they do
+abbrev pub pair_text : Set → Edge → List ℕ
+pair_text set edge =
+    hops_text set edge ++ tables_text set edge.left edge.right
+    ++ lines_text set edge.left edge.right
 
 -- the line of two hops that may conflict
 abbrev pub meet_line : Set → Edge → List ℕ
-meet_line set edge =
-    with_feed (hops_text set edge ++ tables_text set edge.left edge.right
-    ++ lines_text set edge.left edge.right)
+meet_line set edge = with_feed (codes "meet" ++ pair_text set edge)
 
 abbrev pub meet_lines : Set → List Edge → List ℕ
 meet_lines set edges = flat_map (meet_line set) edges

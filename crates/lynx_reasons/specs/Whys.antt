@@ -6,9 +6,12 @@ use Rattle.lynx_check.specs.declared.verdict.Verdict.TheVariants.{Accepted, Offe
 use Rattle.lynx_check.specs.Reasons.{reason_of}
 use Rattle.lynx_graph.specs.Edges.{edges_of}
 use Rattle.lynx_graph.specs.declared.members.Member.{Member}
+use Rattle.lynx_reasons.specs.Blame.{AreBlameLines}
 use Rattle.lynx_reasons.specs.Busy.{busy_lines}
 use Rattle.lynx_reasons.specs.Groups.{group_lines}
+use Rattle.lynx_reasons.specs.Late.{late_lines}
 use Rattle.lynx_reasons.specs.Meets.{meet_lines}
+use Rattle.lynx_reasons.specs.Mixed.{mixed_lines}
 use Rattle.lynx_graph.specs.Together.{AreLed}
 
 -- the groups of an accepted set, each led by the least of its programs; an offending set has none
@@ -18,8 +21,18 @@ AreGroupLines set (Accepted own) lines =
     × (lines ≡ group_lines set (edges_of set) (reason_of own.excused) members)
 AreGroupLines set (Offending walk blocks) lines = lines ≡ []
 
--- the hops that meet, the groups, and the programs that return
+-- what stands in the way of an offending set: the late blocks, the mixed groups, and the programs
+-- to blame; nothing does of an accepted one
+abbrev pub AreOffenceLines : Set → Verdict → List ℕ → Type 0
+AreOffenceLines set (Accepted own) lines = lines ≡ []
+AreOffenceLines set (Offending walk blocks) lines =
+    (members : List Member) × (blame : List ℕ) × AreLed set members × AreBlameLines set blame
+    × (lines ≡ late_lines set ++ mixed_lines set (edges_of set) members ++ blame)
+
+-- the hops that meet, the groups, the programs that return, and what stands in the way
 pub record IsWhy (set : Set) (verdict : Verdict) (printed : List ℕ) : Type 0 where
   pub groups : List ℕ
   pub right : AreGroupLines set verdict groups
-  pub whole : printed ≡ meet_lines set (edges_of set) ++ groups ++ busy_lines set
+  pub offence : List ℕ
+  pub named : AreOffenceLines set verdict offence
+  pub whole : printed ≡ meet_lines set (edges_of set) ++ groups ++ busy_lines set ++ offence

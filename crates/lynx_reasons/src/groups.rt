@@ -46,7 +46,7 @@ fn hops_met(set: &ChainSet, edges: &[Edge], program: ProgramId) -> usize
 }
 
 /// Whether no program of the group meets others at two of its hops.
-fn meet_at_one_hop(set: &ChainSet, edges: &[Edge], group: &[ProgramId]) -> bool
+pub(crate) fn meet_at_one_hop(set: &ChainSet, edges: &[Edge], group: &[ProgramId]) -> bool
     ensures { result ≡ meet_at_one_hop set.now edges.now group.now }
 {
     group
@@ -88,7 +88,11 @@ fn reason_word(reason: GroupReason) -> &'static [u8]
 }
 
 /// Writes the name of each program after a space.
-fn put_names(out: &mut Vec<u8>, set: &ChainSet, group: &[ProgramId]) -> Result<(), Memory>
+pub(crate) fn put_names(
+    out: &mut Vec<u8>,
+    set: &ChainSet,
+    group: &[ProgramId],
+) -> Result<(), Memory>
     ensures { OnOk result (out.new.items ≡ out.old.items ++ names_text set.now group.now) }
 {
     for program in group {

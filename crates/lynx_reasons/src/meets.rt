@@ -4,7 +4,7 @@ ghost use Rattle.std.specs.Prelude.{◌≡◌, ◌++◌, OnOk};
 ghost use Rattle.std.specs.List.{flat_map};
 ghost use Rattle.lynx_lex.specs.Lines.{spaced};
 ghost use Rattle.lynx_set.specs.Rules.{IsSet};
-ghost use Rattle.lynx_reasons.specs.Meets.{hops_text, lines_text, meet_line, meet_lines, place_text, server_text, tables_text};
+ghost use Rattle.lynx_reasons.specs.Meets.{hops_text, lines_text, meet_line, meet_lines, pair_text, place_text, server_text, tables_text};
 
 use crate::hop_lines::line_of;
 use lynx_graph::{Edge, Place, tables_met};
@@ -14,7 +14,12 @@ use lynx_text::printing::{put_number, put_word};
 use std::alloc::Global;
 
 /// Writes a hop: its program, and its number from 0.
-fn put_place(alloc: Global, out: &mut Vec<u8>, set: &ChainSet, place: &Place) -> Result<(), Memory>
+pub(crate) fn put_place(
+    alloc: Global,
+    out: &mut Vec<u8>,
+    set: &ChainSet,
+    place: &Place,
+) -> Result<(), Memory>
     ensures { OnOk result (out.new.items ≡ out.old.items ++ place_text set.now place.now) }
 {
     put_word(out, set.program_name(place.program))?;
@@ -60,7 +65,7 @@ fn put_tables(
 }
 
 /// Writes the lines of the set's text on which the hops stand.
-fn put_hop_lines(
+pub(crate) fn put_hop_lines(
     alloc: Global,
     out: &mut Vec<u8>,
     set: &ChainSet,
@@ -81,10 +86,24 @@ fn put_hop_lines(
 fn put_hops(alloc: Global, out: &mut Vec<u8>, set: &ChainSet, edge: &Edge) -> Result<(), Memory>
     ensures { OnOk result (out.new.items ≡ out.old.items ++ hops_text set.now edge.now) }
 {
-    out.extend_from_slice(b"meet".as_slice())?;
     put_place(alloc, out, set, &edge.left)?;
     put_place(alloc, out, set, &edge.right)?;
     put_server(alloc, out, set, &edge.left)
+}
+
+/// Writes two hops that meet, and where they do.
+pub(crate) fn put_pair(
+    alloc: Global,
+    out: &mut Vec<u8>,
+    set: &ChainSet,
+    edge: &Edge,
+) -> Result<(), Memory>
+    requires { IsSet set.now }
+    ensures { OnOk result (out.new.items ≡ out.old.items ++ pair_text set.now edge.now) }
+{
+    put_hops(alloc, out, set, edge)?;
+    put_tables(alloc, out, set, &edge.left, &edge.right)?;
+    put_hop_lines(alloc, out, set, &edge.left, &edge.right)
 }
 
 /// Writes the line of two hops that meet.
@@ -92,9 +111,8 @@ fn put_meet(alloc: Global, out: &mut Vec<u8>, set: &ChainSet, edge: &Edge) -> Re
     requires { IsSet set.now }
     ensures { OnOk result (out.new.items ≡ out.old.items ++ meet_line set.now edge.now) }
 {
-    put_hops(alloc, out, set, edge)?;
-    put_tables(alloc, out, set, &edge.left, &edge.right)?;
-    put_hop_lines(alloc, out, set, &edge.left, &edge.right)?;
+    out.extend_from_slice(b"meet".as_slice())?;
+    put_pair(alloc, out, set, edge)?;
     out.push(b'\n')?;
     Ok(())
 }

@@ -1,4 +1,4 @@
-use Rattle.std.proofs.Common.{◌≡◌, length, ap, ◌∙◌, arith}
+use Rattle.std.proofs.Common.{length, ap, ◌∙◌, arith}
 use Rattle.lynx_set.specs.Text.{tables_lines}
 use Rattle.lynx_reasons.proofs.HopLines.{few_lines, line_of-is, lines_to_hop-le}
 use Rattle.lynx_reasons.proofs.hop_lines.line_of.Goals as goal

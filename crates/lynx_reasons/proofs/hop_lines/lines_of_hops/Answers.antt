@@ -1,4 +1,4 @@
-use Rattle.std.proofs.Common.{ap, drop, ◌+◌, arith}
+use Rattle.std.proofs.Common.{ap, arith}
 use Rattle.std.proofs.lemmas.List.Sums.{sum_by-drop_more}
 use Rattle.lynx_reasons.specs.inner.Counts.{lines_of_hop}
 use Rattle.lynx_reasons.proofs.hop_lines.lines_of_hops.Goals as goal

@@ -1,4 +1,4 @@
-use Rattle.std.proofs.Common.{◌+◌, drop, ap, sym, ◌∙◌, length, arith}
+use Rattle.std.proofs.Common.{◌+◌, drop, ap, sym, length, arith}
 use Rattle.std.proofs.lemmas.Bool.{ltb-true}
 use Rattle.lynx_text.proofs.Texts.{tables_lines-past}
 use Rattle.lynx_reasons.proofs.HopLines.{tables_one_less}

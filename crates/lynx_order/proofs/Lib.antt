@@ -15,3 +15,4 @@ pub mod Found
 pub mod Judged
 pub mod Certificates
 pub mod Certified
+pub mod SomeOrder

@@ -43,6 +43,10 @@ parts_lawful set server before (placed ∷ list) legal =
           (history_of-push server before placed ∙ ap (λ b. history_of server before ++ cond b (placed.entry ∷ []) []) is) later,
     )
 
+-- each server's part of a legal list is lawful
+pub part_lawful : (set : Set) (server : ℕ) (list : List Placed) → IsLegal set list → IsLawfulHistory set server (history_of server list)
+part_lawful set server list legal = parts_lawful set server [] list legal
+
 -- an entry of a part ran on a message that an entry of a part sends
 sent_by_part : (set : Set) (list : List Placed) (histories : List History) (server place : ℕ) → IsLegal set list → ArePartsOf set list histories →
     IsUnsentAt set histories server place → ⊥
@@ -66,7 +70,7 @@ pub parts_weave : (set : Set) (list : List Placed) (histories : List History) (s
     IsMismatch set histories server place → ⊥
 parts_weave set list histories server place legal parts (inl unlawful) =
     let lawful : IsLawfulHistory set server unlawful.history =
-    subst (IsLawfulHistory set server) (parts.each server unlawful.history unlawful.there) (parts_lawful set server [] list legal) in
+    subst (IsLawfulHistory set server) (parts.each server unlawful.history unlawful.there) (part_lawful set server list legal) in
     unlawful.first.unlawful (lawful_in set server unlawful.history place unlawful.first.entry lawful unlawful.first.there)
 parts_weave set list histories server place legal parts (inr unsent) = sent_by_part set list histories server place legal parts unsent
 

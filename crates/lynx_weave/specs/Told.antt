@@ -1,5 +1,5 @@
 -- What sessions were told, and when it stands.
-use Rattle.std.specs.Prelude.{ℕ, ◌+◌, ◌==◌, ◌&&◌, ◌||◌, Bool, true, false, not, max, nat_lt, nat_eq, List, length, fold}
+use Rattle.std.specs.Prelude.{ℕ, if◌then◌else◌, [], ◌∷◌, ◌+◌, ◌==◌, ◌&&◌, ◌||◌, Bool, true, false, not, max, nat_lt, nat_eq, List, length, fold}
 use Rattle.std.specs.List.{list_any}
 use Rattle.std.specs.Cmp.Lexicographic.{pointwise}
 use Rattle.lynx_names.specs.declared.chain.ChainId.{ChainId}
@@ -135,3 +135,15 @@ stamp_told (Seen server chain hop stamp results) = stamp
 -- the greatest stamp that was told, 0 where none was
 abbrev pub greatest_told : List ToldItem → ℕ
 greatest_told items = fold (λ greatest item. max greatest (stamp_told item)) 0 items
+
+-- the answers that a session notes
+abbrev pub is_noted : Answer → Bool
+is_noted (BegunAnswer chain stamp results again) = true
+is_noted (RefusedAnswer need stamp again) = true
+is_noted Clash = true
+is_noted Full = true
+is_noted given = false
+
+-- what a session notes of that server's answer to a request
+abbrev pub told_by : ℕ → Request → Answer → List ToldItem
+told_by server request answer = if is_noted answer then Answered server request answer ∷ [] else []

@@ -29,3 +29,4 @@ pub mod Formed
 pub mod Answered
 pub mod Origins
 pub mod LegalSteps
+pub mod Events

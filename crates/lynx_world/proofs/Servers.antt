@@ -207,7 +207,7 @@ sent_with set server (Some entry) list message sent = sent-append set list (reco
 pub all_sent_with : (set : Set) (server : ℕ) (added : Option Entry) (list : List Placed) (held : List Message) → All (IsSent set list) held → All (IsSent set (list_with server added list)) held
 all_sent_with set server added list held each = λ k d within. sent_with set server added list _ (each k d within)
 
-legal_with : (set : Set) (server : ℕ) (added : Option Entry) (list : List Placed) → IsLegal set list →
+pub legal_with : (set : Set) (server : ℕ) (added : Option Entry) (list : List Placed) → IsLegal set list →
     IfSome added (λ entry. MayFollow set list (record { server = server; entry = entry })) → IsLegal set (list_with server added list)
 legal_with set server None list legal may = legal
 legal_with set server (Some entry) list legal may = legal-push set list (record { server = server; entry = entry }) legal may

@@ -1,6 +1,7 @@
 -- A step of a world.
 use Rattle.std.specs.Prelude.{◌≡◌, ◌⊎◌, ℕ, ◌==◌, ◌&&◌, Bool, true, false, not, if◌then◌else◌, nat_lt, List, [], ◌∷◌, ◌++◌, find, filter, unwrap_or, option_map, slice_get, slice_set, is_some, Option, Some, None}
 use Rattle.lynx_names.specs.declared.chain.ChainId.{ChainId}
+use Rattle.lynx_names.specs.declared.limits.TheConstants.{MAX_HELD}
 use Rattle.lynx_set.specs.Set.{Set}
 use Rattle.lynx_entry.specs.declared.answer.Delivered.{Delivered}
 use Rattle.lynx_entry.specs.declared.answer.Delivered.TheVariants.{Full}
@@ -141,3 +142,8 @@ step room world (Restart server) =
 -- the list is as it was, or has one more entry at its end
 abbrev pub HasGrown : List Placed → List Placed → Type 0
 HasGrown old new = (new ≡ old) ⊎ ((placed : Placed) × (new ≡ old ++ placed ∷ []))
+
+-- the world after these events, whose servers each have the room that servers have
+abbrev pub world_after : WorldState → List Event → WorldState
+world_after world [] = world
+world_after world (event ∷ events) = world_after (step MAX_HELD world event).world events

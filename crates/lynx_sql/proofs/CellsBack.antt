@@ -1,11 +1,10 @@
 -- The rows that the cells' query shows tell the cells that are stored.
-use Rattle.std.proofs.Common.{◌≡◌, ◌≢◌, ℕ, ℤ, ◌<ℤ◌, pos, List, [], ◌∷◌, map, Bool, true, false, not, ◌&&◌, ◌||◌, ◌++◌, codes, drop, append_assoc, Some, None, IsTrue, refl, sym, ap, subst, ◌∙◌, Less}
+use Rattle.std.proofs.Common.{◌≡◌, ℕ, ℤ, ◌<ℤ◌, pos, List, [], ◌∷◌, map, Bool, true, false, not, ◌&&◌, ◌||◌, ◌++◌, codes, drop, append_assoc, None, IsTrue, refl, sym, ap, subst, ◌∙◌, Less}
 use Rattle.std.specs.Int.{w64, to_be_bytes}
 use Rattle.std.specs.Ordering.{is_ne}
 use Rattle.std.specs.List.{AllByRecursion, flat_map, list_any}
 use Rattle.std.specs.List.Sorted.{IsPermutation}
 use Rattle.std.proofs.lemmas.List.Sorted.{IsPermutation-map, IsPermutation-sym}
-use Rattle.std.specs.FinMap as finite
 use Rattle.sqlite_trees.proofs.ListLemmas.{all-permutation}
 use Rattle.sqlite_trees.specs.Tree.{Trees, rowid, IsAscending, IsTable}
 use Rattle.sqlite_trees.specs.View.{is_int}
@@ -24,7 +23,8 @@ use Rattle.sqlite.specs.Query.{IsAnswer, output, Output}
 use Rattle.lynx_sql.specs.declared.version.StoreVersion.{StoreVersion}
 use Rattle.lynx_sql.specs.declared.version.StoreVersion.TheVariants.{One, Two}
 use Rattle.lynx_sql.specs.Tables.{column_of, cell, store_schema}
-use Rattle.lynx_sql.specs.Cells.{Stored, cell_row, cell_of, shown_cell, Fits, ComesBefore, HoldsCells}
+use Rattle.lynx_cells.specs.Database.{Database}
+use Rattle.lynx_sql.specs.Cells.{Stored, cell_row, shown_cell, Fits, ComesBefore, HoldsCells, ShowsCells}
 use Rattle.lynx_sql.specs.Shown.{row_of, FitsRow, AreCells, cells_in}
 use Rattle.lynx_sql.proofs.Understood.{cells_query}
 use Rattle.lynx_sql.proofs.ReadLemmas.{picks}
@@ -56,6 +56,26 @@ shows_each (r ∷ rows) (c ∷ cells) is fit =
     let here : r ≡ row_of c = cc in
     let rest : rows ≡ map row_of cells = cc in
     (record { cell = c; is = here; fits = fit.0 }, shows_each rows cells rest fit.1)
+
+-- the rows of cells that are shown in some order are rows of cells
+rows_each : (stored : List Stored) → AllByRecursion Fits stored → AllByRecursion ShowsOne (map shown_cell stored)
+rows_each [] fit = tt
+rows_each (s ∷ more) fit =
+    let cell : ℕ × ℕ × ℕ = (s.table, s.key, s.value) in
+    (record { cell = cell; is = refl; fits = record { table = fit.0.table; key = fit.0.key; value = fit.0.value; nonzero = fit.0.nonzero } }, rows_each more fit.1)
+
+each_shown : (rows : List Row) → AllByRecursion ShowsOne rows → AreCells rows
+each_shown [] each = record { cells = []; rows_are = refl; fit = tt }
+each_shown (r ∷ rows) each =
+    let more = each_shown rows each.1 in
+    record {
+      cells = each.0.cell ∷ more.cells;
+      rows_are = ap (λ x. x ∷ rows) each.0.is ∙ ap (λ xs. row_of each.0.cell ∷ xs) more.rows_are;
+      fit = (each.0.fits, more.fit);
+    }
+
+pub cells_formed : (rows : List Row) (db : Database) → ShowsCells rows db → AreCells rows
+cells_formed rows db h = each_shown rows (all-permutation ShowsOne (map shown_cell h.stored) rows h.same (rows_each h.stored h.fit))
 
 shows_all : (rows : List Row) → AllByRecursion ShowsOne (map triple_shown rows) → AllByRecursion (λ row. ShowsOne (triple_shown row)) rows
 shows_all [] h = tt
@@ -111,7 +131,7 @@ stored_for (r ∷ rows) typed ints shows =
     record {
       stored = s ∷ more.stored;
       rows_are = ap (λ x. x ∷ rows) (one_row r one.cell id.0 typed.0 id.1 table key value) ∙ ap (λ xs. cell_row s ∷ xs) more.rows_are;
-      fit = (record { key = one.fits.key; value = one.fits.value; nonzero = one.fits.nonzero }, more.fit);
+      fit = (record { table = one.fits.table; key = one.fits.key; value = one.fits.value; nonzero = one.fits.nonzero }, more.fit);
     }
 
 -- ---- no two cells are the same

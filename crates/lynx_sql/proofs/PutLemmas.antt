@@ -1,5 +1,5 @@
 -- What writing a cell does.
-use Rattle.std.proofs.Common.{◌≡◌, ◌⊎◌, inl, inr, ◌<◌, ◌<ℤ◌, ◌^◌, ℕ, ℤ, pos, List, [], ◌∷◌, ◌++◌, map, Bool, true, false, cond, not, ◌&&◌, ◌||◌, ◌≢◌, Option, Some, None, Ok, Err, Result, OnOk, refl, sym, ap, subst, ◌∙◌, arith, append-nil}
+use Rattle.std.proofs.Common.{◌≡◌, ◌⊎◌, inl, inr, ◌<◌, ◌<ℤ◌, ◌^◌, ℕ, ℤ, pos, List, [], ◌∷◌, ◌++◌, map, Bool, true, false, cond, ◌&&◌, ◌||◌, ◌≢◌, Option, Some, None, Ok, Err, Result, OnOk, refl, sym, ap, subst, ◌∙◌, arith, append-nil}
 use Rattle.std.proofs.lemmas.Int.{ints}
 use Rattle.std.proofs.lemmas.Bool.Decides.{nat_tests}
 use Rattle.std.specs.Int.{w64, to_be_bytes}
@@ -13,7 +13,7 @@ use Rattle.sqlite.specs.Source.TheVariants.{Values}
 use Rattle.sqlite_schema.specs.declared.command.Conflict.TheVariants.{Abort}
 use Rattle.sqlite_schema.specs.declared.schema.Keys.{Keys}
 use Rattle.sqlite.specs.Edit.{edit_of, edited}
-use Rattle.sqlite_rules.specs.Edit.{without_all, put_all, with_rowid, next_rowid}
+use Rattle.sqlite_rules.specs.Edit.{with_rowid, next_rowid}
 use Rattle.sqlite_rules.specs.Keys.{conflicts, AreConflicts}
 use Rattle.sqlite_rules.specs.Lists.{Has}
 use Rattle.sqlite_rules.specs.Cast.{cast_row}
@@ -38,13 +38,14 @@ use Rattle.sqlite_trees.specs.Objects.{catalog_tree}
 use Rattle.lynx_sql.specs.declared.version.StoreVersion.{StoreVersion}
 use Rattle.lynx_sql.specs.declared.version.StoreVersion.TheVariants.{One, Two}
 use Rattle.lynx_sql.specs.Tables.{cell, store_schema, acted_tree, cell_tree, entry_tree, meta_tree}
+use Rattle.lynx_names.specs.declared.limits.TheConstants.{MAX_TABLES}
 use Rattle.lynx_sql.specs.Cells.{Stored, cell_row, cell_of, find_stored, Fits, ComesBefore, HoldsCells}
 use Rattle.lynx_sql.specs.Texts.{put_text}
-use Rattle.lynx_sql.specs.Steps.{GoesOn, WritesCells}
+use Rattle.lynx_sql.specs.Steps.{WritesCells}
 use Rattle.lynx_sql.proofs.Parts.{went, same_value, cast_null, cast_int}
 use Rattle.lynx_sql.proofs.Versions.{step_in, no_index_of_catalog, no_index_of_acted}
 use Rattle.lynx_sql.proofs.Understood.{put_query, put_clause, put_terms, put_is, put_plain}
-use Rattle.lynx_sql.proofs.StoredLemmas.{Misses, Place, place_of, find_added, find_replaced, fit_added, fit_replaced, fit_at, fit_front, fit_back, up_added, up_replaced, ids_before, ids_after, rows_without, rows_with, below_next}
+use Rattle.lynx_sql.proofs.StoredLemmas.{Misses, Place, place_of, find_added, find_replaced, fit_added, fit_replaced, fit_at, up_added, up_replaced, ids_before, ids_after, rows_without, rows_with, below_next}
 use Rattle.lynx_sql.proofs.TestLemmas.{equals, finds_cell, finds_it, finds_not, answers_one, ints_alike, ints_are}
 
 conflict_is : (version : StoreVersion) (new s : Stored) → conflicts (Some (1 ∷ 2 ∷ [])) (store_schema version).indexes cell (cell_row new) (cell_row s) ≡ (finds_cell new.table new.key s || false)
@@ -96,7 +97,7 @@ pub record HasWritten (db next : Trees) (t k v : ℕ) : Type 0 where
 kept_value : (v : ℕ) → v ≢ 0 → kept v ≡ Some v
 kept_value v apart = grind (arith, nat_tests)
 
-module _ (version : StoreVersion) (limit : Option ℕ) (keys : Keys) (db : Trees) (t k v : ℕ) (low : k < 2 ^ 64) (fits : v < 2 ^ 64) (apart : v ≢ 0) where
+module _ (version : StoreVersion) (limit : Option ℕ) (keys : Keys) (db : Trees) (t k v : ℕ) (known : t < MAX_TABLES) (low : k < 2 ^ 64) (fits : v < 2 ^ 64) (apart : v ≢ 0) where
   abbrev params : Row
   params = Int (pos t) ∷ Blob (to_be_bytes w64 k) ∷ Blob (to_be_bytes w64 v) ∷ []
 
@@ -113,7 +114,7 @@ module _ (version : StoreVersion) (limit : Option ℕ) (keys : Keys) (db : Trees
       record {
         stored = h.stored ++ new ∷ [];
         rows_are = ap (put_row (cell_row new)) whole ∙ rows_with h.stored [] new ids tt;
-        fit = fit_added h.stored new h.fit (record { key = low; value = fits; nonzero = apart });
+        fit = fit_added h.stored new h.fit (record { table = known; key = low; value = fits; nonzero = apart });
         apart = up_added h.stored new ids none h.apart;
         found = λ q.
             get-with_value cells t k v q ∙ ap (λ o. cond (eq_by_cmp cell_cmp q (t, k)) o (finite.get cells q)) (kept_value v apart) ∙ ap (cond (eq_by_cmp cell_cmp q (t, k)) (Some v)) (h.found q)
@@ -131,7 +132,7 @@ module _ (version : StoreVersion) (limit : Option ℕ) (keys : Keys) (db : Trees
       record {
         stored = p.front ++ other ∷ p.back;
         rows_are = ap (λ rows. put_row (cell_row other) (without_rowid p.at.id rows)) has ∙ ap (put_row (cell_row other)) (rows_without p.front p.back p.at below above) ∙ rows_with p.front p.back other below above;
-        fit = fit_replaced p.front p.back p.at other (record { key = (fit_at p.front p.back p.at fit).key; value = fits; nonzero = apart }) fit;
+        fit = fit_replaced p.front p.back p.at other (record { table = (fit_at p.front p.back p.at fit).table; key = (fit_at p.front p.back p.at fit).key; value = fits; nonzero = apart }) fit;
         apart = up_replaced p.front p.back p.at v up;
         found = λ q.
             get-with_value cells t k v q ∙ ap (λ o. cond (eq_by_cmp cell_cmp q (t, k)) o (finite.get cells q)) (kept_value v apart)
@@ -268,9 +269,9 @@ module _ (version : StoreVersion) (limit : Option ℕ) (keys : Keys) (db : Trees
       go None did = stays_met did.0 did.2
       go (Some why) did = absurd (let e : Ok one ≡ Err (Some (edit_error why)) = did in cc)
 
-pub writes : (old new : State) (version : StoreVersion) (t k v count : ℕ) → k < 2 ^ 64 → v < 2 ^ 64 → v ≢ 0 → old.now.schema ≡ store_schema version
+pub writes : (old new : State) (version : StoreVersion) (t k v count : ℕ) → t < MAX_TABLES → k < 2 ^ 64 → v < 2 ^ 64 → v ≢ 0 → old.now.schema ≡ store_schema version
     → ExecutesInside 0 put_text (Int (pos t) ∷ Blob (to_be_bytes w64 k) ∷ Blob (to_be_bytes w64 v) ∷ []) old new (Ok count) → WritesCells old new (λ cells. with_value cells t k v)
-writes old new version t k v count low fits apart has h =
+writes old new version t k v count known low fits apart has h =
     let params : Row = Int (pos t) ∷ Blob (to_be_bytes w64 k) ∷ Blob (to_be_bytes w64 v) ∷ [] in
     let db = old.now.trees in
     let command = InsertOr 2 Abort (Values put_terms 4) (put_clause ∷ []) in
@@ -286,7 +287,7 @@ writes old new version t k v count low fits apart has h =
     let job : Task = record { limit = old.step_limit; keys = (mode_of old).keys; schema = store_schema version; table = cell; params = params } in
     let one = went (subst (λ rows. TriesEach job Abort (put_clause ∷ []) rows top (nothing db) (Ok tried.0)) given.1.1 tried.1) in
     let did = subst (λ r. Tries job Abort (put_clause ∷ []) r db (Ok one.0)) (new_row (db 2) t (to_be_bytes w64 k) (to_be_bytes w64 v) top) one.1 in
-    let wrote = tries version old.step_limit (mode_of old).keys db t k v low fits apart one.0 did in
+    let wrote = tries version old.step_limit (mode_of old).keys db t k v known low fits apart one.0 did in
     let other = stays version old.step_limit (mode_of old).keys db params _ one.0 did in
     let trees : done.0.trees ≡ one.0.trees =
     ap (λ (it : Written). it.trees) (same_value counts.2) ∙ same_value counts.1 ∙ ap (λ (it : Written × ℤ). it.0.trees) (same_value one.2) in
@@ -299,7 +300,7 @@ writes old new version t k v count low fits apart has h =
       acted = at 4 ∙ other.3;
     }
 
-pub writes_or_fails : (old new : State) (version : StoreVersion) (t k v : ℕ) (r : Result ℕ Error) → k < 2 ^ 64 → v < 2 ^ 64 → v ≢ 0 → old.now.schema ≡ store_schema version
+pub writes_or_fails : (old new : State) (version : StoreVersion) (t k v : ℕ) (r : Result ℕ Error) → t < MAX_TABLES → k < 2 ^ 64 → v < 2 ^ 64 → v ≢ 0 → old.now.schema ≡ store_schema version
     → ExecutesInside 0 put_text (Int (pos t) ∷ Blob (to_be_bytes w64 k) ∷ Blob (to_be_bytes w64 v) ∷ []) old new r → OnOk r (WritesCells old new (λ cells. with_value cells t k v))
-writes_or_fails old new version t k v (Err e) low fits apart has h = tt
-writes_or_fails old new version t k v (Ok count) low fits apart has h = writes old new version t k v count low fits apart has h
+writes_or_fails old new version t k v (Err e) known low fits apart has h = tt
+writes_or_fails old new version t k v (Ok count) known low fits apart has h = writes old new version t k v count known low fits apart has h

@@ -23,6 +23,7 @@ use Rattle.sqlite.specs.Clock.{timed}
 use Rattle.sqlite.proofs.Callers.{IsPlain, reads_as, never_commits}
 use Rattle.sqlite.proofs.StateLemmas.{survives_weaker}
 use Rattle.lynx_cells.specs.Database.{Database}
+use Rattle.lynx_sql.specs.declared.version.StoreVersion.{StoreVersion}
 use Rattle.lynx_sql.specs.Tables.{store_schema, IsStoreSchema, cell_tree, entry_tree, meta_tree}
 use Rattle.lynx_sql.specs.Acts.{version_of}
 use Rattle.lynx_sql.specs.Rows.{meta_rows, shown_meta, entry_row, entry_rows, shown_entries}
@@ -174,3 +175,10 @@ title_shown old new rows contents settled keeps h =
     let version = version_of contents.acted in
     let got = reads_as titles_text [] old new (store_schema version) keeps.schema _ (titles_is version).0 (titles_plain version) (titles_is version).1 rows h in
     title_answers old.now.trees rows contents.title (got.answer Null) (ap (λ d. d.trees meta_tree) settled ∙ keeps.tables.meta)
+
+-- the query shows the title that `meta` holds
+pub title_read : (old new : State) (rows : List Row) (version : StoreVersion) (title : Title) → old.now.schema ≡ store_schema version → old.now ≡ old.committed
+    → old.committed.trees meta_tree ≡ meta_rows title → Shown titles_text [] old new rows → rows ≡ shown_meta title
+title_read old new rows version title has settled holds h =
+    let got = reads_as titles_text [] old new (store_schema version) has _ (titles_is version).0 (titles_plain version) (titles_is version).1 rows h in
+    title_answers old.now.trees rows title (got.answer Null) (ap (λ d. d.trees meta_tree) settled ∙ holds)

@@ -1,5 +1,5 @@
--- Tables and indexes with the same parts are the same.
-use Rattle.std.proofs.Common.{◌≡◌, ℕ, List, [], ◌∷◌, codes, true, Some, None, refl, ◌∙◌}
+-- Tables and indexes with the same parts are the same, and have these parts.
+use Rattle.std.proofs.Common.{◌≡◌, ℕ, List, [], ◌∷◌, codes, true, Some, None, refl, sym, ap, ◌∙◌}
 use Rattle.sqlite.specs.Kind.{Kind}
 use Rattle.sqlite_tied.specs.Compute.{everything}
 use Rattle.sqlite_value.specs.Keys.{plain}
@@ -15,6 +15,14 @@ pub same_index : (index : Index) → (index.name ≡ codes "sqlite_autoindex_cel
     → (index.columns ≡ 1 ∷ 2 ∷ []) × (index.order ≡ plain) × (index.is_unique ≡ true) → index ≡ cell_index
 same_index index named over =
     λ i. record { name = (named.0 ∙ index_name) i; tree = named.1 i; table = named.2 i; columns = over.0 i; order = over.1 i; is_unique = over.2 i }
+
+pub parts_of_index : (index : Index) → index ≡ cell_index
+    → ((index.name ≡ codes "sqlite_autoindex_cell_1") × (index.tree ≡ 3) × (index.table ≡ 2))
+    × ((index.columns ≡ 1 ∷ 2 ∷ []) × (index.order ≡ plain) × (index.is_unique ≡ true))
+parts_of_index index is = (
+  (ap (λ it. it.name) is ∙ sym index_name, ap (λ it. it.tree) is, ap (λ it. it.table) is),
+  (ap (λ it. it.columns) is, ap (λ it. it.order) is, ap (λ it. it.is_unique) is),
+)
 
 pub same_numbered : (table : Table) (tree : ℕ) (name key other : List ℕ) (kind : Kind) → IsNamed table tree name
     → table.columns ≡ key_column key ∷ column_of other kind ∷ [] → IsKeyed table (Some 0) (0 ∷ []) [] [] → IsPlainTable table
@@ -88,3 +96,19 @@ pub same_hop : (index : Index) → (index.name ≡ codes "sqlite_autoindex_acted
     → index.columns ≡ 1 ∷ 2 ∷ 3 ∷ [] → index ≡ hop_index
 same_hop index is over =
     λ i. record { name = (is.0 ∙ hop_name) i; tree = is.1 i; table = is.2 i; columns = over i; order = is.3 i; is_unique = is.4 i }
+
+pub parts_of_place : (index : Index) → index ≡ place_index
+    → ((index.name ≡ codes "sqlite_autoindex_acted_1") × (index.tree ≡ 5) × (index.table ≡ 4) × (index.order ≡ plain) × (index.is_unique ≡ true))
+    × (index.columns ≡ 4 ∷ [])
+parts_of_place index is = (
+  (ap (λ it. it.name) is ∙ sym place_name, ap (λ it. it.tree) is, ap (λ it. it.table) is, ap (λ it. it.order) is, ap (λ it. it.is_unique) is),
+  ap (λ it. it.columns) is,
+)
+
+pub parts_of_hop : (index : Index) → index ≡ hop_index
+    → ((index.name ≡ codes "sqlite_autoindex_acted_2") × (index.tree ≡ 6) × (index.table ≡ 4) × (index.order ≡ plain) × (index.is_unique ≡ true))
+    × (index.columns ≡ 1 ∷ 2 ∷ 3 ∷ [])
+parts_of_hop index is = (
+  (ap (λ it. it.name) is ∙ sym hop_name, ap (λ it. it.tree) is, ap (λ it. it.table) is, ap (λ it. it.order) is, ap (λ it. it.is_unique) is),
+  ap (λ it. it.columns) is,
+)

@@ -1,4 +1,4 @@
--- A store of version 1 made one of version 2, in one transaction.
+-- A store of version 1 made one of version 2, and a store given to another set, each in one transaction.
 use Rattle.std.proofs.Common.{◌≡◌, ℕ, List, [], length, true, None, IsTrue, refl, sym, ap, subst, ◌∙◌}
 use Rattle.sqlite.specs.Store.{Ghosts}
 use Rattle.sqlite.specs.Held.{Held, state}
@@ -6,12 +6,13 @@ use Rattle.sqlite.specs.State.{State}
 use Rattle.sqlite_catalog.specs.Listing.{Lists}
 use Rattle.sqlite_trees.specs.Objects.{catalog_tree}
 use Rattle.lynx_sql.specs.declared.acts.Acted.{Acted}
+use Rattle.lynx_sql.specs.declared.version.StoreVersion.{StoreVersion}
 use Rattle.lynx_sql.specs.declared.version.StoreVersion.TheVariants.{One, Two}
-use Rattle.lynx_sql.specs.Acts.{HoldsActs, ArePlaced, version_of}
+use Rattle.lynx_sql.specs.Acts.{HoldsActed, HoldsActs, ArePlaced, version_of}
 use Rattle.lynx_sql.specs.Cells.{HoldsCells}
-use Rattle.lynx_sql.specs.Contents.{Contents, upgraded}
+use Rattle.lynx_sql.specs.Contents.{Contents, retitled, upgraded}
 use Rattle.lynx_sql.specs.Tables.{store_schema}
-use Rattle.lynx_sql.specs.Steps.{Makes, AddsActs, AddsTable, Retitles, Holds, Keeps}
+use Rattle.lynx_sql.specs.Steps.{Makes, AddsActs, AddsTable, Retitles, SetsText, Holds, Keeps}
 use Rattle.lynx_sql.proofs.CreateLemmas.{no_rows_of_acts}
 
 pub adds_table : (old one new : State) (acts : List Acted) → Makes old one (store_schema One) (store_schema Two) 4 → AddsActs one new acts → AddsTable old new acts
@@ -56,3 +57,27 @@ module _ {S : Type 0} (g : Ghosts S) (old tx mid last : Held S) (begun : tx ≡ 
       ap (λ h. (state g h).now.trees) begun ∙ ap (λ d. d.trees) settled in
       let held = subst (λ trees. Holds trees before) (sym now) keeps.tables in
       (holds_upgraded (state g tx) (state g mid) (state g last) before version set acts first second held placed, second.on.schema ∙ first.schema)
+
+-- ---- another text of the set
+
+holds_retitled : (a b : State) (before : Contents) (set : List ℕ) → SetsText a b 3 set → Holds a.now.trees before → Holds b.now.trees (retitled before set)
+holds_retitled a b before set p h = record {
+  catalog = subst (λ rows. Lists rows (store_schema (version_of before.acted))) (sym p.on.catalog) h.catalog;
+  meta = p.meta before.title h.meta;
+  entries = p.entries ∙ h.entries;
+  cells = subst (λ rows. HoldsCells rows before.cells) (sym p.cells) h.cells;
+  acted = subst (λ rows. HoldsActed rows before.acted) (sym p.acted) h.acted;
+  placed = h.placed;
+}
+
+module _ {S : Type 0} (g : Ghosts S) (old tx last : Held S) (begun : tx ≡ record old { in_transaction = true }) (set : List ℕ)
+    (text : (version : StoreVersion) → IsTrue tx.in_transaction → tx.schema ≡ store_schema version → SetsText (state g tx) (state g last) 3 set) where
+  pub retitle_made : (before : Contents) → Keeps (state g old) before → (state g old).now ≡ (state g old).committed
+      → Holds (state g last).now.trees (retitled before set) × ((state g last).now.schema ≡ store_schema (version_of before.acted))
+  retitle_made before keeps settled =
+      let has : tx.schema ≡ store_schema (version_of before.acted) = ap (λ h. h.schema) begun ∙ keeps.schema in
+      let done = text (version_of before.acted) (ap (λ h. h.in_transaction) begun) has in
+      let now : (state g tx).now.trees ≡ (state g old).committed.trees =
+      ap (λ h. (state g h).now.trees) begun ∙ ap (λ d. d.trees) settled in
+      let held = subst (λ trees. Holds trees before) (sym now) keeps.tables in
+      (holds_retitled (state g tx) (state g last) before set done held, done.on.schema ∙ has)

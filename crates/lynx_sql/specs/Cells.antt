@@ -8,6 +8,7 @@ use Rattle.std.specs.FinMap as finite
 use Rattle.sqlite.specs.declared.types.Value.TheVariants.{Int, Blob}
 use Rattle.sqlite.specs.Order.{Row}
 use Rattle.sqlite_trees.specs.Tree.{IsAscending}
+use Rattle.lynx_names.specs.declared.limits.TheConstants.{MAX_TABLES}
 use Rattle.lynx_cells.specs.Database.{cell_cmp, Database}
 
 -- a cell as it is stored, under its row number
@@ -32,6 +33,7 @@ find_stored (s ∷ more) cell =
     if eq_by_cmp cell_cmp cell (cell_of s) then Some s.value else find_stored more cell
 
 pub record Fits (s : Stored) : Type 0 where
+  pub table : s.table < MAX_TABLES
   pub key : s.key < 2 ^ 64
   pub value : s.value < 2 ^ 64
   pub nonzero : s.value ≢ 0

@@ -48,3 +48,8 @@ titled version title =
 abbrev pub upgraded : Contents → List ℕ → List ℕ → List Acted → Contents
 upgraded contents version set acts =
     record contents { title = title_of version contents.title.server set; acted = Some acts }
+
+-- the same store with another text of its set
+abbrev pub retitled : Contents → List ℕ → Contents
+retitled contents set =
+    record contents { title = title_of contents.title.version contents.title.server set }

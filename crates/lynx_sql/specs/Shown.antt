@@ -1,5 +1,5 @@
 -- What the rows that the cells' query shows tell.
-use Rattle.std.specs.Prelude.{◌≡◌, ◌≢◌, ℕ, ◌^◌, ◌<◌, ℤ, pos, negsuc, List, [], ◌∷◌, map}
+use Rattle.std.specs.Prelude.{◌≡◌, ◌≢◌, ℕ, ◌^◌, ◌<◌, pos, negsuc, List, [], ◌∷◌, map}
 use Rattle.std.specs.Int.{w64, from_be_bytes, to_be_bytes}
 use Rattle.std.specs.List.{AllByRecursion}
 use Rattle.std.specs.FinMap as finite
@@ -7,6 +7,7 @@ use Rattle.sqlite.specs.Order.{Row}
 use Rattle.sqlite_value.specs.declared.value.Value.{Value}
 use Rattle.sqlite_value.specs.declared.value.Value.TheVariants.{Null, Int, Real, Text, Blob}
 use Rattle.sqlite_value.specs.Order.{column, bytes}
+use Rattle.lynx_names.specs.declared.limits.TheConstants.{MAX_TABLES}
 use Rattle.lynx_cells.specs.Database.{ChangeSet, Database, applied, empty_database}
 
 abbrev pub natural : Value → ℕ
@@ -40,6 +41,7 @@ abbrev pub row_of : ℕ × ℕ × ℕ → Row
 row_of cell = Int (pos cell.0) ∷ Blob (to_be_bytes w64 cell.1) ∷ Blob (to_be_bytes w64 cell.2) ∷ []
 
 pub record FitsRow (cell : ℕ × ℕ × ℕ) : Type 0 where
+  pub table : cell.0 < MAX_TABLES
   pub key : cell.1 < 2 ^ 64
   pub value : cell.2 < 2 ^ 64
   pub nonzero : cell.2 ≢ 0

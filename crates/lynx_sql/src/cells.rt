@@ -2,6 +2,7 @@
 ghost use Rattle.std.specs.Prelude.{◌≡◌, ◌≢◌, IsTrue, OnOk, ◌^◌, ◌<◌};
 ghost use Rattle.sqlite.specs.Held.{state};
 ghost use Rattle.sqlite.specs.State.{Survives};
+ghost use Rattle.lynx_names.specs.declared.limits.TheConstants.{MAX_TABLES};
 ghost use Rattle.lynx_cells.specs.Database.{Database, with_value, written};
 ghost use Rattle.lynx_cells.specs.Triples.{entries_of};
 ghost use Rattle.lynx_sql.specs.declared.version.StoreVersion.{StoreVersion};
@@ -19,7 +20,8 @@ pub fn put_cell<S: Alter>(
     key: u64,
     value: u64,
 ) -> Result<usize, Error>
-    requires { value ≢ 0 }
+    requires table { table < MAX_TABLES }
+    requires nonzero { value ≢ 0 }
     ensures same_reference { tx.new.conn.ghost_name ≡ tx.old.conn.ghost_name }
     ensures ok { InTransaction (state S.Store tx.old.conn.now) (state S.Store tx.new.conn.now)
         ((version : StoreVersion)
@@ -68,6 +70,7 @@ pub fn write_cell<S: Alter>(
     key: u64,
     value: u64,
 ) -> Result<usize, Error>
+    requires { table < MAX_TABLES }
     ensures same_reference { tx.new.conn.ghost_name ≡ tx.old.conn.ghost_name }
     ensures ok { InTransaction (state S.Store tx.old.conn.now) (state S.Store tx.new.conn.now)
         ((version : StoreVersion)

@@ -28,6 +28,9 @@ fn read_title<S: Rising>(conn: &mut Connection<S>) -> Result<Vec<Row>, Error>
     ensures back { HasCleanDisk (state S.Store conn.new) → IfOk result (λ rows. (title : Title)
         → rows.items ≡ shown_meta title
         → (state S.Store conn.new).committed.trees meta_tree ≡ meta_rows title) }
+    ensures shown { HasCleanDisk (state S.Store conn.new) → IfOk result (λ rows. (title : Title)
+        → (state S.Store conn.old).committed.trees meta_tree ≡ meta_rows title
+        → rows.items ≡ shown_meta title) }
     ensures store { HasCleanDisk (state S.Store conn.new)
         → OnOk result (IsStore (state S.Store conn.new)) }
     ensures same { HasCleanDisk (state S.Store conn.new)
@@ -70,6 +73,9 @@ fn read_cells<S: Rising>(conn: &mut Connection<S>) -> Result<Vec<Row>, Error>
         ≤ doubt (state S.Store conn.new).is_clean }
     ensures ok { HasCleanDisk (state S.Store conn.new) → IfOk result (λ rows. (contents : Contents)
         → Keeps (state S.Store conn.old) contents → cells_in rows.items ≡ contents.cells) }
+    ensures formed { HasCleanDisk (state S.Store conn.new)
+        → IfOk result (λ rows. (contents : Contents)
+        → Keeps (state S.Store conn.old) contents → AreCells rows.items) }
     ensures back { HasCleanDisk (state S.Store conn.new) → IfOk result (λ rows. AreCells rows.items
         → HoldsCells ((state S.Store conn.new).committed.trees cell_tree) (cells_in rows.items)) }
     ensures store { HasCleanDisk (state S.Store conn.new)
@@ -99,6 +105,8 @@ fn read_places<S: Rising>(conn: &mut Connection<S>) -> Result<Vec<Row>, Error>
         → IfOk result (λ rows. (acts : List Acted) (places : ℕ)
         → ArePlaced acts places → rows.items ≡ map shown_act acts
         → HoldsActs ((state S.Store conn.new).committed.trees acted_tree) acts) }
+    ensures same { HasCleanDisk (state S.Store conn.new)
+        → OnOk result (SameTables (state S.Store conn.old) (state S.Store conn.new)) }
     ensures kept { HasCleanDisk (state S.Store conn.new) → OnOk result ((contents : Contents)
         → Keeps (state S.Store conn.old) contents → Keeps (state S.Store conn.new) contents) }
     ensures stop { HasCleanDisk (state S.Store conn.new) → (db : Trees)
@@ -125,6 +133,8 @@ fn read_acted<S: Rising>(conn: &mut Connection<S>) -> Result<Option<Vec<Row>>, E
         → ArePlaced (acts_in acted) places → ShowActed rows acted
         → HoldsActed ((state S.Store conn.new).committed.trees acted_tree) acted
         × ((state S.Store conn.new).now.schema ≡ store_schema (version_of acted))) }
+    ensures same { HasCleanDisk (state S.Store conn.new)
+        → OnOk result (SameTables (state S.Store conn.old) (state S.Store conn.new)) }
     ensures kept { HasCleanDisk (state S.Store conn.new) → OnOk result ((contents : Contents)
         → Keeps (state S.Store conn.old) contents → Keeps (state S.Store conn.new) contents) }
     ensures stop { HasCleanDisk (state S.Store conn.new) → (db : Trees)
@@ -154,6 +164,18 @@ pub fn read_rows<S: Rising>(conn: &mut Connection<S>) -> Result<StoredRows, Erro
     // The rows show what is kept.
     ensures ok { HasCleanDisk (state S.Store conn.new) → IfOk result (λ rows. (contents : Contents)
         → Keeps (state S.Store conn.old) contents → ShowRows rows contents) }
+    // Of what is kept each cell's row has its form.
+    ensures formed { HasCleanDisk (state S.Store conn.new)
+        → IfOk result (λ rows. (contents : Contents)
+        → Keeps (state S.Store conn.old) contents → AreCells rows.cells.items) }
+    // The texts that are shown are those of `meta`.
+    ensures titled { HasCleanDisk (state S.Store conn.new) → IfOk result (λ rows. (title : Title)
+        → rows.title.items ≡ shown_meta title
+        → (state S.Store conn.old).committed.trees meta_tree ≡ meta_rows title) }
+    // And those that it holds are shown.
+    ensures shown { HasCleanDisk (state S.Store conn.new) → IfOk result (λ rows. (title : Title)
+        → (state S.Store conn.old).committed.trees meta_tree ≡ meta_rows title
+        → rows.title.items ≡ shown_meta title) }
     // What the rows show is kept.
     ensures back { HasCleanDisk (state S.Store conn.new)
         → IfOk result (λ rows. (contents : Contents)

@@ -1,4 +1,5 @@
-//! A store of version 1 made one of version 2, in one transaction.
+//! A store of version 1 made one of version 2, and a store given to another set, each in one
+//! transaction.
 ghost use Rattle.std.specs.Prelude.{◌≡◌, ◌⊎◌, ◌≤◌, None, length, IsTrue, OnOk};
 ghost use Rattle.sqlite_trees.specs.View.{doubt};
 ghost use Rattle.sqlite.specs.Tree.{Trees};
@@ -6,7 +7,7 @@ ghost use Rattle.sqlite.specs.Held.{state};
 ghost use Rattle.sqlite.specs.State.{HasCleanDisk, Survives};
 ghost use Rattle.lynx_sql.specs.declared.version.StoreVersion.{StoreVersion};
 ghost use Rattle.lynx_sql.specs.Acts.{ArePlaced};
-ghost use Rattle.lynx_sql.specs.Contents.{Contents, upgraded};
+ghost use Rattle.lynx_sql.specs.Contents.{Contents, retitled, upgraded};
 ghost use Rattle.lynx_sql.specs.Tables.{store_schema};
 ghost use Rattle.lynx_sql.specs.Steps.{Keeps, Holds, Retitles, AddsTable};
 ghost use Rattle.lynx_sql.specs.Steps.{InTransaction};
@@ -74,5 +75,26 @@ pub fn upgrade_tables<S: Alter>(
     let mut tx = conn.transaction();
     add_acted(&mut tx, acts)?;
     retitle(&mut tx, version, set)?;
+    tx.commit()
+}
+
+/// Changes the text of the set, whole or not at all.
+pub fn retitle_tables<S: Alter>(conn: &mut Connection<S>, set: &[u8]) -> Result<(), Error>
+    ensures clean { doubt (state S.Store conn.old).is_clean
+        ≤ doubt (state S.Store conn.new).is_clean }
+    ensures ok { HasCleanDisk (state S.Store conn.new) → OnOk result ((before : Contents)
+        → Keeps (state S.Store conn.old) before
+        → Keeps (state S.Store conn.new) (retitled before set.now)) }
+    // A stop leaves what it could leave before the call, or the store with the other text.
+    ensures stop { HasCleanDisk (state S.Store conn.new) → (before : Contents)
+        → Keeps (state S.Store conn.old) before
+        → (db : Trees) → (state S.Store conn.new).may_leave db
+        → (state S.Store conn.old).may_leave db ⊎ Holds db (retitled before set.now) }
+{
+    if !conn.is_autocommit() {
+        return Err(Error::SqliteFailure(ErrorCode::TransactionState));
+    }
+    let mut tx = conn.transaction();
+    set_text(&mut tx, 3, set)?;
     tx.commit()
 }

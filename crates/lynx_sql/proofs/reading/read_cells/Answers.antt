@@ -1,4 +1,4 @@
-use Rattle.std.proofs.Common.{◌≡◌, IsTrue, [], rules, inl, inr, sym, subst, ◌∙◌}
+use Rattle.std.proofs.Common.{◌≡◌, IsTrue, [], rules, inl, inr, sym, ◌∙◌}
 use Rattle.sqlite.specs.declared.types.Value.TheVariants.{Null}
 use Rattle.sqlite.specs.Held.{state}
 use Rattle.sqlite.proofs.Callers.{reads_as}
@@ -7,6 +7,7 @@ use Rattle.lynx_sql.specs.Texts.{cells_text}
 use Rattle.lynx_sql.proofs.Understood.{cells_is, cells_plain}
 use Rattle.lynx_sql.proofs.ReadLemmas.{cells_shown, cells_plain_in, leaves_as_before, if_ok, on_if_ok}
 use Rattle.lynx_sql.proofs.AfterQuery.{same_tables, is_store, cells_kept}
+use Rattle.lynx_sql.proofs.CellsBack.{cells_formed}
 use Rattle.lynx_sql.proofs.FoundCells.{cells_back}
 use Rattle.lynx_sql.proofs.reading.read_cells.Goals as goal
 
@@ -17,12 +18,19 @@ returns-clause-ok g c clean =
     let auto : IsTrue c.is_autocommit.result = search rules in
     if_ok c.query_all.result (λ rows shown contents keeps. cells_back rows.items contents.cells (cells_shown old new rows.items contents (c.is_autocommit.ensures.settled auto keeps.is_open) keeps shown)) (c.query_all.ensures.ok clean)
 
+pub returns-clause-formed : goal.returns-clause-formed
+returns-clause-formed g c clean =
+    let old = state g.S.Store c.args.conn.now in
+    let new = state g.S.Store c.query_all.new.self in
+    let auto : IsTrue c.is_autocommit.result = search rules in
+    if_ok c.query_all.result (λ rows shown contents keeps. cells_formed rows.items contents.cells (cells_shown old new rows.items contents (c.is_autocommit.ensures.settled auto keeps.is_open) keeps shown)) (c.query_all.ensures.ok clean)
+
 pub returns-clause-back : goal.returns-clause-back
 returns-clause-back g c clean =
     let old = state g.S.Store c.args.conn.now in
     let new = state g.S.Store c.query_all.new.self in
     let auto : IsTrue c.is_autocommit.result = search rules in
-    let has : IsStoreSchema c.schema.result.now = c.is_store.ensures (search rules) in
+    let has : IsStoreSchema c.schema.result.now = c.is_store.ensures.0 (search rules) in
     let is : old.now.schema ≡ store_schema has.version = sym c.schema.ensures.value ∙ has.is in
     if_ok c.query_all.result (λ rows shown known.
     let got = reads_as cells_text [] old new (store_schema has.version) is _ (cells_is has.version).0 (cells_plain has.version) (cells_is has.version).1 rows.items shown in
@@ -33,7 +41,7 @@ pub returns-clause-store : goal.returns-clause-store
 returns-clause-store g c clean =
     let old = state g.S.Store c.args.conn.now in
     let auto : IsTrue c.is_autocommit.result = search rules in
-    let has : IsStoreSchema c.schema.result.now = c.is_store.ensures (search rules) in
+    let has : IsStoreSchema c.schema.result.now = c.is_store.ensures.0 (search rules) in
     let is : old.now.schema ≡ store_schema has.version = sym c.schema.ensures.value ∙ has.is in
     on_if_ok c.query_all.result (λ rows shown.
     is_store g.S.Store c.args.conn.now c.query_all.new.self cells_text rows.items has.version is (cells_plain has.version) c.schema.ensures.live (c.is_autocommit.ensures.settled auto) shown)
@@ -43,7 +51,7 @@ pub returns-clause-same : goal.returns-clause-same
 returns-clause-same g c clean =
     let old = state g.S.Store c.args.conn.now in
     let auto : IsTrue c.is_autocommit.result = search rules in
-    let has : IsStoreSchema c.schema.result.now = c.is_store.ensures (search rules) in
+    let has : IsStoreSchema c.schema.result.now = c.is_store.ensures.0 (search rules) in
     let is : old.now.schema ≡ store_schema has.version = sym c.schema.ensures.value ∙ has.is in
     on_if_ok c.query_all.result (λ rows shown.
     same_tables g.S.Store c.args.conn.now c.query_all.new.self cells_text rows.items has.version is (cells_plain has.version) c.schema.ensures.live (c.is_autocommit.ensures.settled auto) shown)
@@ -52,7 +60,7 @@ returns-clause-same g c clean =
 pub returns-clause-stop : goal.returns-clause-stop
 returns-clause-stop g c clean db may =
     let old = state g.S.Store c.args.conn.now in
-    let found : IsStoreSchema c.schema.result.now = c.is_store.ensures (search rules) in
+    let found : IsStoreSchema c.schema.result.now = c.is_store.ensures.0 (search rules) in
     let has : IsStoreSchema old.now.schema = record { version = found.version; is = sym c.schema.ensures.value ∙ found.is } in
     let new = state g.S.Store c.query_all.new.self in
     elim ((leaves_as_before cells_text _ old new (cells_plain_in old has) c.query_all.ensures.survives).crash clean db may) [ inl before ↦ before | inr none ↦ absurd none ]

@@ -17,7 +17,7 @@ pub returns-clause-version : goal.returns-clause-version
 returns-clause-version g c clean =
     let old = state g.S.Store c.args.conn.now in
     let auto : IsTrue c.is_autocommit.result = search rules in
-    let has : c.schema.result.now ≡ store_schema Two = c.is_second.ensures (search rules) in
+    let has : c.schema.result.now ≡ store_schema Two = c.is_second.ensures.0 (search rules) in
     let is : old.now.schema ≡ store_schema Two = sym c.schema.ensures.value ∙ has in
     on_if_ok c.query_all.result (λ rows shown.
     let same = unchanged g.S.Store c.args.conn.now c.query_all.new.self places_text rows.items Two is places_plain c.schema.ensures.live (c.is_autocommit.ensures.settled auto) shown in
@@ -28,7 +28,7 @@ returns-clause-ok g c clean =
     let old = state g.S.Store c.args.conn.now in
     let new = state g.S.Store c.query_all.new.self in
     let auto : IsTrue c.is_autocommit.result = search rules in
-    let has : c.schema.result.now ≡ store_schema Two = c.is_second.ensures (search rules) in
+    let has : c.schema.result.now ≡ store_schema Two = c.is_second.ensures.0 (search rules) in
     let is : old.now.schema ≡ store_schema Two = sym c.schema.ensures.value ∙ has in
     if_ok c.query_all.result (λ rows shown contents keeps. places_shown old new rows.items contents is (c.is_autocommit.ensures.settled auto keeps.is_open) keeps shown) (c.query_all.ensures.ok clean)
 
@@ -37,19 +37,29 @@ returns-clause-back g c clean =
     let old = state g.S.Store c.args.conn.now in
     let new = state g.S.Store c.query_all.new.self in
     let auto : IsTrue c.is_autocommit.result = search rules in
-    let has : c.schema.result.now ≡ store_schema Two = c.is_second.ensures (search rules) in
+    let has : c.schema.result.now ≡ store_schema Two = c.is_second.ensures.0 (search rules) in
     let is : old.now.schema ≡ store_schema Two = sym c.schema.ensures.value ∙ has in
     if_ok c.query_all.result (λ rows shown acts places placed known.
     let got = reads_as places_text [] old new (store_schema Two) is _ places_is.0 places_plain places_is.1 rows.items shown in
     acts_kept g.S.Store c.args.conn.now c.query_all.new.self places_text rows.items Two is places_plain c.schema.ensures.live (c.is_autocommit.ensures.settled auto) shown
     (g.met.S.Rising.rises c.args.conn.now.store) refl acts places placed (got.answer Null) known) (c.query_all.ensures.ok clean)
 
+pub returns-clause-same : goal.returns-clause-same
+returns-clause-same g c clean =
+    let old = state g.S.Store c.args.conn.now in
+    let auto : IsTrue c.is_autocommit.result = search rules in
+    let has : c.schema.result.now ≡ store_schema Two = c.is_second.ensures.0 (search rules) in
+    let is : old.now.schema ≡ store_schema Two = sym c.schema.ensures.value ∙ has in
+    on_if_ok c.query_all.result (λ rows shown.
+    let same = unchanged g.S.Store c.args.conn.now c.query_all.new.self places_text rows.items Two is places_plain c.schema.ensures.live (c.is_autocommit.ensures.settled auto) shown in
+    (same.0.now_is, same.0.committed_is)) (c.query_all.ensures.ok clean)
+
 pub returns-clause-kept : goal.returns-clause-kept
 returns-clause-kept g c clean =
     let old = state g.S.Store c.args.conn.now in
     let new = state g.S.Store c.query_all.new.self in
     let auto : IsTrue c.is_autocommit.result = search rules in
-    let has : c.schema.result.now ≡ store_schema Two = c.is_second.ensures (search rules) in
+    let has : c.schema.result.now ≡ store_schema Two = c.is_second.ensures.0 (search rules) in
     let is : old.now.schema ≡ store_schema Two = sym c.schema.ensures.value ∙ has in
     on_if_ok c.query_all.result (λ rows shown contents keeps.
     keeps_on old new contents
@@ -59,7 +69,7 @@ returns-clause-kept g c clean =
 pub returns-clause-stop : goal.returns-clause-stop
 returns-clause-stop g c clean db may =
     let old = state g.S.Store c.args.conn.now in
-    let found : c.schema.result.now ≡ store_schema Two = c.is_second.ensures (search rules) in
+    let found : c.schema.result.now ≡ store_schema Two = c.is_second.ensures.0 (search rules) in
     let has : old.now.schema ≡ store_schema Two = sym c.schema.ensures.value ∙ found in
     let new = state g.S.Store c.query_all.new.self in
     let plain = subst (λ schema. IsPlain (understood schema places_text)) (sym has) places_plain in

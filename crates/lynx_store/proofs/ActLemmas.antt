@@ -164,6 +164,21 @@ shows_at acts rows place act row there shown is = λ other same.
     let own : act ≡ other = cc in
     shown ∙ ap Some (is ∙ ap shown_act own)
 
+-- and the other way round
+pub shown_there : (acts : List Acted) (rows : List Row) (place : ℕ) (act : Acted) (row : Row) → slice_get acts place ≡ Some act → slice_get rows place ≡ Some row
+    → ShowsAt acts rows place → row ≡ shown_act act
+shown_there acts rows place act row there shown shows =
+    let same : Some row ≡ Some (shown_act act) = sym shown ∙ shows act there in cc
+
+-- the rows of hops show each
+pub each_shown : (acts : List Acted) (rows : List Row) → rows ≡ map shown_act acts → (place : ℕ) → ShowsAt acts rows place
+each_shown acts rows is place = subst (λ all. ShowsAt acts all place) (sym is) (go acts place)
+  where
+    go : (some : List Acted) (at : ℕ) → ShowsAt some (map shown_act some) at
+    go [] at act there = absurd (let e = there in cc)
+    go (a ∷ more) zero act there = let same : Some a ≡ Some act = there in let one : a ≡ act = cc in ap (λ x. Some (shown_act x)) one
+    go (a ∷ more) (suc at) act there = go more at act there
+
 -- a store of version 1 shows no hops
 pub none_shown : (version : StoreVersion) (entries : History) → version ≡ One → ShowActed None (acted_of version entries)
 none_shown One entries is = tt

@@ -1,9 +1,7 @@
 -- What a commit keeps, and what a stop leaves of it.
 use Rattle.std.proofs.Common.{Option, ◌≡◌, ◌⊎◌, inl, inr, ℕ, suc, ◌+◌, true, List, [], ◌∷◌, ◌++◌, length, refl, sym, ap, subst, ◌∙◌, arith, length-append}
 use Rattle.std.specs.List.{AllByRecursion}
-use Rattle.std.specs.Prelude.{pos, IfErr, Result, Ok, Err}
-use Rattle.sqlite.specs.declared.types.Value.{Value}
-use Rattle.sqlite.specs.declared.types.Value.TheVariants.{Int, Text}
+use Rattle.std.specs.Prelude.{IfErr, Result, Ok, Err}
 use Rattle.sqlite.specs.Tree.{Trees}
 use Rattle.sqlite.specs.State.{State}
 use Rattle.lynx_cells.specs.Database.{ChangeSet, applied}
@@ -98,16 +96,15 @@ pub same_owner : (own_version version : StoreVersion) (own_server server own_set
 same_owner own_version version own_server server own_set set same_version same_server same_set =
     λ i. record { version = same_version i; server = same_server i; set = same_set i }
 
--- a row of neither version
-pub neither_version : (row : List Value) → ((row ≡ Int (pos 1) ∷ Text (version_text One) ∷ []) → ⊥) → ((row ≡ Int (pos 1) ∷ Text (version_text Two) ∷ []) → ⊥)
-    → (version : StoreVersion) → row ≡ Int (pos 1) ∷ Text (version_text version) ∷ [] → ⊥
-neither_version row first second One = first
-neither_version row first second Two = second
+-- a text of neither version
+pub neither_version : (text : List ℕ) → (text ≡ version_text One → ⊥) → (text ≡ version_text Two → ⊥) → (version : StoreVersion) → text ≡ version_text version → ⊥
+neither_version text first second One = first
+neither_version text first second Two = second
 
 -- a fault of one kind
-pub if_err : {A E : Type 0} {P Q : E → Type 0} (r : Result A E) → ((e : E) → P e → Q e) → IfErr r P → IfErr r Q
-if_err (Ok x) f p = tt
-if_err (Err e) f p = f e p
+pub err_of : {A E : Type 0} {Q : E → Type 0} (r : Result A E) → ((e : E) → r ≡ Err e → Q e) → IfErr r Q
+err_of (Ok x) f = tt
+err_of (Err e) f = f e refl
 
 pub every_err : {A E : Type 0} {Q : E → Type 0} (r : Result A E) → ((e : E) → Q e) → IfErr r Q
 every_err (Ok x) f = tt

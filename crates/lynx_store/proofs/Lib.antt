@@ -1,5 +1,8 @@
 mod Apart
+pub mod CrashLemmas
 pub mod ActLemmas
 pub mod Kept
 pub mod RowsRead
+pub mod Told
 pub mod Upgraded
+pub mod Extensions

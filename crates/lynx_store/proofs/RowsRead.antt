@@ -1,5 +1,5 @@
 -- Rows that were read, one after another.
-use Rattle.std.proofs.Common.{◌≡◌, ℕ, zero, suc, ◌+◌, ◌<◌, ◌≤◌, pos, List, [], ◌∷◌, ◌++◌, length, map, take, get_or, refl, sym, ap, ◌∙◌, arith}
+use Rattle.std.proofs.Common.{◌≡◌, ◌⊎◌, inl, inr, ℕ, zero, suc, ◌+◌, ◌<◌, ◌≤◌, pos, List, [], ◌∷◌, ◌++◌, length, map, take, get_or, refl, sym, ap, ◌∙◌, arith}
 use Rattle.std.proofs.lemmas.List.{take_more}
 use Rattle.std.proofs.lemmas.Nat.{from_be_bytes-to_be_bytes_8}
 use Rattle.std.specs.Int.{w64, from_be_bytes, to_be_bytes}
@@ -19,7 +19,8 @@ use Rattle.lynx_sql.specs.declared.version.StoreVersion.{StoreVersion}
 use Rattle.lynx_sql.specs.declared.version.StoreVersion.TheVariants.{One, Two}
 use Rattle.lynx_sql.specs.Reading.{ShowRows}
 use Rattle.lynx_sql.specs.Shown.{AreCells, FitsRow, row_of, entry_in}
-use Rattle.lynx_store.specs.Stored.{bodies_of, contents_of, title_for, version_text, Owner, Tells}
+use Rattle.lynx_sql.specs.Contents.{Title}
+use Rattle.lynx_store.specs.Stored.{bodies_of, contents_of, title_for, version_text, IsOfNoVersion, IsOfOtherSet, IsOfOtherVersion, Owner, ShowsTitle, Tells}
 use Rattle.lynx_store.proofs.Kept.{bodies-append, length-bodies}
 
 pub take_whole : {A : Type 0} (xs : List A) (i : ℕ) → length xs ≤ i → take i xs ≡ xs
@@ -95,6 +96,11 @@ same_entries (a ∷ ours) (b ∷ theirs) formed others same =
     let rest : bodies_of ours ≡ bodies_of theirs = cc in
     ap (λ x. x ∷ ours) (same_entry a b formed.0 others.0 here) ∙ ap (λ xs. b ∷ xs) (same_entries ours theirs formed.1 others.1 rest)
 
+-- rows of entries that have forms are those of one list
+pub same_shown : (rows : List Row) (ours theirs : History) → AllByRecursion HasForm ours → AllByRecursion HasForm theirs
+    → rows ≡ shown_entries 0 (bodies_of ours) → rows ≡ shown_entries 0 (bodies_of theirs) → ours ≡ theirs
+same_shown rows ours theirs formed others shown other = same_entries ours theirs formed others (same_bodies 0 _ _ (sym shown ∙ other))
+
 -- rows tell one state
 pub one_state : (rows : StoredRows) (owner : Owner) (ours theirs : KeptState) → AllByRecursion HasForm ours.entries → ShowRows rows (contents_of owner ours)
     → Tells rows owner theirs → ours ≡ theirs
@@ -121,3 +127,27 @@ one_title owner other same =
 pub one_owner : (rows : StoredRows) (owner other : Owner) (ours theirs : KeptState) → ShowRows rows (contents_of owner ours)
     → ShowRows rows (contents_of other theirs) → owner ≡ other
 one_owner rows owner other ours theirs shown tells = one_title owner other (sym shown.title ∙ tells.title)
+
+-- ---- titles
+
+pub one_shown : (title other : Title) → shown_meta title ≡ shown_meta other → title ≡ other
+one_shown title other same =
+    let version : title.version ≡ other.version = let e = same in cc in
+    let server : title.server ≡ other.server = let e = same in cc in
+    let set : title.set ≡ other.set = let e = same in cc in
+    λ i. record { version = version i; server = server i; set = set i }
+
+-- rows that show an owner's title show no other
+pub shows_no_other : (rows : List Row) (owner : Owner) → ShowsTitle rows (title_for owner) → IsOfOtherVersion (ShowsTitle rows) owner ⊎ IsOfOtherSet (ShowsTitle rows) owner → ⊥
+shows_no_other rows owner shows (inl other) =
+    let same = one_shown other.0 (title_for owner) (sym other.1 ∙ shows) in
+    other.2 (ap (λ title. title.version) same)
+shows_no_other rows owner shows (inr other) =
+    let same = one_shown other.0 (title_for owner) (sym other.1 ∙ shows) in
+    elim other.3 [ inl apart ↦ apart (ap (λ title. title.server) same) | inr apart ↦ apart (ap (λ title. title.set) same) ]
+
+-- nor one of no version
+pub shows_a_version : (rows : List Row) (owner : Owner) → ShowsTitle rows (title_for owner) → IsOfNoVersion (ShowsTitle rows) → ⊥
+shows_a_version rows owner shows other =
+    let same = one_shown other.0 (title_for owner) (sym other.1 ∙ shows) in
+    other.2 owner.version (ap (λ title. title.version) same)

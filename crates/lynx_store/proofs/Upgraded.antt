@@ -1,5 +1,5 @@
 -- What an upgrade keeps.
-use Rattle.std.proofs.Common.{◌≡◌, ◌⊎◌, inl, inr, ℕ, true, List, ◌∷◌, [], ◌++◌, length, None, Some, refl, sym, ap, subst, ◌∙◌}
+use Rattle.std.proofs.Common.{◌≡◌, ◌⊎◌, inl, inr, ℕ, ◌<◌, ◌^◌, true, List, ◌∷◌, [], ◌++◌, length, None, Some, refl, sym, ap, subst, ◌∙◌, arith}
 use Rattle.std.specs.Prelude.{codes, drop}
 use Rattle.std.specs.Fmt.{decimal}
 use Rattle.sqlite.specs.Tree.{Trees}
@@ -16,8 +16,9 @@ use Rattle.lynx_sql.specs.Acts.{ArePlaced}
 use Rattle.lynx_sql.specs.Contents.{Contents, title_of, upgraded}
 use Rattle.lynx_sql.specs.Steps.{Holds, Keeps}
 use Rattle.lynx_store.specs.Acts.{AreApart, acted_of, acts_from}
-use Rattle.lynx_store.specs.Stored.{AreInTables, IsKept, Owner, bodies_of, contents_of, owner_for, version_for, version_text}
-use Rattle.lynx_store.specs.Upgrades.{LeavesUpgraded, MayUpgrade, Upgrades, second_of}
+use Rattle.lynx_text.proofs.OneSet.{one_set}
+use Rattle.lynx_store.specs.Stored.{AreInTables, IsKept, IsServerOf, Owner, bodies_of, contents_of, owner_for, version_for, version_text}
+use Rattle.lynx_store.specs.Upgrades.{CanUpgrade, LeavesUpgraded, MayUpgrade, Upgrades, second_of}
 use Rattle.lynx_store.proofs.ActLemmas.{acts_placed}
 use Rattle.lynx_store.proofs.Kept.{length-bodies}
 
@@ -145,3 +146,16 @@ still_kept old new server held told count now all owner before kept was =
     let tables : Keeps new (contents_of owner kept) =
     subst (λ k. Keeps new (contents_of owner k)) (sym same.1) (subst (λ own. Keeps new (contents_of own told)) (sym same.0) now.tables) in
     record { tables = tables; counted = was.counted; formed = was.formed }
+
+-- what some server of a set keeps that can be upgraded is what was told, and that can be upgraded
+pub told_can : (s : State) (server other : ℕ) (held chains : Set) (told kept : KeptState) (count : ℕ) → IsServerOf server held → CanUpgrade s other chains count kept
+    → ((owner : Owner) (before : ℕ) (state : KeptState) → IsKept s owner before state → (owner ≡ owner_for server held) × (state ≡ told))
+    → (length told.entries < 2 ^ 32) × AreInTables held told.cells × AreApart (acts_from 0 told.entries)
+told_can s server other held chains told kept count of can all =
+    let same = all (owner_for other chains) count kept can.keeps in
+    let one : chains ≡ held = one_set chains held can.server_of.set of.set (ap (λ (owner : Owner). owner.set) same.0) in
+    let many : count ≡ length told.entries = can.keeps.counted ∙ ap (λ (state : KeptState). length state.entries) same.1 in (
+      omega (arith, many, can.few),
+      subst (λ (set : Set). AreInTables set told.cells) one (subst (λ (state : KeptState). AreInTables chains state.cells) same.1 can.tables),
+      subst (λ (state : KeptState). AreApart (acts_from 0 state.entries)) same.1 can.apart,
+    )

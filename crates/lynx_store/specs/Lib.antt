@@ -4,3 +4,5 @@ pub mod Stored
 pub mod Heading
 pub mod Laws
 pub mod Upgrades
+pub mod Extensions
+pub mod Crashes

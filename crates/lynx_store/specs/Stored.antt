@@ -1,10 +1,11 @@
 -- What the tables of a store stand for.
-use Rattle.std.specs.Prelude.{◌≡◌, ◌⊎◌, ◌<◌, ℕ, List, All, codes, map, length}
+use Rattle.std.specs.Prelude.{◌≡◌, ◌≢◌, ◌⊎◌, ◌<◌, ◌^◌, ℕ, List, All, codes, map, length}
 use Rattle.std.specs.FinMap as finite
 use Rattle.lynx_cells.specs.Database.{Database}
 use Rattle.lynx_cells.specs.Triples.{triples_of}
 use Rattle.std.specs.Fmt.{decimal}
 use Rattle.std.specs.List.{AllByRecursion}
+use Rattle.sqlite.specs.Order.{Row}
 use Rattle.sqlite.specs.Tree.{Trees}
 use Rattle.sqlite.specs.State.{State}
 use Rattle.lynx_entry.specs.Entry.{History}
@@ -12,6 +13,7 @@ use Rattle.lynx_keep.specs.Kept.{KeptState, nothing_kept}
 use Rattle.lynx_keep.specs.Stored.{form_of, HasForm}
 use Rattle.lynx_store.specs.declared.fault.StoreFault.{StoreFault}
 use Rattle.lynx_store.specs.declared.fault.StoreFault.TheVariants.{OtherSet, OtherVersion}
+use Rattle.lynx_set.specs.Rules.{IsSet}
 use Rattle.lynx_set.specs.Set.{Set}
 use Rattle.lynx_set.specs.Text.{text_of}
 use Rattle.lynx_set.specs.declared.version.Version.{Version}
@@ -22,7 +24,8 @@ use Rattle.lynx_sql.specs.declared.version.StoreVersion.{StoreVersion}
 use Rattle.lynx_sql.specs.declared.version.StoreVersion.TheVariants.{One, Two}
 use Rattle.lynx_sql.specs.declared.reading.StoredRows.{StoredRows}
 use Rattle.lynx_sql.specs.Shown.{AreCells}
-use Rattle.lynx_sql.specs.Tables.{no_schema}
+use Rattle.lynx_sql.specs.Rows.{meta_rows, shown_meta}
+use Rattle.lynx_sql.specs.Tables.{meta_tree, no_schema}
 use Rattle.lynx_sql.specs.Reading.{ShowRows}
 use Rattle.lynx_sql.specs.Steps.{Holds, Keeps}
 
@@ -51,6 +54,11 @@ abbrev pub owner_for : ℕ → Set → Owner
 owner_for server chains =
     record { version = version_for chains.version; server = decimal server; set = text_of chains }
 
+-- a server of a set that has a text
+pub record IsServerOf (server : ℕ) (chains : Set) : Type 0 where
+  pub set : IsSet chains
+  pub server_is : server < chains.servers
+
 -- the forms of entries, a body each
 abbrev pub bodies_of : History → List (List ℕ)
 bodies_of entries = map form_of entries
@@ -76,6 +84,35 @@ abbrev pub LeavesOneOf : (Trees → Type 0) → Owner → KeptState → KeptStat
 LeavesOneOf may_leave owner one other =
     (db : Trees) → may_leave db
     → Holds db (contents_of owner one) ⊎ Holds db (contents_of owner other)
+
+-- nothing is kept for the owner, in fewer than 2^32 entries: a place has 32 bits
+abbrev pub KeepsNothing : State → Owner → Type 0
+KeepsNothing s owner =
+    (count : ℕ) (kept : KeptState) → count < 2 ^ 32 → IsKept s owner count kept → ⊥
+
+-- the title that `meta` holds
+abbrev pub HasTitle : State → Title → Type 0
+HasTitle s title = s.committed.trees meta_tree ≡ meta_rows title
+
+-- the title that rows of `meta` show
+abbrev pub ShowsTitle : List Row → Title → Type 0
+ShowsTitle rows title = rows ≡ shown_meta title
+
+-- the title is that of another version than the owner's
+abbrev pub IsOfOtherVersion : (Title → Type 0) → Owner → Type 0
+IsOfOtherVersion has owner =
+    (title : Title) × has title × (title.version ≢ version_text owner.version)
+
+-- it is that of the owner's version, and of another server or another set
+abbrev pub IsOfOtherSet : (Title → Type 0) → Owner → Type 0
+IsOfOtherSet has owner =
+    (title : Title) × has title × (title.version ≡ version_text owner.version)
+    × ((title.server ≢ owner.server) ⊎ (title.set ≢ owner.set))
+
+-- it is that of no version
+abbrev pub IsOfNoVersion : (Title → Type 0) → Type 0
+IsOfNoVersion has =
+    (title : Title) × has title × ((version : StoreVersion) → title.version ≢ version_text version)
 
 -- the fault says that the store is another's
 abbrev pub IsOther : StoreFault → Type 0

@@ -1,5 +1,5 @@
 -- A store of version 1 that becomes one of version 2.
-use Rattle.std.specs.Prelude.{◌≡◌, ◌⊎◌, ℕ, List}
+use Rattle.std.specs.Prelude.{◌≡◌, ◌⊎◌, ◌<◌, ◌^◌, ℕ, List}
 use Rattle.lynx_cells.specs.Database.{Database}
 use Rattle.sqlite.specs.Tree.{Trees}
 use Rattle.sqlite.specs.State.{State}
@@ -9,7 +9,7 @@ use Rattle.lynx_set.specs.Text.{text_of}
 use Rattle.lynx_set.specs.declared.version.Version.TheVariants.{One, Two}
 use Rattle.lynx_sql.specs.Steps.{Holds}
 use Rattle.lynx_store.specs.Acts.{AreApart, acts_from}
-use Rattle.lynx_store.specs.Stored.{AreInTables, IsKept, contents_of, owner_for}
+use Rattle.lynx_store.specs.Stored.{AreInTables, IsKept, IsServerOf, contents_of, owner_for}
 
 -- the same set at version 2
 abbrev pub second_of : Set → Set
@@ -25,6 +25,16 @@ AreInTablesOf text cells =
 pub record MayUpgrade (chains : Set) (kept : KeptState) : Type 0 where
   pub version : chains.version ≡ One
   pub tables : AreInTablesOf (text_of chains) kept.cells
+  pub apart : AreApart (acts_from 0 kept.entries)
+
+-- the same of a set itself, as a server of it keeps it, in fewer than 2^32 entries
+pub record CanUpgrade (s : State) (server : ℕ) (chains : Set) (count : ℕ) (kept : KeptState)
+    : Type 0 where
+  pub server_of : IsServerOf server chains
+  pub keeps : IsKept s (owner_for server chains) count kept
+  pub few : count < 2 ^ 32
+  pub version : chains.version ≡ One
+  pub tables : AreInTables chains kept.cells
   pub apart : AreApart (acts_from 0 kept.entries)
 
 -- it is a store that can be upgraded

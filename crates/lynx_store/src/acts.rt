@@ -1,10 +1,10 @@
 //! The hops that entries are of.
-ghost use Rattle.std.specs.Prelude.{◌≡◌, ◌↔◌, IfOk, IfSome, IsTrue, OnOk, map};
+ghost use Rattle.std.specs.Prelude.{◌≡◌, ◌↔◌, ◌<◌, ◌≤◌, ◌^◌, length, IfNone, IfOk, IfSome, IsTrue, OnOk, map};
 ghost use Rattle.lynx_store.specs.Acts.{act_at, acted_of, acts_from, added, AreApart, ShowsAt, hop_cmp, hop_in};
 ghost use Rattle.lynx_sql.specs.Acts.{ShowActed, shown_act};
 ghost use Rattle.std.specs.BTreeSet.{IsFromIterResult};
 
-use crate::columns::{is_number, number_in};
+use crate::columns::{is_number, is_spelled};
 use lynx_entry::Entry;
 use lynx_names::Memory;
 use lynx_sql::{Acted, StoreVersion};
@@ -46,9 +46,11 @@ fn push_act(acts: &mut Vec<Acted>, act: Option<Acted>) -> Result<(), Memory>
     }
 }
 
-/// The hops of the entries, by place. None where a place has no number of 32 bits.
+/// The hops of the entries, by place. None where there are 2^32 entries or more.
 pub(crate) fn acts_of(alloc: Global, entries: &[Entry]) -> Result<Option<Vec<Acted>>, Memory>
-    ensures { IfOk result (λ found. IfSome found (λ acts. acts.items ≡ acts_from 0 entries.now)) }
+    ensures some { IfOk result
+        (λ found. IfSome found (λ acts. acts.items ≡ acts_from 0 entries.now)) }
+    ensures none { IfOk result (λ found. IfNone found (2 ^ 32 ≤ length entries.now)) }
 {
     let mut acts = Vec::new(alloc);
     let mut place = 0u32;
@@ -92,38 +94,28 @@ pub(crate) fn are_apart(alloc: Global, acts: &[Acted]) -> Result<bool, Memory>
 }
 
 /// Whether a row is that of the hop.
-fn is_act_row(row: &Row, act: Acted) -> bool
-    ensures { IsTrue result → row.now ≡ shown_act act }
+fn is_act_row(row: &Row, act: &Acted) -> bool
+    ensures { IsTrue result ↔ (row.now ≡ shown_act act.now) }
 {
-    if row.column_count() != 4 {
-        return false;
-    }
-    let Some(index) = number_in(row, 1) else {
-        return false;
-    };
-    index == act.index
+    row.column_count() == 4
         && is_number(row, 0, act.origin)
+        && is_spelled(row, 1, act.index)
         && is_number(row, 2, act.hop)
         && is_number(row, 3, act.place)
 }
 
 /// Whether the row at a place is that of the hop there.
-#[tactic(auto, using(crate::proofs::ActLemmas::shows_at))]
 fn is_act_at(acts: &[Acted], rows: &[Row], place: usize) -> bool
-    ensures { IsTrue result → ShowsAt acts.now rows.now place }
+    requires act { place < length acts.now }
+    requires row { place < length rows.now }
+    ensures { IsTrue result ↔ ShowsAt acts.now rows.now place }
 {
-    let Some(act) = acts.get(place) else {
-        return false;
-    };
-    let Some(row) = rows.get(place) else {
-        return false;
-    };
-    is_act_row(row, *act)
+    is_act_row(&rows[place], &acts[place])
 }
 
 /// Whether the rows are those of the hops, one for each, in order.
 fn are_act_rows(acts: &[Acted], rows: &[Row]) -> bool
-    ensures { IsTrue result → rows.now ≡ map shown_act acts.now }
+    ensures { IsTrue result ↔ (rows.now ≡ map shown_act acts.now) }
 {
     if acts.len() != rows.len() {
         return false;
@@ -144,8 +136,10 @@ pub(crate) fn are_acts_shown(
     entries: &[Entry],
     rows: &Option<Vec<Row>>,
 ) -> Result<bool, Memory>
-    ensures { IfOk result
+    ensures shows { IfOk result
         (λ shown. IsTrue shown → ShowActed rows.now (acted_of version entries.now)) }
+    ensures only { IfOk result (λ shown. length entries.now < 2 ^ 32
+        → ShowActed rows.now (acted_of version entries.now) → IsTrue shown) }
 {
     let Some(rows) = rows else {
         return Ok(version == StoreVersion::One);

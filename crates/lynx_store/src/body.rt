@@ -1,5 +1,6 @@
 //! The bodies of entries.
-ghost use Rattle.std.specs.Prelude.{◌≡◌, IfOk, IfSome, OnOk};
+ghost use Rattle.std.specs.Prelude.{◌≡◌, ◌≢◌, ◌++◌, ℕ, List, IfNone, IfOk, IfSome, OnOk};
+ghost use Rattle.lynx_entry.specs.declared.entry.Entry.{Entry};
 ghost use Rattle.lynx_codec.specs.Entries.{IsEntryInRange};
 ghost use Rattle.lynx_keep.specs.Stored.{form_of, HasForm};
 
@@ -20,9 +21,11 @@ pub fn body_of(alloc: Global, entry: &Entry) -> Result<Vec<u8>, Memory>
     Ok(body)
 }
 
-/// The entry whose form these bytes begin with.
+/// The entry whose form these bytes begin with, None where they begin with no form of one.
 fn first_entry(alloc: Global, bytes: &[u8]) -> Result<Option<Entry>, Memory>
-    ensures { IfOk result (λ found. IfSome found IsEntryInRange) }
+    ensures range { IfOk result (λ found. IfSome found IsEntryInRange) }
+    ensures only { IfOk result (λ found. (entry : Entry) (more : List ℕ) → HasForm entry
+        → bytes.now ≡ form_of entry ++ more → found ≡ Some entry) }
 {
     let mut feed = Feed::new(alloc);
     feed.push(bytes)?;
@@ -33,10 +36,12 @@ fn first_entry(alloc: Global, bytes: &[u8]) -> Result<Option<Entry>, Memory>
     }
 }
 
-/// The entry whose form this body is, and nothing behind it.
+/// The entry whose form this body is, and nothing behind it. None where it is the form of none.
 pub fn entry_of(alloc: Global, body: &[u8]) -> Result<Option<Entry>, Memory>
-    ensures { IfOk result
+    ensures some { IfOk result
         (λ found. IfSome found (λ entry. (body.now ≡ form_of entry) × HasForm entry)) }
+    ensures none { IfOk result (λ found. IfNone found ((entry : Entry) → HasForm entry
+        → body.now ≢ form_of entry)) }
 {
     let Some(entry) = first_entry(alloc, body)? else {
         return Ok(None);

@@ -1,12 +1,13 @@
-ghost use Rattle.std.specs.Prelude.{◌≡◌, ◌↔◌, ◌∷◌, [], pos, IfOk, IsTrue};
+ghost use Rattle.std.specs.Prelude.{◌≡◌, ◌≢◌, ◌↔◌, ◌∷◌, [], ℕ, List, pos, IfNone, IfOk, IfSome, IsTrue};
 ghost use Rattle.std.specs.Fmt.{decimal};
 ghost use Rattle.sqlite_value.specs.declared.value.Value.TheVariants.{Int, Text};
 ghost use Rattle.lynx_set.specs.Text.{text_of};
 ghost use Rattle.lynx_sql.specs.Rows.{shown_meta};
 ghost use Rattle.lynx_store.specs.Heading.{owner_in};
-ghost use Rattle.lynx_store.specs.Stored.{title_for, version_for, version_text};
+ghost use Rattle.lynx_sql.specs.Contents.{Title, title_of};
+ghost use Rattle.lynx_store.specs.Stored.{ShowsTitle, title_for, version_for, version_text};
 
-use crate::columns::{is_number, is_text};
+use crate::columns::{is_number, is_text, text_in};
 use lynx_names::{Memory, ServerId};
 use lynx_set::{ChainSet, Version};
 use lynx_sql::StoreVersion;
@@ -94,8 +95,35 @@ impl Heading {
     }
 }
 
+/// The three texts of `meta`: the version, the server and the set. None where the rows are no
+/// three such.
+pub(crate) fn texts_of(rows: &[Row]) -> Option<(&[u8], &[u8], &[u8])>
+    ensures some { IfSome result
+        (λ texts. ShowsTitle rows.now (title_of texts.0.now texts.1.now texts.2.now)) }
+    ensures none { IfNone result ((title : Title) → ShowsTitle rows.now title → ⊥) }
+{
+    let [version, server, set] = rows else {
+        return None;
+    };
+    let version = meta_text(version, 1)?;
+    let server = meta_text(server, 2)?;
+    let set = meta_text(set, 3)?;
+    Some((version, server, set))
+}
+
+/// The text of the row of `meta` that has that number, None where it is no such row.
+fn meta_text(row: &Row, id: u32) -> Option<&[u8]>
+    ensures some { IfSome result (λ text. row.now ≡ Int (pos id) ∷ Text text.now ∷ []) }
+    ensures none { IfNone result ((text : List ℕ) → row.now ≢ Int (pos id) ∷ Text text ∷ []) }
+{
+    if row.column_count() != 2 || !is_number(row, 0, id) {
+        return None;
+    }
+    text_in(row, 1)
+}
+
 /// Whether a row of `meta` has that number and that text.
-pub(crate) fn is_meta_row(row: &Row, id: u32, text: &[u8]) -> bool
+fn is_meta_row(row: &Row, id: u32, text: &[u8]) -> bool
     ensures { IsTrue result ↔ (row.now ≡ Int (pos id) ∷ Text text.now ∷ []) }
 {
     row.column_count() == 2 && is_number(row, 0, id) && is_text(row, 1, text)

@@ -1,20 +1,21 @@
 //! What a store holds, whatever server and set it is of.
-ghost use Rattle.std.specs.Prelude.{◌≡◌, ◌≢◌, ◌↔◌, ◌<◌, ◌≤◌, ◌∷◌, [], ℕ, pos, length, All, IfErr, IfNone, IfOk, IfSome, IsTrue};
+ghost use Rattle.std.specs.Prelude.{◌≡◌, ◌≢◌, ◌↔◌, ◌<◌, ◌≤◌, ◌^◌, ℕ, length, All, Some, IfErr, IfNone, IfOk, IfSome, IsErrOf, IsTrue};
+ghost use Rattle.lynx_names.specs.declared.limits.TheConstants.{MAX_SERVERS};
+ghost use Rattle.lynx_set.specs.Rules.{IsSet};
+ghost use Rattle.lynx_set.specs.Set.{Set};
+ghost use Rattle.lynx_sql.specs.Contents.{Title};
 ghost use Rattle.sqlite_trees.specs.View.{doubt};
-ghost use Rattle.sqlite_value.specs.declared.value.Value.TheVariants.{Int, Text};
 ghost use Rattle.std.specs.Fmt.{decimal};
 ghost use Rattle.sqlite.specs.Tree.{Trees};
 ghost use Rattle.sqlite.specs.Held.{state};
 ghost use Rattle.lynx_keep.specs.Kept.{KeptState, kept_in};
 ghost use Rattle.lynx_set.specs.Text.{text_of};
 ghost use Rattle.lynx_store.specs.Heading.{owner_in};
-ghost use Rattle.lynx_sql.specs.Rows.{shown_meta};
 ghost use Rattle.lynx_store.specs.Premise.{IsUndisturbed};
-ghost use Rattle.lynx_store.specs.Stored.{IsKept, Owner, Tells, owner_for, title_for, version_text};
+ghost use Rattle.lynx_store.specs.Stored.{HasTitle, IsKept, IsOfNoVersion, IsOther, IsServerOf, KeepsNothing, Owner, ShowsTitle, Tells, owner_for, title_for, version_text};
 
-use crate::columns::{is_number, text_in};
 use crate::fault::StoreFault;
-use crate::heading::{Heading, is_meta_row, version_for, version_text};
+use crate::heading::{Heading, texts_of, version_for, version_text};
 use crate::keeper::loaded_of;
 use lynx_keep::{KeepFault, Loaded};
 use lynx_lex::number::number;
@@ -34,47 +35,45 @@ pub struct Inspected {
     pub loaded: Loaded,
 }
 
-/// The version that the first row of `meta` tells.
+/// The version whose text this is.
 #[tactic(auto, using(crate::proofs::Kept::neither_version))]
-fn version_in(row: &Row) -> Option<StoreVersion>
-    ensures some { IfSome result
-        (λ version. row.now ≡ Int (pos 1) ∷ Text (version_text version) ∷ []) }
-    ensures none { IfNone result
-        ((version : StoreVersion) → row.now ≢ Int (pos 1) ∷ Text (version_text version) ∷ []) }
+fn version_in(text: &[u8]) -> Option<StoreVersion>
+    ensures some { IfSome result (λ version. text.now ≡ version_text version) }
+    ensures none { IfNone result ((version : StoreVersion) → text.now ≢ version_text version) }
 {
-    if is_meta_row(row, 1, version_text(StoreVersion::One)) {
+    if text == version_text(StoreVersion::One) {
         return Some(StoreVersion::One);
     }
-    if is_meta_row(row, 1, version_text(StoreVersion::Two)) {
+    if text == version_text(StoreVersion::Two) {
         return Some(StoreVersion::Two);
     }
     None
 }
 
-/// The heading that the rows of `meta` tell. OtherVersion only where they are not those of a store
-/// of either version.
+/// The heading that the rows of `meta` tell. Damaged where they are no three texts, OtherVersion
+/// where the first is that of no version.
 fn heading_in(alloc: Global, rows: &[Row]) -> Result<Heading, StoreFault>
-    ensures other { IfErr result (λ fault. fault ≡ StoreFault.OtherVersion → (owner : Owner)
-        → rows.now ≢ shown_meta (title_for owner)) }
+    ensures ok { IfOk result
+        (λ heading. ShowsTitle rows.now (title_for (owner_in heading))) }
+    ensures damaged { IsErrOf result StoreFault.Damaged → (title : Title)
+        → ShowsTitle rows.now title → ⊥ }
+    ensures other { IsErrOf result StoreFault.OtherVersion → IsOfNoVersion (ShowsTitle rows.now) }
+    ensures never { IfErr result (λ fault. fault ≢ StoreFault.OtherSet) }
 {
-    let [version, server, set] = rows else {
+    let Some((version, server, set)) = texts_of(rows) else {
         return Err(StoreFault::Damaged);
     };
-    if !is_number(version, 0, 1) || !is_number(server, 0, 2) || !is_number(set, 0, 3) {
-        return Err(StoreFault::Damaged);
-    }
     let Some(version) = version_in(version) else {
         return Err(StoreFault::OtherVersion);
-    };
-    let (Some(server), Some(set)) = (text_in(server, 1), text_in(set, 1)) else {
-        return Err(StoreFault::Damaged);
     };
     Ok(Heading::copied(alloc, version, server, set)?)
 }
 
-/// The server that a text is the number of.
+/// The server that a text is the number of, None where it is that of none.
 fn server_in(text: &[u8]) -> Option<ServerId>
-    ensures { IfSome result (λ server. text.now ≡ decimal server) }
+    ensures some { IfSome result (λ server. text.now ≡ decimal server) }
+    ensures only { (server : ℕ) → server < MAX_SERVERS → text.now ≡ decimal server
+        → result ≡ Some server }
 {
     let number = number(text)?;
     ServerId::new(u8::try_from(number).ok()?)
@@ -82,8 +81,10 @@ fn server_in(text: &[u8]) -> Option<ServerId>
 
 /// The set that a text spells.
 fn set_in(alloc: Global, text: &[u8]) -> Result<ChainSet, StoreFault>
-    ensures ok { IfOk result (λ set. text.now ≡ text_of set) }
-    ensures fault { IfErr result (λ fault. fault ≢ StoreFault.OtherVersion) }
+    ensures ok { IfOk result (λ set. IsSet set × (text.now ≡ text_of set)) }
+    ensures damaged { IsErrOf result StoreFault.Damaged → (set : Set) → IsSet set
+        → text.now ≢ text_of set }
+    ensures never { IfErr result (λ fault. ¬ IsOther fault) }
 {
     match parse(alloc, text) {
         Ok(set) => Ok(set),
@@ -96,7 +97,10 @@ fn set_in(alloc: Global, text: &[u8]) -> Result<ChainSet, StoreFault>
 #[tactic(auto, using(crate::proofs::Kept::same_owner))]
 fn owner_of(alloc: Global, heading: &Heading) -> Result<(ChainSet, ServerId), StoreFault>
     ensures ok { IfOk result (λ owner. owner_in heading.now ≡ owner_for owner.1 owner.0) }
-    ensures fault { IfErr result (λ fault. fault ≢ StoreFault.OtherVersion) }
+    ensures set { IfOk result (λ owner. IsServerOf owner.1 owner.0) }
+    ensures damaged { IsErrOf result StoreFault.Damaged → (server : ℕ) (chains : Set)
+        → IsServerOf server chains → owner_in heading.now ≢ owner_for server chains }
+    ensures never { IfErr result (λ fault. ¬ IsOther fault) }
 {
     let set = set_in(alloc, heading.set.as_slice())?;
     if version_for(set.version()) != heading.version {
@@ -112,8 +116,13 @@ fn owner_of(alloc: Global, heading: &Heading) -> Result<(ChainSet, ServerId), St
 fn told_by(alloc: Global, rows: &StoredRows) -> Result<Inspected, StoreFault>
     ensures ok { IfOk result
         (λ held. Tells rows.now (owner_for held.server held.set) (kept_in held.loaded)) }
-    ensures other { IfErr result (λ fault. fault ≡ StoreFault.OtherVersion → (owner : Owner)
-        → rows.now.title.items ≢ shown_meta (title_for owner)) }
+    ensures set { IfOk result (λ held. IsServerOf held.server held.set) }
+    ensures other { IsErrOf result StoreFault.OtherVersion
+        → IsOfNoVersion (ShowsTitle rows.now.title.items) }
+    ensures damaged { IsErrOf result StoreFault.Damaged → (server : ℕ) (chains : Set)
+        (kept : KeptState) → IsServerOf server chains → length kept.entries < 2 ^ 32
+        → Tells rows.now (owner_for server chains) kept → ⊥ }
+    ensures never { IfErr result (λ fault. fault ≢ StoreFault.OtherSet) }
 {
     let heading = heading_in(alloc, rows.title.as_slice())?;
     let (set, server) = owner_of(alloc, &heading)?;
@@ -156,6 +165,17 @@ pub fn inspect<S: Rising>(alloc: Global, conn: &mut Connection<S>) -> Result<Ins
         → (owner : Owner) (count : ℕ) (kept : KeptState)
         → IsKept (state S.Store conn.old) owner count kept
         → IsKept (state S.Store conn.new) owner count kept) }
+    // The server is one of the set's.
+    ensures set { IfOk result (λ held. IsServerOf held.server held.set) }
+    // A store is called damaged only where nothing is kept for any server of any set, and of
+    // another version only where its `meta` says so; it is of no other set.
+    ensures damaged { IsUndisturbed (state S.Store conn.new) → IsErrOf result StoreFault.Damaged
+        → (server : ℕ) (chains : Set) → IsServerOf server chains
+        → KeepsNothing (state S.Store conn.old) (owner_for server chains) }
+    ensures other_version { IsUndisturbed (state S.Store conn.new)
+        → IsErrOf result StoreFault.OtherVersion
+        → IsOfNoVersion (HasTitle (state S.Store conn.old)) }
+    ensures never { IfErr result (λ fault. fault ≢ StoreFault.OtherSet) }
     // A store of either version is called of no other.
     ensures other { IsUndisturbed (state S.Store conn.new)
         → IfErr result (λ fault. fault ≡ StoreFault.OtherVersion

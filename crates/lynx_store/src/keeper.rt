@@ -1,4 +1,4 @@
-ghost use Rattle.std.specs.Prelude.{◌≡◌, ◌≤◌, ℕ, IsErrOf, IfOk, length};
+ghost use Rattle.std.specs.Prelude.{◌≡◌, ◌<◌, ◌≤◌, ◌^◌, ℕ, IsErrOf, IfOk, length};
 ghost use Rattle.sqlite_trees.specs.View.{doubt};
 ghost use Rattle.sqlite.specs.Tree.{Trees};
 ghost use Rattle.sqlite.specs.Held.{state};
@@ -33,13 +33,17 @@ pub struct SqlKeeper<S: Rising> {
     faults: u64,
 }
 
-/// What the rows tell, Failed where a row hasn't its form.
+/// What the rows tell. Failed where they tell nothing of this heading: a row hasn't its form, say.
 pub(crate) fn loaded_of(
     alloc: Global,
     heading: &Heading,
     rows: &StoredRows,
 ) -> Result<Loaded, KeepFault>
-    ensures { IfOk result (λ loaded. Tells rows.now (owner_in heading.now) (kept_in loaded)) }
+    ensures told { IfOk result
+        (λ loaded. Tells rows.now (owner_in heading.now) (kept_in loaded)) }
+    ensures few { IfOk result (λ loaded. length loaded.entries.items < 2 ^ 32) }
+    ensures failed { IsErrOf result KeepFault.Failed → (kept : KeptState)
+        → length kept.entries < 2 ^ 32 → Tells rows.now (owner_in heading.now) kept → ⊥ }
 {
     if !heading.is_shown(rows.title.as_slice()) {
         return Err(KeepFault::Failed);

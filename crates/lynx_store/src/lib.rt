@@ -1,6 +1,7 @@
 //! A keeper of entries and cells in an SQLite database.
 #![tactic(auto)]
 
+pub use extending::{Extended, check_extend, extend_store};
 pub use fault::StoreFault;
 pub use heading::Heading;
 pub use inspecting::{Inspected, are_in_tables, inspect};
@@ -10,10 +11,12 @@ pub use upgrading::{check_upgrade, upgrade_store};
 mod acts;
 mod body;
 mod columns;
+pub mod extending;
 pub mod fault;
 pub mod heading;
 pub mod inspecting;
 pub mod keeper;
+pub mod laws;
 mod loading;
 pub mod opening;
 pub mod upgrading;

@@ -1,7 +1,9 @@
 //! Rows as entries and cells.
-ghost use Rattle.std.specs.Prelude.{◌≡◌, ◌∷◌, [], pos, IfOk, IfSome};
+ghost use Rattle.std.specs.Prelude.{◌≡◌, ◌≢◌, ◌∷◌, ◌<◌, ◌^◌, [], ℕ, length, pos, IfNone, IfOk, IfSome};
 ghost use Rattle.std.specs.List.{AllByRecursion};
 ghost use Rattle.sqlite_value.specs.declared.value.Value.TheVariants.{Int, Blob};
+ghost use Rattle.lynx_entry.specs.declared.entry.Entry.{Entry};
+ghost use Rattle.lynx_entry.specs.Entry.{History};
 ghost use Rattle.lynx_keep.specs.Stored.{form_of, HasForm};
 ghost use Rattle.lynx_sql.specs.Rows.{shown_entries};
 ghost use Rattle.lynx_sql.specs.Shown.{AreCells, FitsRow, cells_in, row_of, with_rows};
@@ -17,10 +19,12 @@ use sqlite::Row;
 use sqlite::types::ValueRef;
 use std::alloc::Global;
 
-/// The entry of a row, if the row is that of the place.
+/// The entry of a row, None where the row isn't that of an entry at the place.
 fn entry_at(alloc: Global, row: &Row, place: u32) -> Result<Option<Entry>, Memory>
-    ensures { IfOk result (λ found. IfSome found (λ entry.
+    ensures some { IfOk result (λ found. IfSome found (λ entry.
         (row.now ≡ Int (pos place) ∷ Blob (form_of entry) ∷ []) × HasForm entry)) }
+    ensures none { IfOk result (λ found. IfNone found ((entry : Entry) → HasForm entry
+        → row.now ≢ Int (pos place) ∷ Blob (form_of entry) ∷ [])) }
 {
     if row.column_count() != 2 || !is_number(row, 0, place) {
         return Ok(None);
@@ -31,11 +35,16 @@ fn entry_at(alloc: Global, row: &Row, place: u32) -> Result<Option<Entry>, Memor
     }
 }
 
-/// The entries of the rows, None where a row isn't that of its place.
+/// The entries of the rows, fewer than 2^32. None where a row isn't that of an entry at its place,
+/// or there are more.
 pub fn entries_of(alloc: Global, rows: &[Row]) -> Result<Option<Vec<Entry>>, Memory>
-    ensures { IfOk result (λ found. IfSome found (λ entries.
+    ensures some { IfOk result (λ found. IfSome found (λ entries.
         (rows.now ≡ shown_entries 0 (bodies_of entries.items))
         × AllByRecursion HasForm entries.items)) }
+    ensures few { IfOk result (λ found. IfSome found (λ entries. length entries.items < 2 ^ 32)) }
+    ensures none { IfOk result (λ found. IfNone found ((entries : History)
+        → length entries < 2 ^ 32 → AllByRecursion HasForm entries
+        → rows.now ≢ shown_entries 0 (bodies_of entries))) }
 {
     let mut entries = Vec::new(alloc);
     let mut place = 0u32;
@@ -52,9 +61,10 @@ pub fn entries_of(alloc: Global, rows: &[Row]) -> Result<Option<Vec<Entry>>, Mem
     Ok(Some(entries))
 }
 
-/// The cell of a row, if the row is that of a cell that isn't 0.
+/// The cell of a row, None where the row isn't that of a cell that isn't 0.
 fn cell_of(row: &Row) -> Option<(TableId, u64, u64)>
-    ensures { IfSome result (λ cell. (row.now ≡ row_of cell) × FitsRow cell) }
+    ensures some { IfSome result (λ cell. (row.now ≡ row_of cell) × FitsRow cell) }
+    ensures none { IfNone result ((cell : ℕ × ℕ × ℕ) → FitsRow cell → row.now ≢ row_of cell) }
 {
     if row.column_count() != 3 {
         return None;
@@ -65,8 +75,9 @@ fn cell_of(row: &Row) -> Option<(TableId, u64, u64)>
 
 /// The values of the rows, None where a row isn't that of a cell that isn't 0.
 fn changes_of(alloc: Global, rows: &[Row]) -> Result<Option<Changes>, Memory>
-    ensures { IfOk result (λ found. IfSome found (λ changes. AreCells rows.now
+    ensures some { IfOk result (λ found. IfSome found (λ changes. AreCells rows.now
         × (changes ≡ with_rows rows.now finite.empty))) }
+    ensures none { IfOk result (λ found. IfNone found (AreCells rows.now → ⊥)) }
 {
     let mut changes = Changes::new(alloc);
     for row in rows {
@@ -80,8 +91,9 @@ fn changes_of(alloc: Global, rows: &[Row]) -> Result<Option<Changes>, Memory>
 
 /// The cells of the rows, None where a row isn't that of a cell that isn't 0.
 pub fn cells_of(alloc: Global, rows: &[Row]) -> Result<Option<Cells>, Memory>
-    ensures { IfOk result (λ found. IfSome found (λ cells. AreCells rows.now
+    ensures some { IfOk result (λ found. IfSome found (λ cells. AreCells rows.now
         × (cells.database ≡ cells_in rows.now))) }
+    ensures none { IfOk result (λ found. IfNone found (AreCells rows.now → ⊥)) }
 {
     let Some(changes) = changes_of(alloc, rows)? else {
         return Ok(None);

@@ -15,7 +15,7 @@ loop-entry-preserved c =
           ∙ acts_next c.args.entries.now c.loop-entry.entry-index c.entry-item.result c.loop-entry.place so_far.place c.loop-entry-test.true c.entry-item.is;
     }
 
-pub returns : goal.returns
-returns c =
+pub returns-clause-some : goal.returns-clause-some
+returns-clause-some c =
     let past = c.loop-entry-test.false in
     c.loop-entry.invariant.acts ∙ ap (acts_from 0) (take_whole c.args.entries.now c.loop-entry.entry-index (omega arith))

@@ -1,10 +1,10 @@
-use Rattle.std.proofs.Common.{◌≡◌, refl, sym, subst}
+use Rattle.std.proofs.Common.{◌≡◌, Err, refl, sym, ap, subst, ◌∙◌, arith}
 use Rattle.sqlite.specs.Held.{state}
 use Rattle.lynx_keep.specs.Kept.{kept_in}
 use Rattle.lynx_sql.proofs.ReadLemmas.{if_ok}
 use Rattle.lynx_store.specs.Stored.{Tells, contents_of, owner_for, version_for}
-use Rattle.lynx_store.proofs.Kept.{every_err, goes_on, if_err, placed}
-use Rattle.lynx_store.proofs.RowsRead.{one_owner, one_state}
+use Rattle.lynx_store.proofs.Kept.{err_of, every_err, goes_on, placed}
+use Rattle.lynx_store.proofs.RowsRead.{one_owner, one_state, shows_a_version}
 use Rattle.lynx_store.proofs.inspecting.inspect.Goals as goal
 
 pub returns-in-Ok-clause-ok : goal.returns-in-Ok-clause-ok
@@ -30,5 +30,15 @@ returns-in-Ok-clause-same g c clean =
 
 pub returns-in-Ok-clause-other : goal.returns-in-Ok-clause-other
 returns-in-Ok-clause-other g c clean =
-    if_err c.told_by.result (λ fault none is owner count kept was.
-    none is owner (c.in-Ok.ensures.ok clean (contents_of owner kept) was.tables).title) c.told_by.ensures.other
+    err_of c.told_by.result (λ fault at is owner count kept was.
+    let shown = (c.in-Ok.ensures.ok clean (contents_of owner kept) was.tables).title in
+    shows_a_version c.in-Ok.rows.title.items owner shown (c.told_by.ensures.other (at ∙ ap Err is)))
+
+pub returns-in-Ok-clause-damaged : goal.returns-in-Ok-clause-damaged
+returns-in-Ok-clause-damaged g c clean is server chains of count kept few was =
+    let tells : Tells c.in-Ok.rows (owner_for server chains) kept = record {
+      cells = c.in-Ok.ensures.formed clean (contents_of (owner_for server chains) kept) was.tables;
+      shown = c.in-Ok.ensures.ok clean (contents_of (owner_for server chains) kept) was.tables;
+      formed = was.formed;
+    } in
+    c.told_by.ensures.damaged is server chains kept of (omega (arith, few, was.counted)) tells

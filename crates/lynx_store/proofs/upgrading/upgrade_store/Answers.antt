@@ -1,11 +1,12 @@
-use Rattle.std.proofs.Common.{◌≡◌, length, ap, sym, subst, ◌∙◌, arith}
+use Rattle.std.proofs.Common.{◌≡◌, Err, length, ap, sym, subst, ◌∙◌, arith}
 use Rattle.std.proofs.lemmas.Result.{err_from_is_err_and}
 use Rattle.sqlite.specs.Held.{state}
 use Rattle.lynx_keep.specs.Kept.{kept_in}
+use Rattle.lynx_store.specs.declared.fault.StoreFault.TheVariants.{Damaged}
 use Rattle.lynx_store.specs.Premise.{IsUndisturbed}
 use Rattle.lynx_store.specs.Stored.{IsKept, owner_for, version_for}
 use Rattle.lynx_store.specs.Upgrades.{IsSecond, Upgrades, second_of}
-use Rattle.lynx_store.proofs.Upgraded.{leaves_second, second_kept, told_may, upgrades}
+use Rattle.lynx_store.proofs.Upgraded.{leaves_second, second_kept, told_can, told_may, upgrades}
 use Rattle.lynx_store.proofs.upgrading.upgrade_store.Goals as goal
 
 pub returns-in_err-held-clause-same : goal.returns-in_err-held-clause-same
@@ -79,3 +80,19 @@ returns-clause-stop g c clean =
     leaves_second old mid new held.server held.set (kept_in held.loaded) (length held.loaded.entries.items) _ _ _ c.version_text-version.ensures set acts
     may (c.in_ok-held.ensures.ok mid_clean) (c.in_ok-held.ensures.all mid_clean) (c.upgrade_tables.ensures.stop clean)
     (c.inspect.ensures.stop mid_clean) (λ db up may. g.met.S.Store.settled c.args.conn.now.store db up may)
+
+pub returns-in_err-held-clause-damaged : goal.returns-in_err-held-clause-damaged
+returns-in_err-held-clause-damaged g c clean =
+    let p = err_from_is_err_and c.from_residual.result c.from_residual.ensures.1 in
+    rw (p.1, p.2) (λ is server chains count kept can.
+    let own : c.in_err-held.field-0.0 ≡ Damaged = let e = is in cc in
+    c.in_err-held.ensures.damaged clean (ap Err own) server chains can.server_of count kept can.few can.keeps)
+
+pub returns-in_err-added-clause-damaged : goal.returns-in_err-added-clause-damaged
+returns-in_err-added-clause-damaged g c clean =
+    let p = err_from_is_err_and c.from_residual-in_err-added.result c.from_residual-in_err-added.ensures.1 in
+    rw (p.1, p.2) (λ is server chains count kept can.
+    let own : c.in_err-added.field-0.0 ≡ Damaged = let e = is in cc in
+    let held = c.in_ok-held.held in
+    let all = told_can (state g.S.Store c.args.conn.now) held.server server held.set chains (kept_in held.loaded) kept count c.in_ok-held.ensures.set can (c.in_ok-held.ensures.all clean) in
+    c.in_err-added.ensures.damaged (ap Err own) all.0 all.1 all.2)

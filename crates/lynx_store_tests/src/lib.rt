@@ -1,9 +1,11 @@
-//! Tests of stores, with ample memory: made, kept, opened again, upgraded, damaged by hand, and
-//! stopped.
+//! Tests of stores, with ample memory: made, kept, opened again, upgraded, given to other sets,
+//! damaged by hand, and stopped.
 #![tactic(auto)]
 
 #[cfg(test)]
 mod damaged;
+#[cfg(test)]
+mod extensions;
 #[cfg(test)]
 mod made;
 #[cfg(test)]

@@ -16,7 +16,7 @@ use std::test::Fail;
 const PAID: &[Cell] = &[(0, 0, 70)];
 
 /// The files of the payer's store, whose log passes so many calls on, and whose database so many.
-fn paid_disks(alloc: Global, log: u64, db: u64) -> Result<Disks, Memory> {
+pub fn paid_disks(alloc: Global, log: u64, db: u64) -> Result<Disks, Memory> {
     let set = set_of(alloc, PAYMENT)?;
     let blank = Files {
         log: File::new(alloc),
@@ -41,7 +41,7 @@ fn upgrade<D: Disk + Drop>(alloc: Global, disks: Files<D>) -> (Option<usize>, Fi
 }
 
 /// Whether a store holds what the payer's does.
-fn is_paid(alloc: Global, held: &Inspected) -> Result<bool, Memory> {
+pub fn is_paid(alloc: Global, held: &Inspected) -> Result<bool, Memory> {
     let cells = held.loaded.cells.list(alloc)?;
     Ok(held.loaded.entries.len() == 2 && are_cells(cells.as_slice(), PAID))
 }

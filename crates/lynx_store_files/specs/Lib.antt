@@ -1,2 +1,4 @@
 pub mod Copies
 pub mod Heads
+pub mod Closing
+pub mod Paths

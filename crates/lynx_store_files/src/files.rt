@@ -1,11 +1,71 @@
+ghost use Rattle.std.specs.Prelude.{◌≡◌, IfOk};
+ghost use Rattle.std.specs.List.{AllByRecursion};
+ghost use Rattle.std.specs.String.{string_bytes};
+ghost use Rattle.sqlite.specs.Files.{file_state};
+ghost use Rattle.sqlite_wal.specs.Files.{image_at};
+ghost use Rattle.lynx_keep.specs.Kept.{KeptState};
+ghost use Rattle.lynx_keep.specs.Stored.{HasForm};
+ghost use Rattle.lynx_store.specs.Crashes.{HoldsEither, KeepsEither};
+ghost use Rattle.lynx_store.specs.Heading.{owner_in};
+ghost use Rattle.lynx_store.specs.Premise.{IsUndisturbed};
+ghost use Rattle.lynx_store.specs.Stored.{IsKept, owner_for};
+ghost use Rattle.lynx_store_files.specs.Paths.{store_path};
+
 use crate::keeper::FileKeeper;
-use crate::presence::{has_store, judge};
+use crate::presence::{check_folder, has_store, judge};
 use crate::stores::Stores;
-use lynx_names::ServerId;
+use lynx_names::{Memory, ServerId};
 use lynx_set::ChainSet;
 use lynx_store::{SqlKeeper, StoreFault};
-use sqlite::Connection;
+use sqlite::{Connection, File, FileFrom, Start, Unknown};
+use std::alloc::Global;
 use std::rt::HostRuntime;
+
+/// The path of a server's store in the folder.
+pub fn store_path(alloc: Global, folder: &str, server: ServerId) -> Result<String, Memory>
+    ensures { IfOk result (λ path. string_bytes path ≡ store_path folder.now server) }
+{
+    match format!(in alloc; "{folder}/server-{server}.lynx") {
+        Ok(path) => Ok(path),
+        Err(_) => Err(Memory),
+    }
+}
+
+/// The keeper over the store of that server at the path, which is made where there is none. `S`
+/// stands for what the file and its log held as they were opened, whatever that was. No clause ties
+/// the files to the path: the kit has none that could.
+pub fn open_store<S: Start>(
+    rt: &HostRuntime,
+    path: &str,
+    set: &ChainSet,
+    server: ServerId,
+    start: S,
+) -> Result<FileKeeper<FileFrom<S>>, StoreFault>
+    ensures owner { IfOk result
+        (λ keeper. owner_in keeper.keeper.heading ≡ owner_for server set.now) }
+    // It keeps something, whatever was there.
+    ensures kept { IfOk result (λ keeper. IsUndisturbed (file_state keeper.keeper.conn)
+        → (kept : KeptState)
+        × IsKept (file_state keeper.keeper.conn) (owner_in keeper.keeper.heading)
+        keeper.keeper.count kept) }
+    // Where a stop left one of two states in the files, it keeps one of the two.
+    ensures either { IfOk result (λ keeper. IsUndisturbed (file_state keeper.keeper.conn)
+        → (one other : KeptState) → AllByRecursion HasForm one.entries
+        → AllByRecursion HasForm other.entries
+        → HoldsEither (image_at S.Start) (owner_for server set.now) one other
+        → KeepsEither (file_state keeper.keeper.conn) (owner_in keeper.keeper.heading)
+        keeper.keeper.count one other) }
+{
+    judge(rt, path)?;
+    let conn = match Connection::open_from(rt, path, false, start) {
+        Ok(conn) => conn,
+        Err(_) => return Err(StoreFault::Store),
+    };
+    match SqlKeeper::open(rt.alloc(), conn, set, server) {
+        Ok(keeper) => Ok(FileKeeper::new(keeper)),
+        Err((fault, _)) => Err(fault),
+    }
+}
 
 /// Stores in files: `server-0.lynx` in the folder and so on, each with its log beside it. A file is
 /// locked while it is open, so a second process gets [`StoreFault::Store`], and so does who names a
@@ -18,49 +78,45 @@ pub struct Files {
 
 impl Files {
     /// Stores among the files that this runtime reaches.
-    pub fn new(rt: HostRuntime) -> Files {
+    pub fn new(rt: HostRuntime) -> Files
+        ensures { result.rt ≡ rt }
+    {
         Files { rt }
-    }
-
-    /// The path of a server's store in the folder.
-    fn path(&self, folder: &str, server: ServerId) -> Result<String, StoreFault> {
-        match format!(in self.rt.alloc(); "{folder}/server-{server}.lynx") {
-            Ok(path) => Ok(path),
-            Err(_) => Err(StoreFault::Memory),
-        }
     }
 }
 
-impl Stores<FileKeeper> for Files {
+// Each file is opened by a call of its own of `open_store`, whose contracts hold for whatever that
+// file held; `Unknown` is the name that a program gives it (docs/DECISIONS.md, Services and
+// clients).
+impl Stores<FileKeeper<File>> for Files {
+    ghost use Rattle.lynx_store.specs.Heading.{owner_in};
+
+    ghost owner_of = { λ keeper. owner_in keeper.keeper.heading };
+
+    ghost count_of = { λ keeper. keeper.keeper.count };
+
     fn open(
         &self,
         folder: &str,
         set: &ChainSet,
         server: ServerId,
-    ) -> Result<FileKeeper, StoreFault> {
-        let path = self.path(folder, server)?;
-        judge(&self.rt, path.as_str())?;
-        let Ok(conn) = Connection::open(&self.rt, path.as_str()) else {
-            return Err(StoreFault::Store);
-        };
-        match SqlKeeper::open(self.rt.alloc(), conn, set, server) {
-            Ok(keeper) => Ok(FileKeeper::new(keeper)),
-            Err((fault, _)) => Err(fault),
-        }
+    ) -> Result<FileKeeper<File>, StoreFault> {
+        let path = store_path(self.rt.alloc(), folder, server)?;
+        open_store(&self.rt, path.as_str(), set, server, Unknown)
     }
 
     fn has(&self, folder: &str, server: ServerId) -> Result<bool, StoreFault> {
-        has_store(&self.rt, self.path(folder, server)?.as_str())
+        check_folder(&self.rt, folder)?;
+        let path = store_path(self.rt.alloc(), folder, server)?;
+        has_store(&self.rt, path.as_str())
     }
 
-    fn entries(&self, keeper: &FileKeeper) -> u64 {
+    fn entries(&self, keeper: &FileKeeper<File>) -> u64 {
         u64::from(keeper.entries())
     }
 
-    fn close(&self, keeper: FileKeeper) -> Result<(), StoreFault> {
-        match keeper.into_inner().into_connection().close() {
-            Ok(()) => Ok(()),
-            Err(_) => Err(StoreFault::Store),
-        }
+    fn close(&self, keeper: FileKeeper<File>) -> Result<(), StoreFault> {
+        keeper.close()?;
+        Ok(())
     }
 }

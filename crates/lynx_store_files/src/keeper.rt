@@ -2,32 +2,36 @@ ghost use Rattle.lynx_store.specs.Heading.{owner_in};
 ghost use Rattle.lynx_store.specs.Laws.{leaves_either, leaves_kept};
 ghost use Rattle.lynx_store.specs.Premise.{IsUndisturbed};
 ghost use Rattle.lynx_store.specs.Stored.{IsKept, LeavesOneOf};
+ghost use Rattle.lynx_store_files.specs.Closing.{StandsAlone};
 ghost use Rattle.sqlite.specs.Files.{file_state};
 ghost use Rattle.sqlite_store.specs.FileStore.{recovers, view};
 ghost use Rattle.sqlite_store.specs.Laws.{settled_at};
-ghost use Rattle.std.proofs.Common.{◌≡◌, inl, refl};
+ghost use Rattle.std.specs.Prelude.{◌≡◌, IfOk};
+ghost use Rattle.lynx_keep.specs.Kept.{KeptState};
 
 use lynx_cells::Changes;
 use lynx_entry::Entry;
 use lynx_keep::{KeepFault, Keeper, Loaded};
-use lynx_store::SqlKeeper;
-use sqlite::{File, FileStore};
+use lynx_store::{SqlKeeper, StoreFault};
+use sqlite::{FileStore, Files};
+use sqlite_disk::Disk;
 use std::alloc::Global;
 
 /// A keeper over the file of a store.
-pub type StoreKeeper = SqlKeeper<FileStore<File>>;
+pub type StoreKeeper<D> = SqlKeeper<FileStore<D>>;
 
-/// A keeper over the file of a store, which hands each call on to the [`StoreKeeper`] in it. It is
-/// a type without parameters, so that a program can name it beside threads and sockets:
-/// docs/DECISIONS.md, Services and clients.
+/// A keeper over the file of a store, which hands each call on to the [`StoreKeeper`] in it. Its
+/// contracts hold over any kind of disk, so also over the files of a path, whatever they held as
+/// they were opened. It is a name of its own, so that a program can say it beside threads and
+/// sockets: docs/DECISIONS.md, Services and clients.
 #[derive(Drop)]
-pub struct FileKeeper {
-    keeper: StoreKeeper,
+pub struct FileKeeper<D: Disk> {
+    keeper: StoreKeeper<D>,
 }
 
-impl FileKeeper {
+impl<D: Disk + Drop> FileKeeper<D> {
     /// Of that keeper.
-    pub fn new(keeper: StoreKeeper) -> FileKeeper
+    pub fn new(keeper: StoreKeeper<D>) -> FileKeeper<D>
         ensures { result.keeper ≡ keeper }
     {
         FileKeeper { keeper }
@@ -41,14 +45,31 @@ impl FileKeeper {
     }
 
     /// The keeper in it.
-    pub fn into_inner(self) -> StoreKeeper
+    pub fn into_inner(self) -> StoreKeeper<D>
         ensures { result ≡ self.keeper }
     {
         self.keeper
     }
+
+    /// Closes the store: its log is copied into the file, which then holds all that is kept, also
+    /// without the log. The files are let go of where they are dropped.
+    pub fn close(self) -> Result<Files<D>, StoreFault>
+        ensures { IfOk result (λ files. (kept : KeptState)
+            → IsKept (file_state self.keeper.conn) (owner_in self.keeper.heading)
+            self.keeper.count kept
+            → StandsAlone self.keeper.conn files (owner_in self.keeper.heading) kept) }
+    {
+        match self.keeper.into_connection().close_files() {
+            Ok(files) => Ok(files),
+            Err((_, store)) => {
+                drop(store.close());
+                Err(StoreFault::Store)
+            }
+        }
+    }
 }
 
-impl Keeper for FileKeeper {
+impl<D: Disk> Keeper for FileKeeper<D> {
     ghost terms = { record {
       sound = λ keeper. IsUndisturbed (file_state keeper.keeper.conn);
       keeps = λ keeper kept. IsKept (file_state keeper.keeper.conn) (owner_in keeper.keeper.heading)
@@ -72,7 +93,7 @@ impl Keeper for FileKeeper {
 
     ghost settled = { λ keeper kept sound keeps. leaves_kept (recovers keeper.keeper.conn.store)
         (view keeper.keeper.conn.store).committed (owner_in keeper.keeper.heading) kept kept
-        (λ db may. settled_at keeper.keeper.conn.store (λ file. inl refl) db keeps.tables.is_open
+        (λ db may. settled_at keeper.keeper.conn.store D.Disk.seen_may_stay db keeps.tables.is_open
         may) keeps.tables.tables };
 
     ghost weaker = { λ keeper kept other left. leaves_either (recovers keeper.keeper.conn.store)

@@ -3,11 +3,13 @@
 #![tactic(auto)]
 
 pub use copies::{CopyFault, StoreCopy, copy_store};
-pub use files::Files;
+pub use databases::{Database, close_database, open_database};
+pub use files::{Files, open_store, store_path};
 pub use keeper::{FileKeeper, StoreKeeper};
 pub use stores::Stores;
 
 pub mod copies;
+pub mod databases;
 pub mod files;
 pub mod heads;
 pub mod keeper;

@@ -36,6 +36,15 @@ pub(crate) fn log_path<R: Files + AllocGlobal>(rt: &R, path: &str) -> Result<Str
     }
 }
 
+/// Whether the folder is there: else it has no store, and none can be made in it.
+pub(crate) fn check_folder<R: Files>(rt: &R, folder: &str) -> Result<(), StoreFault> {
+    match fs::metadata(rt, folder) {
+        Ok(found) if found.is_dir() => Ok(()),
+        Ok(_) => Err(StoreFault::Store),
+        Err(error) => Err(fault_of(error)),
+    }
+}
+
 /// Whether a store's file, or its log, stands there and isn't empty.
 pub(crate) fn has_store<R: Files + AllocGlobal>(rt: &R, path: &str) -> Result<bool, StoreFault> {
     if holds(rt, path)? {

@@ -1,11 +1,14 @@
 -- What a line asks, and what a client sends.
-use Rattle.std.specs.Prelude.{◌≡◌, ℕ, Bool, List, [], ◌∷◌, ◌++◌, true, false, codes}
+use Rattle.std.specs.Prelude.{◌≡◌, ◌<◌, ℕ, Bool, List, [], ◌∷◌, ◌++◌, length, true, false, codes}
 use Rattle.lynx_codec.specs.declared.item.Item.{Item}
 use Rattle.lynx_codec.specs.declared.item.Item.TheVariants.{Request, Look, Quit, Shut}
 use Rattle.lynx_entry.specs.declared.event.Event.{Event}
 use Rattle.lynx_entry.specs.declared.event.Event.TheVariants.{Begin, Deliver}
 use Rattle.lynx_entry.specs.declared.request.Request as requests
+use Rattle.lynx_lex.specs.declared.fault.FaultKind.{FaultKind}
+use Rattle.lynx_lex.specs.declared.fault.FaultKind.TheVariants.{LimitPassed}
 use Rattle.lynx_names.specs.declared.chain.ChainId.{ChainId}
+use Rattle.lynx_names.specs.declared.limits.TheConstants.{MAX_PARAMETERS}
 use Rattle.lynx_lines.specs.Scripts.{script_of}
 use Rattle.lynx_set.specs.Set.{Set}
 use Rattle.lynx_ask.specs.declared.reading.Asked.{Asked}
@@ -59,3 +62,28 @@ IsAskedBy set line (asks.Begin request) =
     (words : List ℕ) × (line ≡ codes "begin " ++ words) × AsksBegin set words request
 IsAskedBy set line (asks.Look chain hop waits) =
     (words : List ℕ) × (line ≡ codes "look " ++ words) × AsksLook set words chain hop waits
+
+-- what a client sends for what a line asks
+abbrev pub item_of : Asked → Item
+item_of (asks.Begin request) = Request request
+item_of (asks.Look chain hop waits) = Look (record { chain = chain; hop = hop })
+item_of asks.Quit = Quit
+item_of asks.Shut = Shut
+
+-- whether it is asked until a hop is done
+abbrev pub waits_in : Asked → Bool
+waits_in (asks.Look chain hop waits) = waits
+waits_in other = false
+
+-- a begin with more arguments than any program has parameters, which has no byte form
+abbrev pub IsTooLong : Asked → FaultKind → Type 0
+IsTooLong (asks.Begin request) fault =
+    (fault ≡ LimitPassed) × (MAX_PARAMETERS < length request.args)
+IsTooLong other fault = ⊥
+
+-- The item that a client sends for a line, and whether it is asked until a hop is done.
+pub record Sends (set : Set) (line : List ℕ) (item : Item) (waits : Bool) : Type 0 where
+  pub asked : Asked
+  pub asks_it : IsAskedBy set line asked
+  pub item_is : item ≡ item_of asked
+  pub waits_is : waits ≡ waits_in asked

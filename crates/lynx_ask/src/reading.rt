@@ -1,8 +1,8 @@
 //! What a line asks.
-ghost use Rattle.std.specs.Prelude.{◌≡◌, ◌++◌, ◌∷◌, [], IfOk, IfSome};
+ghost use Rattle.std.specs.Prelude.{◌≡◌, ◌++◌, ◌∷◌, [], IfErr, IfOk, IfSome};
 ghost use Rattle.lynx_lines.specs.Scripts.{script_of};
 ghost use Rattle.lynx_codec.specs.Ranges.{IsInRange};
-ghost use Rattle.lynx_ask.specs.Asking.{IsAskedBy, IsBeginOf, IsFromClient, IsLookOf, with_wait};
+ghost use Rattle.lynx_ask.specs.Asking.{IsAskedBy, IsBeginOf, IsFromClient, IsLookOf, IsTooLong, Sends, item_of, waits_in, with_wait};
 
 use lynx_codec::{Item, Look};
 use lynx_entry::{Event, Request};
@@ -30,7 +30,9 @@ pub enum Asked {
 
 impl Asked {
     /// Whether it is asked until a hop is done.
-    pub fn waits(&self) -> bool {
+    pub fn waits(&self) -> bool
+        ensures { result ≡ waits_in self.now }
+    {
         matches!(self, Asked::Look { waits: true, .. })
     }
 }
@@ -149,7 +151,8 @@ pub fn read_asked(alloc: Global, set: &ChainSet, line: &[u8]) -> Result<Asked, W
 /// What a client sends for it.
 pub(crate) fn item_of(asked: Asked) -> Result<Item, FaultKind>
     ensures range { IfOk result IsInRange }
-    ensures sent { IfOk result IsFromClient }
+    ensures item { IfOk result (λ item. item ≡ item_of asked) }
+    ensures long { IfErr result (IsTooLong asked) }
 {
     match asked {
         // A script's line has no more.
@@ -169,6 +172,7 @@ pub(crate) fn read_item(
 ) -> Result<(Item, bool), WordFault>
     ensures range { IfOk result (λ asked. IsInRange asked.0) }
     ensures sent { IfOk result (λ asked. IsFromClient asked.0) }
+    ensures asked { IfOk result (λ sent. Sends set.now line.now sent.0 sent.1) }
 {
     let asked = read_asked(alloc, set, line)?;
     let waits = asked.waits();

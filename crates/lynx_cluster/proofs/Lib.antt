@@ -4,3 +4,6 @@ pub mod Closings
 pub mod InRange
 pub mod Openings
 pub mod Takings
+pub mod Dones
+pub mod Owings
+pub mod Sendings

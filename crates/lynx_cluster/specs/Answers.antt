@@ -1,10 +1,13 @@
 -- What an answer to a begin says of its request, of what was told before, and of the server that
 -- gave it.
-use Rattle.std.specs.Prelude.{◌≡◌, ◌<◌, ◌⊎◌, ℕ, false, Some, None}
+use Rattle.std.specs.Prelude.{◌≡◌, ◌<◌, ◌⊎◌, ℕ, false, List, [], Some, None, Ok, Err}
+use Rattle.lynx_cells.specs.Database.{Database}
 use Rattle.lynx_entry.specs.declared.answer.Answer.{Answer}
 use Rattle.lynx_entry.specs.declared.answer.Answer.TheVariants.{Begun, Refused, Clash, UnknownProgram, WrongOrigin, ArgCount, OutsideRange, WrongShard, Full, Busy, Stopped, Memory}
 use Rattle.lynx_entry.specs.declared.request.Request.{Request}
+use Rattle.lynx_hops.specs.Meaning.{meaning}
 use Rattle.lynx_keep.specs.Kept.{Terms}
+use Rattle.lynx_names.specs.declared.chain.ChainId.{ChainId}
 use Rattle.lynx_rules.specs.Checks.{request_fault}
 use Rattle.lynx_server.specs.Returning.{HasReturn}
 use Rattle.lynx_server.specs.Serving.{Begins, Lasts, Serving, begins_here}
@@ -16,14 +19,31 @@ IsAbove seen (Begun chain stamp results again) = again ≡ false → seen < stam
 IsAbove seen (Refused need stamp again) = again ≡ false → seen < stamp
 IsAbove seen given = Unit {0}
 
+-- Nothing is wrong with the request at this server; the chain is of this server, and the results
+-- are those of its first hop over some database.
+pub record FitsBegun (set : Set) (server : ℕ) (request : Request) (chain : ChainId)
+    (results : List ℕ) : Type 0 where
+  pub in_order : request_fault set server request ≡ None
+  pub of_server : chain.origin ≡ server
+  pub before : Database
+  pub after : Database
+  pub gives : meaning set request.program 0 request.args [] before ≡ Ok (results, after)
+
+-- Nothing is wrong with the request at this server, and its first hop refuses by that need over
+-- some database.
+pub record FitsRefused (set : Set) (server : ℕ) (request : Request) (need : ℕ) : Type 0 where
+  pub in_order : request_fault set server request ≡ None
+  pub before : Database
+  pub refuses : meaning set request.program 0 request.args [] before ≡ Err need
+
 -- What is wrong with a request is answered only where just that is wrong with it at this server. A
--- fresh begin or refusal comes only where nothing is, and so do Full and Busy; Busy besides only
--- where a program that begins at the server returns there.
+-- begin or a refusal comes only where nothing is, fresh or from the record, with a chain of the
+-- server and with what the request's first hop may come to; Full and Busy come only where nothing
+-- is, and Busy besides only where a program that begins at the server returns there.
 abbrev pub FitsRequest : Set → ℕ → Request → Answer → Type 0
 FitsRequest set server request (Begun chain stamp results again) =
-    again ≡ false → request_fault set server request ≡ None
-FitsRequest set server request (Refused need stamp again) =
-    again ≡ false → request_fault set server request ≡ None
+    FitsBegun set server request chain results
+FitsRequest set server request (Refused need stamp again) = FitsRefused set server request need
 FitsRequest set server request Full = request_fault set server request ≡ None
 FitsRequest set server request Busy =
     (request_fault set server request ≡ None) × HasReturn set server
@@ -49,3 +69,7 @@ pub record IsServed {K : Type 0} (terms : Terms K) (old : Serving K) (request : 
 abbrev pub IsLeft : {K : Type 0} → Terms K → Serving K → Request → ℕ → Answer → Serving K → Type 0
 IsLeft terms old request seen given new =
     ((given ≡ Memory) × (new ≡ old)) ⊎ IsServed terms old request seen given new
+
+-- what a server answers that stopped
+abbrev pub IsUnserved : Answer → Type 0
+IsUnserved given = (given ≡ Stopped) ⊎ (given ≡ Memory)

@@ -76,6 +76,18 @@ HasNone sessions number =
     (place : ℕ) (session : SessionState) → slice_get sessions place ≡ Some session
     → session.number ≢ number
 
+-- one of the sessions has that number
+pub record HasOne (sessions : List SessionState) (number : ℕ) : Type 0 where
+  pub place : ℕ
+  pub session : SessionState
+  pub there : slice_get sessions place ≡ Some session
+  pub number_is : session.number ≡ number
+
+-- That number is the least that none of the sessions has.
+pub record IsFirstAbsent (sessions : List SessionState) (number : ℕ) : Type 0 where
+  pub absent : HasNone sessions number
+  pub before : (other : ℕ) → other < number → HasOne sessions other
+
 -- Why a cluster doesn't close well.
 abbrev pub IsUnclosed : {K : Type 0} → Terms K → ClusterState → List SessionState → CloseFault
     → Type 0
@@ -85,5 +97,5 @@ IsUnclosed terms cluster sessions (Told session place) =
     IsUnwoven terms cluster sessions (weave.Told session place)
 IsUnclosed terms cluster sessions (Stopped server) = server < cluster.set.servers
 IsUnclosed terms cluster sessions Memory = Unit {0}
-IsUnclosed terms cluster sessions (Absent number) = HasNone sessions number
+IsUnclosed terms cluster sessions (Absent number) = IsFirstAbsent sessions number
 IsUnclosed terms cluster sessions (Uncounted server) = IsMiscounted terms cluster sessions server

@@ -1,4 +1,6 @@
 -- Definitions that no public clause cites: they serve the functions within.
 pub mod Absent
+pub mod Serving
+pub mod Sending
 pub mod Opening
 pub mod Closing

@@ -4,7 +4,7 @@ ghost use Rattle.lynx_weave.specs.Told.{greatest_told};
 ghost use Rattle.lynx_server.specs.Serving.{Begins, Lasts, begins_here};
 ghost use Rattle.lynx_server.specs.History.{IsLawfulHistory};
 ghost use Rattle.lynx_codec.specs.Ranges.{IsAnswerInRange};
-ghost use Rattle.lynx_cluster.specs.Answers.{FitsRequest, IsAbove, IsLeft};
+ghost use Rattle.lynx_cluster.specs.Answers.{FitsRequest, IsAbove, IsLeft, IsUnserved};
 ghost use Rattle.lynx_cluster.specs.Sessions.{is_noted, told_by};
 
 use crate::session::Session;
@@ -83,7 +83,8 @@ impl Session {
         state: &mut Server<K>,
         request: Request,
     ) -> Answer
-        ensures stopped { state.old.is_stopped ≡ true → state.new ≡ state.old }
+        ensures stopped { state.old.is_stopped ≡ true → (state.new ≡ state.old)
+            × IsUnserved result }
         ensures begins { state.old.is_stopped ≡ false
             → IsLeft K.terms state.old request (greatest_told self.old.told) result state.new }
         ensures told { self.new ≡ record self.old

@@ -1,5 +1,5 @@
 //! A cluster, and the front of it that threads are lent.
-ghost use Rattle.std.specs.Prelude.{◌≡◌, ◌↔◌, [], IfOk, IfSome, IsTrue, OnErr};
+ghost use Rattle.std.specs.Prelude.{◌≡◌, ◌↔◌, ◌+◌, ◌<◌, ◌≤◌, [], IfOk, IfSome, IsTrue, MatchOption, OnErr};
 ghost use Rattle.lynx_codec.specs.Ranges.{IsLookedInRange};
 ghost use Rattle.lynx_cluster.specs.Calls.{AnswersBegin};
 ghost use Rattle.lynx_cluster.specs.Clusters.{IsOf, home_of};
@@ -73,6 +73,20 @@ pub(crate) fn is_of<K: Keeper>(state: &Server<K>, set: &ChainSet, server: Server
     state.server() == server && state.set().is_same(set)
 }
 
+/// The number of the next session, which is how many were made, and one more is made then. None
+/// once [`MAX_SESSIONS`] were made.
+fn next_number(made: &mut u64) -> Option<u64>
+    ensures { MatchOption result ((MAX_SESSIONS ≤ made.old) × (made.new ≡ made.old))
+        (λ number. (number ≡ made.old) × (number < MAX_SESSIONS) × (made.new ≡ made.old + 1)) }
+{
+    let number = *made;
+    if number >= MAX_SESSIONS {
+        return None;
+    }
+    *made = number + 1;
+    Some(number)
+}
+
 impl<K: Keeper, G: Gate> Cluster<K, G> {
     /// What other threads are lent.
     pub fn front(&self) -> &Front<K, G>
@@ -141,14 +155,11 @@ impl<K: Keeper, G: Gate> Front<K, G> {
     /// A new session, which was told nothing. None once [`MAX_SESSIONS`] were made. Takes no
     /// memory.
     pub fn session<R: Wait>(&self, rt: &R, alloc: Global) -> Option<Session>
-        ensures { IfSome result (λ session. session.told ≡ []) }
+        ensures told { IfSome result (λ session. session.told ≡ []) }
+        ensures few { IfSome result (λ session. session.number < MAX_SESSIONS) }
     {
         let mut made = self.sessions.lock(rt);
-        let number = *made;
-        if number >= MAX_SESSIONS {
-            return None;
-        }
-        *made = number + 1;
+        let number = next_number(&mut made)?;
         Some(Session::new(alloc, number))
     }
 

@@ -1,4 +1,10 @@
 //! The steps of a server behind its lock.
+ghost use Rattle.std.specs.Prelude.{◌≡◌, ◌≤◌, ◌++◌, ◌∷◌, ℕ, [], IfNone, IfOk, IfSome, IsSome, MatchOption, OnOk, OnSome, length};
+ghost use Rattle.lynx_server.specs.Acts.{act_of};
+ghost use Rattle.lynx_server.specs.Owed.{Acknowledges};
+ghost use Rattle.lynx_set.specs.Lookups.{server_at};
+ghost use Rattle.lynx_cluster.specs.inner.Serving.{AddsFound, AreOwed, AreOwedBetween, AreRising, HearsOf, IsDueOf, IsNotedIn, IsSender, NotesDone, OwesOnlyAt, Serves, TellsDone, was_done};
+
 use crate::cluster::is_of;
 use crate::gate::{Gate, Passage};
 use crate::post::Post;
@@ -35,12 +41,16 @@ pub struct Lent<K: Keeper, G: Gate> {
 }
 
 /// The hop of the message was done.
-fn is_done(delivered: &Delivered) -> bool {
+fn is_done(delivered: &Delivered) -> bool
+    ensures { result ≡ was_done delivered.now }
+{
     matches!(delivered, Delivered::Done { .. } | Delivered::Repeat { .. })
 }
 
 /// The server that sends the message of that hop of the chain, which was done at this one.
-fn sender_of<K: Keeper>(state: &Server<K>, chain: &ChainId, hop: u8) -> Option<ServerId> {
+fn sender_of<K: Keeper>(state: &Server<K>, chain: &ChainId, hop: u8) -> Option<ServerId>
+    ensures { IfSome result (IsSender state.now.set hop (act_of chain.now hop state.now.history)) }
+{
     let Some(Entry::Hop(ran)) = state.entry_of(*chain, hop) else {
         return None;
     };
@@ -49,30 +59,59 @@ fn sender_of<K: Keeper>(state: &Server<K>, chain: &ChainId, hop: u8) -> Option<S
 }
 
 /// Adds a receipt. One for which there is no memory is let go: the message comes again.
-fn note(served: &mut Served, receipt: Receipt) {
+fn note(served: &mut Served, receipt: Receipt)
+    ensures notes { IsNotedIn receipt served.old.receipts.items served.new.receipts.items }
+    ensures heard { served.new.heard ≡ served.old.heard }
+{
     let _ = served.receipts.push(receipt);
 }
 
-/// Wakes one held message of the server. False where there is none whose turn it is, or it can't be
-/// woken now.
-fn wake_next<K: Keeper>(alloc: Global, state: &mut Server<K>, served: &mut Served) -> bool {
-    if state.held().is_empty() {
+/// Adds a receipt for that server, where the hop was done. Whether it was.
+fn note_done(
+    served: &mut Served,
+    to: Option<ServerId>,
+    chain: ChainId,
+    hop: u8,
+    delivered: &Delivered,
+) -> bool
+    ensures done { result ≡ was_done delivered.now }
+    ensures notes { NotesDone to chain hop delivered.now served.old.receipts.items
+        served.new.receipts.items }
+    ensures heard { served.new.heard ≡ served.old.heard }
+{
+    if !is_done(delivered) {
+        return false;
+    }
+    if let Some(to) = to {
+        note(served, Receipt { to, chain, hop });
+    }
+    true
+}
+
+/// Wakes one held message of the server, if any may be woken. False where there is none whose turn
+/// it is, or it can't be woken now.
+fn wake_next<K: Keeper>(
+    alloc: Global,
+    state: &mut Server<K>,
+    may_wake: bool,
+    served: &mut Served,
+) -> bool
+    ensures done { TellsDone state.old.history served.old.receipts.items state.new.history
+        served.new.receipts.items }
+{
+    if !may_wake || state.held().is_empty() {
         return false;
     }
     let Some(woken) = state.wake(alloc) else {
         return false;
     };
     let (chain, hop) = (woken.chain, woken.hop);
-    match woken.delivered {
-        Delivered::Full | Delivered::Stopped | Delivered::Memory => false,
-        Delivered::Held | Delivered::Dropped | Delivered::Malformed => true,
-        Delivered::Done { .. } | Delivered::Repeat { .. } => {
-            if let Some(to) = sender_of(state, &chain, hop) {
-                note(served, Receipt { to, chain, hop });
-            }
-            true
-        }
-    }
+    let to = sender_of(state, &chain, hop);
+    note_done(served, to, chain, hop, &woken.delivered);
+    !matches!(
+        woken.delivered,
+        Delivered::Full | Delivered::Stopped | Delivered::Memory
+    )
 }
 
 /// Marks the message of that hop as acknowledged by its server. A note for which there is no memory
@@ -83,7 +122,12 @@ fn acknowledge<K: Keeper>(
     chain: &ChainId,
     hop: u8,
     served: &mut Served,
-) {
+)
+    ensures state { Acknowledges state.old chain.now hop state.new }
+    ensures heard { HearsOf from chain.now hop state.old.history served.old.heard.items
+        served.new.heard.items }
+    ensures receipts { served.new.receipts ≡ served.old.receipts }
+{
     state.acknowledge(*chain, hop);
     let Some(before) = hop.checked_sub(1) else {
         return;
@@ -94,24 +138,37 @@ fn acknowledge<K: Keeper>(
     }
 }
 
+/// Delivers a message that came from that server. Whether its hop was done.
+fn deliver_one<K: Keeper>(
+    alloc: Global,
+    state: &mut Server<K>,
+    from: ServerId,
+    message: Message,
+    served: &mut Served,
+) -> bool
+    ensures serves { Serves K.terms state.old (Parcel.Message message) state.new }
+    ensures done { TellsDone state.old.history served.old.receipts.items state.new.history
+        served.new.receipts.items }
+{
+    let (chain, hop) = (message.chain, message.hop);
+    let delivered = state.deliver(alloc, message);
+    note_done(served, Some(from), chain, hop, &delivered)
+}
+
 /// Does what a parcel asks. Whether a hop was done, for which a held message may wait.
 fn serve_one<K: Keeper>(
     alloc: Global,
     state: &mut Server<K>,
     arrived: Arrived,
     served: &mut Served,
-) -> bool {
+) -> bool
+    ensures serves { Serves K.terms state.old arrived.parcel state.new }
+    ensures done { TellsDone state.old.history served.old.receipts.items state.new.history
+        served.new.receipts.items }
+{
     let from = arrived.from;
     match arrived.parcel {
-        Parcel::Message(message) => {
-            let (chain, hop) = (message.chain, message.hop);
-            let is_done = is_done(&state.deliver(alloc, message));
-            if is_done {
-                let to = from;
-                note(served, Receipt { to, chain, hop });
-            }
-            is_done
-        }
+        Parcel::Message(message) => deliver_one(alloc, state, from, message, served),
         Parcel::Done { chain, hop } => {
             acknowledge(state, from, &chain, hop, served);
             false
@@ -144,8 +201,11 @@ fn step<K: Keeper>(
     inbox: &mut VecDeque<Arrived>,
     may_wake: bool,
     served: &mut Served,
-) -> Option<bool> {
-    if may_wake && wake_next(alloc, state, served) {
+) -> Option<bool>
+    ensures done { TellsDone state.old.history served.old.receipts.items state.new.history
+        served.new.receipts.items }
+{
+    if wake_next(alloc, state, may_wake, served) {
         return Some(true);
     }
     let arrived = inbox.pop_front()?;
@@ -160,6 +220,17 @@ fn brings_message(inbox: &VecDeque<Arrived>) -> bool {
         }
     }
     false
+}
+
+/// Adds a message that is owed. None where there is no memory for it.
+fn add(dues: &mut Vec<Due>, due: Due) -> Option<()>
+    ensures some { OnSome result (dues.new.items ≡ dues.old.items ++ due ∷ []) }
+    ensures none { IfNone result (dues.new.items ≡ dues.old.items) }
+{
+    match dues.push(due) {
+        Ok(()) => Some(()),
+        Err(_) => None,
+    }
 }
 
 impl<K: Keeper, G: Gate> Lent<K, G> {
@@ -183,7 +254,11 @@ impl<K: Keeper, G: Gate> Lent<K, G> {
     }
 
     /// The message with the server that it is for.
-    fn due(&self, place: u64, message: Message) -> Option<Due> {
+    fn due(&self, place: u64, message: Message) -> Option<Due>
+        ensures due { IfSome result (IsDueOf self.now.set place message) }
+        ensures found { IsSome (server_at self.now.set message.program message.hop)
+            → IsSome result }
+    {
         let hop = self.set.hop(message.program, usize::from(message.hop))?;
         Some(Due {
             place,
@@ -201,16 +276,48 @@ impl<K: Keeper, G: Gate> Lent<K, G> {
         from: u64,
         most: usize,
         dues: &mut Vec<Due>,
-    ) -> Option<u64> {
+    ) -> Option<u64>
+        requires set { state.now.set ≡ self.now.set }
+        requires empty { dues.old.items ≡ [] }
+        requires within { from ≤ length state.now.history }
+        ensures owed { MatchOption result
+            ((next : ℕ) × AreOwedBetween state.now from dues.new.items next)
+            (λ len. (len ≡ length state.now.history)
+            × AreOwedBetween state.now from dues.new.items len) }
+    {
+        let len = state.history().len() as u64;
         let mut next = from;
         for _ in 0..most {
-            let Some((place, message)) = state.messages_due(alloc, next).ok()? else {
-                return Some(state.history().len() as u64);
+            let Ok(found) = state.messages_due(alloc, next) else {
+                return None;
             };
-            dues.push(self.due(place, message)?).ok()?;
+            let Some((place, message)) = found else {
+                return Some(len);
+            };
+            let due = self.due(place, message)?;
+            add(dues, due)?;
             next = place.saturating_add(1);
         }
         None
+    }
+
+    /// Adds the message that was found at a place, if it is the place that was asked for.
+    fn add_found(
+        &self,
+        place: u64,
+        found: u64,
+        message: Message,
+        dues: &mut Vec<Due>,
+    ) -> Result<(), Memory>
+        ensures { OnOk result (AddsFound self.now.set place found message dues.old.items
+            dues.new.items) }
+    {
+        if found != place {
+            return Ok(());
+        }
+        let due = self.due(found, message).ok_or(Memory)?;
+        dues.push(due)?;
+        Ok(())
     }
 
     /// The messages of those of these places that still owe one. What lies before the first that is
@@ -220,7 +327,13 @@ impl<K: Keeper, G: Gate> Lent<K, G> {
         alloc: Global,
         state: &Server<K>,
         places: &[u64],
-    ) -> Result<Vec<Due>, Memory> {
+    ) -> Result<Vec<Due>, Memory>
+        requires { state.now.set ≡ self.now.set }
+        ensures owed { IfOk result (λ dues. AreOwed state.now dues.items) }
+        // None of the places that still owe one is passed over.
+        ensures all { AreRising places.now → IfOk result (λ dues. OwesOnlyAt state.now places.now
+            dues.items) }
+    {
         let mut dues = Vec::with_capacity(alloc, places.len())?;
         let mut clear: u64 = 0;
         for place in places {
@@ -228,14 +341,10 @@ impl<K: Keeper, G: Gate> Lent<K, G> {
                 continue;
             }
             let Some((found, message)) = state.messages_due(alloc, *place)? else {
-                break;
+                return Ok(dues);
             };
             clear = found;
-            if found == *place {
-                if let Some(due) = self.due(found, message) {
-                    dues.push(due)?;
-                }
-            }
+            self.add_found(*place, found, message, &mut dues)?;
         }
         Ok(dues)
     }
@@ -248,7 +357,10 @@ impl<K: Keeper, G: Gate> Lent<K, G> {
         state: &mut Server<K>,
         inbox: &mut VecDeque<Arrived>,
         served: &mut Served,
-    ) {
+    )
+        ensures done { TellsDone state.old.history served.old.receipts.items state.new.history
+            served.new.receipts.items }
+    {
         let since = Instant::now(rt).ok();
         let mut may_wake = true;
         for _ in 0..MOST_STEPS {

@@ -1,4 +1,7 @@
 //! What a worker sends to one server.
+ghost use Rattle.std.specs.Prelude.{◌≡◌, MatchBool, None, Some, unwrap_or};
+ghost use Rattle.lynx_cluster.specs.inner.Sending.{SendsNothing, SendsTo};
+
 use crate::resending::{Passes, Reach};
 use crate::steps::{Due, Owed, Steps};
 use crate::unheard::Unheard;
@@ -27,7 +30,10 @@ pub(crate) struct Route {
 
 /// Whether the ring to that server took the parcel. One that it didn't take is dropped: what it
 /// tells comes again.
-pub(crate) fn offer(ends: &mut Ends, to: ServerId, parcel: Parcel) -> bool {
+pub(crate) fn offer(ends: &mut Ends, to: ServerId, parcel: Parcel) -> bool
+    ensures { MatchBool result (SendsTo ends.old to parcel ends.new)
+        (SendsNothing ends.old ends.new) }
+{
     match ends.sender(to) {
         Some(sender) => sender.offer(parcel).is_ok(),
         None => false,
@@ -109,12 +115,24 @@ impl Route {
 
     /// Sends a message, if the route doesn't lag. Where its ring is full, or there is no memory to
     /// note it, the route lags from there on. Whether it was sent.
-    pub(crate) fn send(&mut self, ends: &mut Ends, due: Due) -> bool {
+    pub(crate) fn send(&mut self, ends: &mut Ends, due: Due) -> bool
+        // Sent is just that message, to just that server; or nothing is, and it isn't forgotten.
+        ensures sent { MatchBool result
+            (SendsTo ends.old self.old.to (Parcel.Message due.message) ends.new)
+            (SendsNothing ends.old ends.new) }
+        ensures lags { MatchBool result (self.new.lags_at ≡ None)
+            (self.new.lags_at ≡ Some (unwrap_or self.old.lags_at due.place)) }
+        ensures to { self.new.to ≡ self.old.to }
+    {
         if self.lags_at.is_some() {
             return false;
         }
         let place = due.place;
-        if self.unheard.reserve().is_err() || !offer(ends, self.to, Parcel::Message(due.message)) {
+        if self.unheard.reserve().is_err() {
+            self.lags_at = Some(place);
+            return false;
+        }
+        if !offer(ends, self.to, Parcel::Message(due.message)) {
             self.lags_at = Some(place);
             return false;
         }

@@ -1,5 +1,7 @@
 //! Workers: one thread for each server, which sends what the server owes and delivers what comes
 //! in.
+ghost use Rattle.lynx_cluster.specs.inner.Sending.{TellsOf};
+
 use crate::rest::{pause, rest};
 use crate::route::{Route, offer};
 use crate::steps::{Arrived, Heard, Owed, Receipt, Steps};
@@ -43,6 +45,20 @@ fn routes(alloc: Global, servers: u8) -> Result<Vec<Route>, Memory> {
         }
     }
     Ok(routes)
+}
+
+/// Tells the senders of these hops that they were done, and sends nothing else. A receipt whose
+/// ring is full is let go: the message comes again.
+fn tell(ends: &mut Ends, receipts: &[Receipt])
+    ensures { TellsOf receipts.now ends.old ends.new }
+{
+    for receipt in receipts {
+        let parcel = Parcel::Done {
+            chain: receipt.chain,
+            hop: receipt.hop,
+        };
+        let _ = offer(ends, receipt.to, parcel);
+    }
 }
 
 impl<S: Steps> Worker<S> {
@@ -140,18 +156,6 @@ impl<S: Steps> Worker<S> {
         !self.inbox.is_empty()
     }
 
-    /// Tells the senders of these hops that they were done. A receipt whose ring is full is let go:
-    /// the message comes again.
-    fn acknowledge(&mut self, receipts: Vec<Receipt>) {
-        for receipt in receipts {
-            let parcel = Parcel::Done {
-                chain: receipt.chain,
-                hop: receipt.hop,
-            };
-            let _ = offer(&mut self.ends, receipt.to, parcel);
-        }
-    }
-
     /// Notes which messages were acknowledged.
     fn hear(&mut self, heard: Vec<Heard>) {
         for heard in heard {
@@ -165,7 +169,7 @@ impl<S: Steps> Worker<S> {
     /// be held. Whether there was any.
     fn serve<R: Wait + Clock>(&mut self, rt: &R, alloc: Global) -> bool {
         let served = self.steps.serve(rt, alloc, &mut self.inbox);
-        self.acknowledge(served.receipts);
+        tell(&mut self.ends, served.receipts.as_slice());
         self.hear(served.heard);
         served.is_busy
     }

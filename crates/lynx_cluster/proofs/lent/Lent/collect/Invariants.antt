@@ -1,0 +1,9 @@
+use Rattle.std.proofs.Common.{◌≤◌, length}
+use Rattle.lynx_cluster.specs.inner.Serving.{AreOwedBetween}
+use Rattle.lynx_cluster.proofs.lent.Lent.collect.Given as goal
+
+abbrev pub invariant-loop : goal.invariant-loop
+invariant-loop g l = record {
+  owed : AreOwedBetween l.state l.from l.dues.items l.next;
+  within : l.next ≤ length l.state.history;
+}

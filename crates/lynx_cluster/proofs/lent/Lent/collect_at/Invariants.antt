@@ -1,0 +1,5 @@
+use Rattle.lynx_cluster.proofs.Owings.{AreGoneOver}
+use Rattle.lynx_cluster.proofs.lent.Lent.collect_at.Given as goal
+
+abbrev pub invariant-loop-place : goal.invariant-loop-place
+invariant-loop-place g l = AreGoneOver l.state l.places l.place-index l.clear l.dues.items

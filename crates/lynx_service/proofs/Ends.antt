@@ -1,10 +1,23 @@
 -- How a service ends well.
-use Rattle.std.proofs.Common.{◌≡◌, ◌++◌, ℕ, List, Option, Result, Ok, Err, subst}
+use Rattle.std.proofs.Common.{◌≡◌, ◌∙◌, ◌++◌, ℕ, List, Option, Result, Ok, Err, sym, subst}
 use Rattle.std.specs.Prelude.{IfOk, OnOk}
 use Rattle.std.specs.Io.KnownBytes.{Appends}
 use Rattle.std.proofs.KnownBytes.{Appends-trans}
 use Rattle.lynx_order.specs.declared.explained.Explained.{Explained}
+use Rattle.lynx_cluster.specs.Closing.{IsClosed}
+use Rattle.lynx_cluster.specs.Clusters.{ClusterState}
+use Rattle.lynx_cluster.specs.Sessions.{SessionState}
+use Rattle.lynx_cluster.specs.Starting.{AreOpened, Starts}
+use Rattle.lynx_graph.specs.Acceptance.{IsAccepted}
+use Rattle.lynx_keep.specs.Kept.{Terms}
+use Rattle.lynx_promises.proofs.Promised.{promised}
+use Rattle.lynx_server.specs.Serving.{Serving}
+use Rattle.lynx_set.specs.Home.{AreLiteralsHome}
 use Rattle.lynx_set.specs.Set.{Set}
+use Rattle.lynx_set.proofs.Literals.{literals_home}
+use Rattle.lynx_weave.specs.Senders.{AreAllSent}
+use Rattle.lynx_weave.specs.Servers.{histories_of}
+use Rattle.lynx_world.specs.Legal.{IsLegal}
 use Rattle.lynx_world.specs.Worlds.{WorldState}
 use Rattle.lynx_service.specs.declared.fault.ServeFault.{ServeFault}
 use Rattle.lynx_service.specs.Services.{AppendsSome, HasServed, IsEnded, last_lines}
@@ -13,14 +26,30 @@ use Rattle.lynx_service.specs.Services.{AppendsSome, HasServed, IsEnded, last_li
 pub of_ok : {T : Type 0} {E : Type 0} (result : Result T E) (value : T) (fact : Type 0) → result ≡ Ok value → OnOk result fact → fact
 of_ok result value fact same given = subst (λ r. OnOk r fact) same given
 
--- the end over a world of the set, behind what was written before
-pub ends_well : (set : Set) (old middle new : Option (List ℕ)) (world : WorldState) (result : Result Explained ServeFault) → world.set ≡ set →
-    AppendsSome old middle → IfOk result (IsEnded world middle new) → IfOk result (HasServed set old new)
-ends_well set old middle new world (Ok explained) of_set first ended = record {
-  world = world;
-  of_set = of_set;
-  first = first.0;
-  right = ended.right;
-  written = Appends-trans old middle new first.0 (last_lines explained) first.1 ended.written;
-}
-ends_well set old middle new world (Err fault) of_set first ended = tt
+-- a cluster of opened servers that was closed, and the end over its world, behind what was written before
+pub ends_well : {K : Type 0} (terms : Terms K) (set opened_set : Set) (before : List K) (servers : List (Serving K)) (cluster : ClusterState) (sessions : List SessionState) (keepers : List K)
+    (old middle new : Option (List ℕ)) (world : WorldState) (result : Result Explained ServeFault) →
+    opened_set ≡ set → AreOpened terms set before servers → AreAllSent opened_set (histories_of servers) → Starts opened_set servers cluster → IsClosed terms cluster sessions world keepers →
+    AppendsSome old middle → IfOk result (IsEnded world middle new) → IfOk result (HasServed terms set old new)
+ends_well terms set opened_set before servers cluster sessions keepers old middle new world (Ok explained) same opened sent began closed first ended =
+    let started : Starts set servers cluster = subst (λ s. Starts s servers cluster) same began in
+    let of_set : world.set ≡ set = closed.woven.set_is ∙ started.set_is in
+    let legal = subst (λ s. IsLegal s world.list) started.set_is closed.woven.list_is.legal in
+    record {
+      before = before;
+      servers = servers;
+      opened = opened;
+      sent = subst (λ s. AreAllSent s (histories_of servers)) same sent;
+      cluster = cluster;
+      started = started;
+      sessions = sessions;
+      keepers = keepers;
+      world = world;
+      closed = closed;
+      promises = λ is. promised set world.list is legal;
+      right = ended.right;
+      ordered = λ is accepted. ended.right.accepted (subst AreLiteralsHome (sym of_set) (literals_home set is)) (subst IsAccepted (sym of_set) accepted);
+      first = first.0;
+      written = Appends-trans old middle new first.0 (last_lines explained) first.1 ended.written;
+    }
+ends_well terms set opened_set before servers cluster sessions keepers old middle new world (Err fault) same opened sent began closed first ended = tt

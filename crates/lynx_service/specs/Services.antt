@@ -1,13 +1,23 @@
 -- How a service ends well.
 use Rattle.std.specs.Prelude.{◌≡◌, ◌++◌, ℕ, List, Option, codes}
 use Rattle.std.specs.Io.KnownBytes.{Appends}
+use Rattle.lynx_cluster.specs.Closing.{IsClosed}
+use Rattle.lynx_cluster.specs.Clusters.{ClusterState}
+use Rattle.lynx_cluster.specs.Sessions.{SessionState}
+use Rattle.lynx_cluster.specs.Starting.{AreOpened, Starts}
 use Rattle.lynx_graph.specs.Acceptance.{IsAccepted}
+use Rattle.lynx_keep.specs.Kept.{Terms}
 use Rattle.lynx_order.specs.declared.explained.Explained.{Explained}
 use Rattle.lynx_order.specs.declared.explained.Explained.TheVariants.{Order, Cycle}
 use Rattle.lynx_order.specs.Explained.{CycleIsRight, GivesOrder, OrderIsRight}
 use Rattle.lynx_lines.specs.Printed.{chains_text}
 use Rattle.lynx_set.specs.Home.{AreLiteralsHome}
+use Rattle.lynx_promises.specs.Promises.{KeepsPromises}
+use Rattle.lynx_server.specs.Serving.{Serving}
+use Rattle.lynx_set.specs.Rules.{IsSet}
 use Rattle.lynx_set.specs.Set.{Set}
+use Rattle.lynx_weave.specs.Senders.{AreAllSent}
+use Rattle.lynx_weave.specs.Servers.{histories_of}
 use Rattle.lynx_lex.specs.Lines.{with_feed}
 use Rattle.lynx_world.specs.Worlds.{WorldState}
 
@@ -33,11 +43,24 @@ pub record IsEnded (world : WorldState) (old new : Option (List ℕ)) (explained
 abbrev pub AppendsSome : Option (List ℕ) → Option (List ℕ) → Type 0
 AppendsSome old new = (some : List ℕ) × Appends old new some
 
--- A service over that set: what was written of it, whatever it was, then its end over a world of
--- the set.
-pub record HasServed (set : Set) (old new : Option (List ℕ)) (explained : Explained) : Type 0 where
+-- A service over that set. Its servers were opened over keepers, each with a lawful history, and
+-- all that ran there was sent; a cluster of them was started, and closed: its world is just what
+-- the keepers keep then, and all that the sessions were told stands in it. That world has all
+-- promises, and what explains it is written last, behind whatever was written before.
+pub record HasServed {K : Type 0} (terms : Terms K) (set : Set) (old new : Option (List ℕ))
+    (explained : Explained) : Type 0 where
+  pub before : List K
+  pub servers : List (Serving K)
+  pub opened : AreOpened terms set before servers
+  pub sent : AreAllSent set (histories_of servers)
+  pub cluster : ClusterState
+  pub started : Starts set servers cluster
+  pub sessions : List SessionState
+  pub keepers : List K
   pub world : WorldState
-  pub of_set : world.set ≡ set
-  pub first : List ℕ
+  pub closed : IsClosed terms cluster sessions world keepers
+  pub promises : IsSet set → KeepsPromises set world.list
   pub right : IsExplainedBy world explained
+  pub ordered : IsSet set → IsAccepted set → GivesOrder explained
+  pub first : List ℕ
   pub written : Appends old new (first ++ last_lines explained)

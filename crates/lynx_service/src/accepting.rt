@@ -6,6 +6,7 @@ use crate::limits::RETRY_MILLIS;
 use crate::talking::talk;
 use lynx_cluster::{Front, Gate, Session};
 use lynx_keep::Keeper;
+use lynx_notice::Board;
 use std::alloc::Global;
 use std::net::{Net, SocketAddr, TcpListener, TcpStream};
 use std::sync::Wait;
@@ -15,7 +16,8 @@ use std::time::{Clock, Duration};
 
 /// Serves clients at the listener until one asks for the end and all have gone, and gives their
 /// sessions back. Each has a thread of its own. One for which there is no thread is hung up on, and
-/// so is each beyond [`MAX_CLIENTS`](crate::limits::MAX_CLIENTS).
+/// so is each beyond [`MAX_CLIENTS`](crate::limits::MAX_CLIENTS). Once the end is asked for, the
+/// board's notice is taken down.
 pub(crate) fn serve_clients<
     R: Threads + Wait + Clock + Sync + Net<Listener = TcpListener, Stream = TcpStream>,
     K: Keeper + Send + Drop,
@@ -26,6 +28,7 @@ pub(crate) fn serve_clients<
     front: &Front<K, G>,
     listener: &TcpListener,
     port: SocketAddr,
+    board: &Board<'_>,
 ) -> Vec<Session> {
     let shared = Hall::new(alloc);
     let hall = &shared;
@@ -51,6 +54,7 @@ pub(crate) fn serve_clients<
                     hall.leave(rt, None);
                 }
             }
+            board.take_down();
             hall.close();
         },
     );

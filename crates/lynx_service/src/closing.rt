@@ -53,8 +53,8 @@ fn last_lines(alloc: Global, explained: &Explained) -> Result<Vec<u8>, ServeFaul
     Ok(lines)
 }
 
-/// What explains the world, and the last lines that tell it.
-fn last_words(alloc: Global, world: &World) -> Result<(Explained, Vec<u8>), ServeFault>
+/// What explains the world, and the last lines of a service that tell it. Nothing is written.
+pub fn last_words(alloc: Global, world: &World) -> Result<(Explained, Vec<u8>), ServeFault>
     ensures { IfOk result (λ words. IsExplainedBy world.now words.0
         × (words.1.items ≡ last_lines words.0)) }
 {

@@ -62,6 +62,9 @@ pub enum ServeFault {
     /// The port can't be listened at.
     #[error("cannot listen")]
     Listen,
+    /// The file by which clients find the service can't be made in its folder.
+    #[error("cannot write the file service")]
+    Board,
     /// No thread could be made for a server.
     #[error("no thread")]
     NoThread,

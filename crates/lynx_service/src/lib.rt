@@ -3,6 +3,7 @@
 //! is closed, which audits what all were told.
 #![tactic(auto)]
 
+pub use closing::last_words;
 pub use desk::ClientDesk;
 pub use ending::Ending;
 pub use fault::{CloseWord, Damage, ServeFault, StoreWord};
@@ -13,7 +14,7 @@ pub use progress::Progress;
 pub use service::{Service, serve_stores};
 
 mod accepting;
-mod closing;
+pub mod closing;
 pub mod desk;
 pub mod ending;
 pub mod fault;

@@ -1,5 +1,6 @@
 //! A service, from its stores to its audit.
-ghost use Rattle.std.specs.Prelude.{◌≡◌, IfOk, OnOk};
+ghost use Rattle.std.specs.Prelude.{◌≡◌, List, IfOk, OnOk};
+ghost use Rattle.lynx_cluster.specs.Starting.{AreOpened};
 ghost use Rattle.lynx_weave.specs.Senders.{AreAllSent};
 ghost use Rattle.lynx_weave.specs.Servers.{AreServersOf, histories_of};
 ghost use Rattle.lynx_service.specs.Services.{AppendsSome, HasServed};
@@ -12,11 +13,12 @@ use crate::progress::Progress;
 use lynx_cluster::{Cluster, Host, OpenGate, Opened, Session};
 use lynx_keep::Keeper;
 use lynx_lines::write_bytes;
+use lynx_notice::Board;
 use lynx_order::Explained;
 use lynx_set::ChainSet;
 use lynx_store_files::Stores;
 use std::alloc::Global;
-use std::io::Write;
+use std::io::{ErrorKind, Write};
 use std::net::{Net, SocketAddr, TcpListener, TcpStream};
 use std::sync::Wait;
 use std::thread::Threads;
@@ -31,14 +33,20 @@ pub struct Service<'a> {
     pub port: u16,
 }
 
-/// Writes that clients are listened to, and where.
+/// Tells clients that they are listened to, and where: by the board, and by a line.
 fn write_listening<W: Write>(
     alloc: Global,
     address: SocketAddr,
+    board: &Board<'_>,
     writer: &mut W,
 ) -> Result<(), ServeFault>
     ensures { OnOk result (AppendsSome (W.contents writer.old) (W.contents writer.new)) }
 {
+    match board.put_up(address) {
+        Ok(()) => {}
+        Err(error) if error.kind() == ErrorKind::OutOfMemory => return Err(ServeFault::Memory),
+        Err(_) => return Err(ServeFault::Board),
+    }
     let line = format!(in alloc; "listening {address}\n")?;
     write_bytes(writer, line.as_bytes())?;
     match writer.flush() {
@@ -47,7 +55,8 @@ fn write_listening<W: Write>(
     }
 }
 
-/// Serves clients once it is written that they are listened to, and gives their sessions back.
+/// Serves clients once it is told that they are listened to, and gives their sessions back. In the
+/// end nothing is told on the board.
 fn serve_when_told<
     R: Threads + Wait + Clock + Sync + Net<Listener = TcpListener, Stream = TcpStream>,
     K: Keeper + Send + Drop,
@@ -58,14 +67,18 @@ fn serve_when_told<
     cluster: &Cluster<K, OpenGate>,
     listener: &TcpListener,
     address: SocketAddr,
+    board: &Board<'_>,
     writer: &mut W,
 ) -> (Vec<Session>, Result<(), ServeFault>)
     ensures { OnOk result.1 (AppendsSome (W.contents writer.old) (W.contents writer.new)) }
 {
-    let written = write_listening(alloc, address, writer);
+    let written = write_listening(alloc, address, board, writer);
     let sessions = match written {
-        Ok(()) => serve_clients(rt, alloc, cluster.front(), listener, address),
-        Err(_) => Vec::new(alloc),
+        Ok(()) => serve_clients(rt, alloc, cluster.front(), listener, address, board),
+        Err(_) => {
+            board.take_down();
+            Vec::new(alloc)
+        }
     };
     (sessions, written)
 }
@@ -86,6 +99,8 @@ fn open_all<
 ) -> Result<(Opened<K>, TcpListener, SocketAddr), ServeFault>
     ensures set { IfOk result (λ all. all.0.set ≡ set.now) }
     ensures servers { IfOk result (λ all. AreServersOf all.0.set all.0.servers.items) }
+    ensures opened { IfOk result (λ all. (keepers : List K)
+        × AreOpened K.terms set.now keepers all.0.servers.items) }
     ensures sent { IfOk result (λ all. AreAllSent all.0.set (histories_of all.0.servers.items)) }
 {
     let mut places = places(alloc, set, stores, service.folder)?;
@@ -109,10 +124,11 @@ fn open_all<
 
 /// Serves clients over the stores of a folder, until one of them asks for the end: opens the stores
 /// that are there, side by side; listens at the port; makes the stores of a new folder; looks
-/// whether all stores fit together; writes `listening 127.0.0.1:PORT`, and in the end `closed` and
-/// the line of the order that explains all that the stores hold, or of a cycle. It gives that order
-/// or cycle. docs/FORMATS.md has what clients send and are sent, [`limits`](crate::limits) what a
-/// client may cost. The set is not judged.
+/// whether all stores fit together; tells on the board where it listens and what it serves, and
+/// writes `listening 127.0.0.1:PORT`; takes the board's notice down as soon as a shut was read; and
+/// writes in the end `closed` and the line of the order that explains all that the stores hold, or
+/// of a cycle. It gives that order or cycle. docs/FORMATS.md has what clients send and are sent,
+/// [`limits`](crate::limits) what a client may cost. The set is not judged.
 ///
 /// Stores that no one run left together are a mismatch, before anybody is served: one that is an
 /// older copy, say. Where the folder has stores with entries, and that of another server isn't
@@ -133,14 +149,18 @@ pub fn serve_stores<
     service: Service<'_>,
     writer: &mut W,
     progress: &Progress<'_>,
+    board: &Board<'_>,
 ) -> Result<Explained, ServeFault>
-    ensures { IfOk result (HasServed set.now (W.contents writer.old) (W.contents writer.new)) }
+    ensures { IfOk result (HasServed K.terms set.now
+        (W.contents writer.old) (W.contents writer.new)) }
 {
     let opened = open_all(&rt, alloc, set, stores, service, progress);
     progress.ends();
     let (opened, listener, address) = opened?;
     let cluster = opened.start(rt, alloc, OpenGate)?;
-    let (sessions, written) = serve_when_told(&rt, alloc, &cluster, &listener, address, writer);
+    let (sessions, written) = serve_when_told(
+        &rt, alloc, &cluster, &listener, address, board, writer,
+    );
     drop(listener);
     progress.closes();
     let closed = cluster.close(&rt, alloc, sessions);

@@ -9,7 +9,7 @@ use Rattle.lynx_graph.specs.declared.edges.Edge.{Edge}
 use Rattle.lynx_graph.specs.declared.members.Member.{Member}
 use Rattle.lynx_graph.specs.Groups.{begin_at_one_server, group_of, leader_of, leaders_of}
 use Rattle.lynx_draw.specs.declared.boxes.Boxes.{Boxes}
-use Rattle.lynx_draw.specs.declared.boxes.TheConstants.{BEGIN, BOX, LABEL, MAX_LINED, PAIRS, ROW, UNSEEN}
+use Rattle.lynx_draw.specs.Captions.{begin_words, box_start, label_start, pair_words, unseen_end}
 use Rattle.lynx_draw.specs.Clusters.{cluster_text}
 use Rattle.lynx_draw.specs.Nodes.{spot_at}
 use Rattle.lynx_draw.specs.Spots.{spot_text}
@@ -19,7 +19,7 @@ use Rattle.lynx_draw.specs.declared.spot.Spot.{Spot}
 -- one server
 abbrev pub is_large : Set → List Member → ℕ → Bool
 is_large set members leader =
-    nat_lt MAX_LINED (length (group_of members leader)) && begin_at_one_server set leader
+    nat_lt 10 (length (group_of members leader)) && begin_at_one_server set leader
     (group_of members leader)
 
 -- these programs with their leaders, and the leaders of the large groups
@@ -45,12 +45,12 @@ origin_text set leader = option_map_or decimal (origin_of set leader) []
 -- conflict
 abbrev pub box_label : Set → Boxes → List Edge → ℕ → ℕ → List ℕ
 box_label set boxes edges leader programs =
-    decimal programs ++ BEGIN.now ++ origin_text set leader ++ codes ": "
-    ++ decimal (length (edges_in boxes edges leader)) ++ PAIRS.now
+    decimal programs ++ begin_words ++ origin_text set leader ++ codes ": "
+    ++ decimal (length (edges_in boxes edges leader)) ++ pair_words
 
 abbrev pub box_head : Set → Boxes → List Edge → ℕ → ℕ → List ℕ
 box_head set boxes edges leader programs =
-    BOX.now ++ program_name set leader ++ LABEL.now ++ box_label set boxes edges leader programs
+    box_start ++ program_name set leader ++ label_start ++ box_label set boxes edges leader programs
     ++ codes "\";\n"
 
 -- the programs of a box, each once
@@ -66,11 +66,11 @@ last_spot set program = spot_at program (length (hops_of set program) - 1) false
 abbrev pub below_line : Set → ℕ × ℕ → List ℕ
 below_line set pair =
     codes "    " ++ spot_text set (last_spot set pair.0) ++ codes " -> "
-    ++ spot_text set (spot_at pair.1 0 false) ++ UNSEEN.now
+    ++ spot_text set (spot_at pair.1 0 false) ++ unseen_end
 
 -- each program with the one that stands a row below it
 abbrev pub rows_of : List ℕ → List (ℕ × ℕ)
-rows_of programs = zip programs (drop ROW programs)
+rows_of programs = zip programs (drop 7 programs)
 
 abbrev pub rows_text : Set → List ℕ → List ℕ
 rows_text set programs = flat_map (below_line set) (rows_of programs)

@@ -1,3 +1,4 @@
+pub mod Captions
 pub mod Tables
 pub mod Spots
 pub mod Steps

@@ -4,7 +4,7 @@ use Rattle.lynx_set.specs.Set.{Set}
 use Rattle.lynx_check.specs.declared.verdict.Verdict.{Verdict}
 use Rattle.lynx_graph.specs.declared.visit.Visit.{Visit}
 use Rattle.lynx_check.specs.declared.verdict.Verdict.TheVariants.{Accepted, Offending}
-use Rattle.lynx_draw.specs.declared.picture.TheConstants.{HEAD, ACCEPTED, EXCUSED, OFFENDING, LEGEND, CONFLICTS, EXCUSED_STEPS, STEPS}
+use Rattle.lynx_draw.specs.Captions.{accepted_text, conflict_style, excused_style, excused_text, head_text, legend_text, offending_text, walk_style}
 use Rattle.lynx_graph.specs.declared.edges.Edge.{Edge}
 use Rattle.lynx_draw.specs.declared.steps.Step.{Step}
 use Rattle.lynx_graph.specs.Edges.{edges_of}
@@ -20,13 +20,13 @@ use Rattle.lynx_draw.specs.Lines.{conflict_lines, step_lines}
 
 -- an accepted set has a closed walk that is excused, or none
 abbrev pub accepted_caption : Option (List Visit) → List ℕ
-accepted_caption None = ACCEPTED.now
-accepted_caption (Some walk) = EXCUSED.now
+accepted_caption None = accepted_text
+accepted_caption (Some walk) = excused_text
 
 -- the verdict, which stands below it
 abbrev pub caption : Verdict → List ℕ
 caption (Accepted own) = accepted_caption own.excused
-caption (Offending walk blocks) = OFFENDING.now
+caption (Offending walk blocks) = offending_text
 
 -- the steps of the closed walk that offends, excused or not
 abbrev pub steps_in : List Edge → Verdict → List Step
@@ -34,19 +34,19 @@ steps_in edges verdict = steps_of edges (walk_in verdict)
 
 -- how steps are drawn: those of an excused walk in the colour of an excuse
 abbrev pub accepted_style : Option (List Visit) → List ℕ
-accepted_style None = STEPS.now
-accepted_style (Some walk) = EXCUSED_STEPS.now
+accepted_style None = walk_style
+accepted_style (Some walk) = excused_style
 
 abbrev pub style_of : Verdict → List ℕ
 style_of (Accepted own) = accepted_style own.excused
-style_of (Offending walk blocks) = STEPS.now
+style_of (Offending walk blocks) = walk_style
 
 -- the programs, the conflicts by which no step goes, and the steps
 abbrev pub picture_with : Extent → Set → Verdict → Boxes → List Edge → List Step → List ℕ
 picture_with shown set verdict boxes edges steps =
-    HEAD.now ++ caption verdict ++ LEGEND.now
+    head_text ++ caption verdict ++ legend_text
     ++ programs_text set boxes edges (shown_programs shown set verdict)
-    ++ CONFLICTS.now ++ conflict_lines set steps (shown_edges shown verdict boxes edges)
+    ++ conflict_style ++ conflict_lines set steps (shown_edges shown verdict boxes edges)
     ++ style_of verdict ++ step_lines set 1 steps ++ codes "}\n"
 
 -- the same where programs have these leaders

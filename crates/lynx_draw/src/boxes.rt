@@ -6,6 +6,7 @@ ghost use Rattle.std.specs.List.{flat_map, list_any};
 ghost use Rattle.lynx_graph.specs.Groups.{leader_of};
 ghost use Rattle.lynx_draw.specs.Boxes.{below_line, box_head, box_label, box_text, boxed_programs, boxes_of, edges_in, is_boxed, is_large, last_spot, origin_text, rows_of};
 
+use crate::captions::{begin_words, box_start, label_start, pair_words, unseen_end};
 use crate::clusters::put_cluster;
 use crate::nodes::spot_at;
 use crate::spot::{Spot, put_spot};
@@ -20,18 +21,6 @@ const MAX_LINED: usize = 10;
 
 /// The programs that stand side by side in a box.
 const ROW: usize = 7;
-
-/// The parts of a box's first lines.
-const BOX: &[u8] = b"  subgraph \"cluster group of ";
-
-const LABEL: &[u8] = b"\" {\n    label=\"";
-
-const BEGIN: &[u8] = b" programs that begin at server ";
-
-const PAIRS: &[u8] = b" pairs of their hops may conflict, and are not drawn";
-
-/// The end of an arrow that isn't seen.
-const UNSEEN: &[u8] = b" [style=invis];\n";
 
 /// The programs of a set with their leaders, and the leaders of its large groups.
 #[derive(Debug, Drop)]
@@ -133,11 +122,11 @@ fn put_label(
         ++ box_label set.now boxes.now edges.now leader programs) }
 {
     put_number(alloc, out, programs as u64)?;
-    out.extend_from_slice(BEGIN)?;
+    out.extend_from_slice(begin_words())?;
     put_origin(alloc, out, set, leader)?;
     out.extend_from_slice(b": ".as_slice())?;
     put_number(alloc, out, count_edges(boxes, edges, leader) as u64)?;
-    out.extend_from_slice(PAIRS)?;
+    out.extend_from_slice(pair_words())?;
     Ok(())
 }
 
@@ -154,9 +143,9 @@ fn put_head(
     ensures { OnOk result (out.new.items ≡ out.old.items
         ++ box_head set.now boxes.now edges.now leader programs) }
 {
-    out.extend_from_slice(BOX)?;
+    out.extend_from_slice(box_start())?;
     out.extend_from_slice(set.program_name(leader))?;
-    out.extend_from_slice(LABEL)?;
+    out.extend_from_slice(label_start())?;
     put_label(alloc, out, set, boxes, edges, leader, programs)?;
     out.extend_from_slice(b"\";\n".as_slice())?;
     Ok(())
@@ -210,7 +199,7 @@ fn put_below(
     put_spot(alloc, out, set, &last_spot(set, pair.0))?;
     out.extend_from_slice(b" -> ".as_slice())?;
     put_spot(alloc, out, set, &spot_at(pair.1, 0, false))?;
-    out.extend_from_slice(UNSEEN)?;
+    out.extend_from_slice(unseen_end())?;
     Ok(())
 }
 

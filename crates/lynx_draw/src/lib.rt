@@ -6,6 +6,7 @@ pub use picture::draw;
 pub use shown::Extent;
 
 mod boxes;
+mod captions;
 mod clusters;
 pub mod colours;
 mod lines;

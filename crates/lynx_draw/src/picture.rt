@@ -10,6 +10,10 @@ ghost use Rattle.lynx_draw.specs.Programs.{programs_text};
 ghost use Rattle.lynx_draw.specs.Shown.{shown_edges, shown_programs};
 
 use crate::boxes::{Boxes, boxes_of};
+use crate::captions::{
+    accepted_text, conflict_style, excused_style, excused_text, head_text, legend_text,
+    offending_text, walk_style,
+};
 use crate::lines::{put_conflicts, put_steps};
 use crate::programs::put_programs;
 use crate::shown::{Extent, shown_edges, shown_programs, walk_in};
@@ -20,43 +24,15 @@ use lynx_names::{Items, Memory};
 use lynx_set::ChainSet;
 use std::alloc::Global;
 
-/// How all of it is drawn.
-const HEAD: &[u8] =
-    b"digraph lynx {\n  graph [fontname=\"Helvetica\", fontsize=12, style=rounded, labeljust=l, newrank=true, nodesep=0.4, ranksep=0.6];\n  node [shape=box, style=filled, fontname=\"Helvetica\", fontsize=11];\n  edge [fontname=\"Helvetica\", fontsize=10];\n";
-
-/// The verdict, at the beginning of what stands below the picture.
-const ACCEPTED: &[u8] = b"  label=\"accepted\\l";
-
-const EXCUSED: &[u8] =
-    b"  label=\"accepted by blocks: the orange steps lead all the way round, but no chains run so: between chains of other origins each block goes forward alone.\\l";
-
-const OFFENDING: &[u8] =
-    b"  label=\"offending: by the red steps in their order, each chain may come before the next, all the way round.\\l";
-
-/// The rest of what stands below: how to read the picture.
-const LEGEND: &[u8] =
-    b"Solid arrows lead to the next hop. Dashed lines join hops that may conflict, in the tables named.\\lWhere two chains of one program may conflict, it is drawn again. Each server has its colour.\\l\";\n";
-
-/// How conflicts are drawn.
-const CONFLICTS: &[u8] = b"  edge [style=dashed, dir=none];\n";
-
-/// How the steps of a walk are drawn.
-const STEPS: &[u8] =
-    b"  edge [dir=forward, penwidth=2, color=\"#cc0000\", fontcolor=\"#cc0000\", fontsize=12];\n";
-
-/// How the steps of a walk that is excused are drawn.
-const EXCUSED_STEPS: &[u8] =
-    b"  edge [dir=forward, penwidth=2, color=\"#cc7700\", fontcolor=\"#cc7700\", fontsize=12];\n";
-
 fn caption(verdict: &Verdict) -> &'static [u8]
     ensures { result.now ≡ caption verdict.now }
 {
     match verdict {
         Verdict::Accepted(accepted) => match accepted.excused() {
-            Some(_) => EXCUSED,
-            None => ACCEPTED,
+            Some(_) => excused_text(),
+            None => accepted_text(),
         },
-        Verdict::Offending(_, _) => OFFENDING,
+        Verdict::Offending(_, _) => offending_text(),
     }
 }
 
@@ -65,10 +41,10 @@ fn style_of(verdict: &Verdict) -> &'static [u8]
 {
     match verdict {
         Verdict::Accepted(accepted) => match accepted.excused() {
-            Some(_) => EXCUSED_STEPS,
-            None => STEPS,
+            Some(_) => excused_style(),
+            None => walk_style(),
         },
-        Verdict::Offending(_, _) => STEPS,
+        Verdict::Offending(_, _) => walk_style(),
     }
 }
 
@@ -158,11 +134,11 @@ fn draw_with(
         ≡ picture_with shown set.now verdict.now boxes.now edges.now steps.now) }
 {
     let mut out = Vec::new(alloc);
-    out.extend_from_slice(HEAD)?;
+    out.extend_from_slice(head_text())?;
     out.extend_from_slice(caption(verdict))?;
-    out.extend_from_slice(LEGEND)?;
+    out.extend_from_slice(legend_text())?;
     put_shown_programs(alloc, &mut out, set, verdict, boxes, shown, edges)?;
-    out.extend_from_slice(CONFLICTS)?;
+    out.extend_from_slice(conflict_style())?;
     put_shown_conflicts(alloc, &mut out, set, verdict, boxes, shown, edges, steps)?;
     out.extend_from_slice(style_of(verdict))?;
     put_steps(alloc, &mut out, set, steps)?;

@@ -1,3 +1,4 @@
 pub mod Rests
-pub mod Stems
-pub mod Links
+pub mod Drawn
+pub mod Whole
+pub mod Linked

@@ -57,9 +57,17 @@ kept_further own xs i found before after whole within is more so_far =
     ∙ ap (λ ys. before ++ ys) (added found rest ∙ ap (λ o. cons_option o rest) (is ∙ ap (option_and_then own) at.1) ∙ sym (ap (filter_map own) (rest_at xs i at.0 at.1)))
     ∙ so_far
 
+-- what an element has was added, and the rest is left
+pub kept_next : {X Y : Type 0} (own : X → Option Y) (x : X) (rest : List X) (before after : List Y) (left : List X) (whole : List Y) → left ≡ x ∷ rest →
+    after ≡ before ++ cons_option (own x) [] → before ++ filter_map own left ≡ whole → after ++ filter_map own rest ≡ whole
+kept_next own x rest before after left whole is more so_far =
+    ap (λ ys. ys ++ filter_map own rest) more ∙ append_assoc before (cons_option (own x) []) (filter_map own rest)
+    ∙ ap (λ ys. before ++ ys) (added (own x) (filter_map own rest) ∙ sym (ap (filter_map own) is))
+    ∙ so_far
+
 -- ---- one number more
 
-range_further : {X : Type 0} (f : ℕ → List X) (a n m : ℕ) → a + n ≡ m → flat_map f (range_with_len a (suc n)) ≡ flat_map f (range_with_len a n) ++ f m
+pub range_further : {X : Type 0} (f : ℕ → List X) (a n m : ℕ) → a + n ≡ m → flat_map f (range_with_len a (suc n)) ≡ flat_map f (range_with_len a n) ++ f m
 range_further f a zero m at = append-nil (f a) ∙ ap f (omega (arith, at))
 range_further f a (suc n) m at = ap (λ later. f a ++ later) (range_further f (a + 1) n m (omega (arith, at))) ∙ sym (append_assoc (f a) (flat_map f (range_with_len (a + 1) n)) (f m))
 

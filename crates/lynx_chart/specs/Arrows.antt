@@ -1,40 +1,41 @@
--- The arrows of messages.
-use Rattle.std.specs.Prelude.{ℕ, List, ◌++◌, codes, Option, Some, None}
-use Rattle.std.specs.List.{flat_map}
-use Rattle.lynx_names.specs.Chain.{chain_text}
-use Rattle.lynx_names.specs.declared.chain.ChainId.{ChainId}
-use Rattle.lynx_entry.specs.declared.event.Outcome.{Outcome}
-use Rattle.lynx_chart.specs.Columns.{owed_node}
-use Rattle.lynx_chart.specs.Fates.{fates_of, fates_style, fates_text}
-use Rattle.lynx_chart.specs.Nodes.{arrow_text}
+-- The shapes of messages.
+use Rattle.std.specs.Prelude.{Bool, true, false, ◌||◌, ℕ, List, [], ◌∷◌, ◌++◌, codes, if◌then◌else◌}
+use Rattle.lynx_set.specs.Set.{Set}
+use Rattle.lynx_chart.specs.Fates.{fates_of, fates_text}
+use Rattle.lynx_chart.specs.Labels.{hop_text}
+use Rattle.lynx_chart.specs.Messages.{owed_box}
+use Rattle.lynx_chart.specs.Shapes.{Shape, Arrow, Cross}
 use Rattle.lynx_chart.specs.declared.fates.Fates.{Fates}
+use Rattle.lynx_chart.specs.declared.fates.Notice.{Notice}
 use Rattle.lynx_chart.specs.declared.messages.Sent.{Sent}
-use Rattle.lynx_chart.specs.declared.node.Node.{Node}
-use Rattle.lynx_chart.specs.declared.node.Node.TheVariants.{Entry as EntryNode}
 
--- the node that the arrow leads to: the entry of the hop if it ran, else the hop that is owed
-abbrev pub end_at : Sent → Option ℕ → Node
-end_at sent (Some stamp) = EntryNode sent.receiver stamp
-end_at sent None = owed_node sent
+-- what an arrow tells: its hop, and what befell its message
+abbrev pub told_of : Sent → Fates → List ℕ
+told_of sent fates = hop_text sent.chain sent.hop ++ fates_text fates
 
-abbrev pub end_of : Sent → Node
-end_of sent = end_at sent sent.ran
+-- a shape, if it is wanted
+abbrev pub wanted : Bool → Shape → List Shape
+wanted true shape = shape ∷ []
+wanted false shape = []
 
--- its label begins with its chain
-abbrev pub label_start : ChainId → List ℕ
-label_start chain = codes " [label=\" " ++ chain_text chain
+abbrev pub arrow_kind : Fates → List ℕ
+arrow_kind fates = if fates.held then codes "message held" else codes "message"
 
--- the line of a message that this befell
-abbrev pub message_with : Sent → Fates → List ℕ
-message_with sent fates =
-    arrow_text (EntryNode sent.sender sent.stamp) (end_of sent) ++ label_start sent.chain
-    ++ fates_text fates
-    ++ codes "\", style=" ++ fates_style fates ++ codes "];\n"
+abbrev pub is_missed : Fates → Bool
+is_missed fates = fates.lost || fates.dropped
 
--- the line of a message
-abbrev pub message_line : List Outcome → Sent → List ℕ
-message_line outcomes sent = message_with sent (fates_of outcomes sent.chain sent.hop)
+-- the arrow of a message, one more where it came again, and a cross where it was lost or dropped
+abbrev pub fate_shapes : Sent → Fates → List ℕ → List Shape
+fate_shapes sent fates told =
+    Arrow (arrow_kind fates) sent.from sent.to 0 told
+    ∷ (wanted fates.again (Arrow (codes "message again") sent.from sent.to 1 told)
+    ++ wanted (is_missed fates) (Cross sent.from sent.to told))
 
--- a line for each message
-abbrev pub message_lines : List Outcome → List Sent → List ℕ
-message_lines outcomes messages = flat_map (message_line outcomes) messages
+-- the box of the hop, if it is owed, and those
+abbrev pub sent_shapes : Set → Sent → Fates → List Shape
+sent_shapes set sent fates =
+    wanted sent.is_owed (owed_box set sent) ++ fate_shapes sent fates (told_of sent fates)
+
+abbrev pub message_shapes : Set → List Notice → Sent → List Shape
+message_shapes set notices sent =
+    sent_shapes set sent (fates_of notices sent.chain sent.hop)

@@ -1,33 +1,67 @@
 -- The whole chart of a run.
-use Rattle.std.specs.Prelude.{ℕ, List, ◌++◌, codes}
+use Rattle.std.specs.Prelude.{ℕ, List, ◌++◌, codes, decimal, length}
+use Rattle.std.specs.List.{flat_map}
 use Rattle.lynx_set.specs.Set.{Set}
 use Rattle.lynx_entry.specs.declared.event.Outcome.{Outcome}
 use Rattle.lynx_order.specs.declared.explained.Explained.{Explained}
-use Rattle.lynx_order.specs.declared.explained.Explained.TheVariants.{Order, Cycle}
-use Rattle.lynx_lines.specs.Printed.{chains_text}
 use Rattle.lynx_world.specs.Placed.{Placed}
-use Rattle.lynx_chart.specs.declared.charting.TheConstants.{HEAD, IN_ORDER, IN_A_CYCLE, LEGEND, STEMS, MESSAGES, LINKS}
-use Rattle.lynx_chart.specs.Arrows.{message_lines}
-use Rattle.lynx_chart.specs.Columns.{columns, heads}
-use Rattle.lynx_chart.specs.Meetings.{link_lines}
-use Rattle.lynx_chart.specs.Messages.{sent_in}
-use Rattle.lynx_chart.specs.Places.{chains_of, word_of}
+use Rattle.lynx_chart.specs.Captions.{style_text}
+use Rattle.lynx_chart.specs.Chains.{Given, all_chains, refusal_shapes}
+use Rattle.lynx_chart.specs.Fates.{notices_of}
+use Rattle.lynx_chart.specs.Frames.{frame, height_of, last_line, notes, width_of}
+use Rattle.lynx_chart.specs.Links.{all_links}
+use Rattle.lynx_chart.specs.Messages.{rows_with, sent_in}
+use Rattle.lynx_chart.specs.Restarts.{all_restarts}
+use Rattle.lynx_chart.specs.Rows.{stamps_of}
+use Rattle.lynx_chart.specs.Shapes.{Shape, drawn}
 
--- how the run is explained, in words
-abbrev pub saying : Explained → List ℕ
-saying (Order chains) = IN_ORDER.now
-saying (Cycle chains) = IN_A_CYCLE.now
+-- its first line, by its width and height
+abbrev pub opening : ℕ → ℕ → List ℕ
+opening width height =
+    codes "<svg xmlns=\"http://www.w3.org/2000/svg\" width=\"" ++ decimal width
+    ++ codes "\" height=\"" ++ decimal height ++ codes "\" viewBox=\"0 0 " ++ decimal width
+    ++ codes " " ++ decimal height ++ codes "\">\n"
 
--- what stands below the chart: the last line of the run, and how to read the chart
-abbrev pub caption : Explained → List ℕ
-caption explained =
-    codes "  label=\"" ++ word_of explained ++ chains_text (chains_of explained) ++ codes "\\l"
-    ++ saying explained ++ LEGEND.now
+abbrev pub described : List ℕ → List ℕ
+described line = codes "<desc>" ++ line ++ codes "</desc>\n"
 
--- the columns, the arrows of messages, and the links of a cycle
+-- what comes before its shapes: the last line of the run as a whole, and how all is drawn
+abbrev pub head_of : ℕ → ℕ → Explained → List ℕ
+head_of servers rows explained =
+    opening (width_of servers) (height_of rows) ++ described (last_line explained) ++ style_text
+
+-- the shapes of what was refused, of chains, of restarts and of links, of which each is drawn over
+-- those before
+abbrev pub event_shapes : Given → List Placed → List Outcome → List Shape
+event_shapes by list outcomes =
+    flat_map (refusal_shapes by.set by.explained by.stamps) list
+    ++ (all_chains by list ++ (all_restarts by.stamps list outcomes
+    ++ all_links by.set list by.stamps by.explained))
+
+-- all its shapes, where there are so many rows
+abbrev pub all_shapes : Given → ℕ → List Placed → List Outcome → List Shape
+all_shapes by rows list outcomes =
+    notes by.explained ++ (frame by.set.servers rows ++ event_shapes by list outcomes)
+
+-- what a run is drawn by
+abbrev pub given_of : Set → List Placed → List Outcome → Explained → Given
+given_of set list outcomes explained = record {
+  set = set;
+  explained = explained;
+  stamps = stamps_of list;
+  notices = notices_of outcomes;
+  messages = sent_in set (stamps_of list) list;
+}
+
+abbrev pub rows_of : Given → ℕ
+rows_of by = rows_with (length by.stamps) by.messages
+
+-- a chart, by what it is drawn by
+abbrev pub chart_by : Given → List Placed → List Outcome → List ℕ
+chart_by by list outcomes =
+    head_of by.set.servers (rows_of by) by.explained
+    ++ (drawn (all_shapes by (rows_of by) list outcomes) ++ codes "</svg>\n")
+
 abbrev pub chart_of : Set → List Placed → List Outcome → Explained → List ℕ
 chart_of set list outcomes explained =
-    HEAD.now ++ caption explained ++ STEMS.now ++ columns set list (sent_in set list) explained
-    ++ heads set.servers
-    ++ MESSAGES.now ++ message_lines outcomes (sent_in set list)
-    ++ LINKS.now ++ link_lines set list explained ++ codes "}\n"
+    chart_by (given_of set list outcomes explained) list outcomes

@@ -1,49 +1,76 @@
 -- What befell messages on their way.
-use Rattle.std.specs.Prelude.{Bool, true, false, ◌&&◌, ◌||◌, ◌==◌, ℕ, List, [], ◌++◌, codes, if◌then◌else◌}
-use Rattle.std.specs.List.{list_any}
+use Rattle.std.specs.Prelude.{Bool, true, false, ◌&&◌, ◌==◌, ℕ, List, [], ◌++◌, codes, Option, Some, None, option_map}
+use Rattle.std.specs.List.{filter_map, list_any}
 use Rattle.lynx_names.specs.declared.chain.ChainId.{ChainId}
 use Rattle.lynx_entry.specs.declared.answer.Delivered.{Delivered}
-use Rattle.lynx_entry.specs.declared.answer.Delivered.TheVariants.{Held, Dropped}
+use Rattle.lynx_entry.specs.declared.answer.Delivered.TheVariants.{Held, Dropped, Repeat}
 use Rattle.lynx_entry.specs.declared.event.Outcome.{Outcome}
 use Rattle.lynx_entry.specs.declared.event.Outcome.TheVariants.{Delivered as DeliveredNow, LostNow}
 use Rattle.lynx_rules.specs.Deliveries.{same_chain}
+use Rattle.lynx_chart.specs.declared.fates.Fate.{Fate}
+use Rattle.lynx_chart.specs.declared.fates.Fate.TheVariants.{Lost, Dropped as WasDropped, Held as WasHeld, Again}
 use Rattle.lynx_chart.specs.declared.fates.Fates.{Fates}
+use Rattle.lynx_chart.specs.declared.fates.Notice.{Notice}
 
--- that hop of the chain
-abbrev pub is_hop : ChainId → ℕ → ChainId → ℕ → Bool
-is_hop chain hop other number = same_chain other chain && number == hop
+-- what befell a message that was delivered, if anything did
+abbrev pub fate_of : Delivered → Option Fate
+fate_of Held = Some WasHeld
+fate_of Dropped = Some WasDropped
+fate_of (Repeat stamp results next) = Some Again
+fate_of delivered = None
 
--- the message of the hop was lost in that outcome
-abbrev pub is_loss : ChainId → ℕ → Outcome → Bool
-is_loss chain hop (LostNow other number) = is_hop chain hop other number
-is_loss chain hop outcome = false
+-- that it befell the message of a hop
+abbrev pub noticed : ChainId → ℕ → Fate → Notice
+noticed chain hop fate = record { chain = chain; hop = hop; fate = fate }
 
--- it was dropped: its server held as many as it may
-abbrev pub is_dropping : Delivered → Bool
-is_dropping Dropped = true
-is_dropping delivered = false
+-- what an outcome says of a message
+abbrev pub notice_of : Outcome → Option Notice
+notice_of (LostNow chain hop) = Some (noticed chain hop Lost)
+notice_of (DeliveredNow chain hop delivered) = option_map (noticed chain hop) (fate_of delivered)
+notice_of outcome = None
 
-abbrev pub is_drop : ChainId → ℕ → Outcome → Bool
-is_drop chain hop (DeliveredNow other number delivered) =
-    is_hop chain hop other number && is_dropping delivered
-is_drop chain hop outcome = false
+abbrev pub notices_of : List Outcome → List Notice
+notices_of outcomes = filter_map notice_of outcomes
 
--- it was held
-abbrev pub is_holding : Delivered → Bool
-is_holding Held = true
-is_holding delivered = false
+-- the notice is of that hop of the chain
+abbrev pub is_of : ChainId → ℕ → Notice → Bool
+is_of chain hop notice = same_chain notice.chain chain && notice.hop == hop
 
-abbrev pub is_hold : ChainId → ℕ → Outcome → Bool
-is_hold chain hop (DeliveredNow other number delivered) =
-    is_hop chain hop other number && is_holding delivered
-is_hold chain hop outcome = false
+abbrev pub is_lost : Fate → Bool
+is_lost Lost = true
+is_lost fate = false
 
--- what befell the message of a hop in these outcomes
-abbrev pub fates_of : List Outcome → ChainId → ℕ → Fates
-fates_of outcomes chain hop = record {
-  lost = list_any (is_loss chain hop) outcomes;
-  dropped = list_any (is_drop chain hop) outcomes;
-  held = list_any (is_hold chain hop) outcomes;
+abbrev pub is_dropped : Fate → Bool
+is_dropped WasDropped = true
+is_dropped fate = false
+
+abbrev pub is_held : Fate → Bool
+is_held WasHeld = true
+is_held fate = false
+
+abbrev pub is_repeated : Fate → Bool
+is_repeated Again = true
+is_repeated fate = false
+
+abbrev pub is_loss : ChainId → ℕ → Notice → Bool
+is_loss chain hop notice = is_of chain hop notice && is_lost notice.fate
+
+abbrev pub is_drop : ChainId → ℕ → Notice → Bool
+is_drop chain hop notice = is_of chain hop notice && is_dropped notice.fate
+
+abbrev pub is_hold : ChainId → ℕ → Notice → Bool
+is_hold chain hop notice = is_of chain hop notice && is_held notice.fate
+
+abbrev pub is_again : ChainId → ℕ → Notice → Bool
+is_again chain hop notice = is_of chain hop notice && is_repeated notice.fate
+
+-- what befell the message of a hop
+abbrev pub fates_of : List Notice → ChainId → ℕ → Fates
+fates_of notices chain hop = record {
+  lost = list_any (is_loss chain hop) notices;
+  dropped = list_any (is_drop chain hop) notices;
+  held = list_any (is_hold chain hop) notices;
+  again = list_any (is_again chain hop) notices;
 }
 
 -- a word behind a space, if that befell it
@@ -55,9 +82,4 @@ abbrev pub fates_text : Fates → List ℕ
 fates_text fates =
     fate_word fates.lost (codes " lost") ++ fate_word fates.dropped (codes " dropped")
     ++ fate_word fates.held (codes " held")
-
--- how its arrow is drawn
-abbrev pub fates_style : Fates → List ℕ
-fates_style fates =
-    if fates.lost || fates.dropped then codes "dotted"
-    else (if fates.held then codes "dashed" else codes "solid")
+    ++ fate_word fates.again (codes " again")

@@ -1,5 +1,5 @@
 -- What is told of an entry.
-use Rattle.std.specs.Prelude.{ℕ, List, [], ◌++◌, codes, decimal, Option, Some, None, option_and_then}
+use Rattle.std.specs.Prelude.{ℕ, List, [], ◌∷◌, ◌++◌, codes, decimal, Option, Some, None, option_and_then}
 use Rattle.lynx_names.specs.Chain.{chain_text}
 use Rattle.lynx_names.specs.declared.chain.ChainId.{ChainId}
 use Rattle.lynx_set.specs.Set.{Set}
@@ -7,12 +7,13 @@ use Rattle.lynx_set.specs.Lookups.{program_name}
 use Rattle.lynx_entry.specs.Entry.{stamp_of}
 use Rattle.lynx_entry.specs.declared.entry.Entry.{Entry}
 use Rattle.lynx_entry.specs.declared.entry.Entry.TheVariants.{Begun, Refused, Hop}
-use Rattle.lynx_entry.specs.declared.request.Request.{Request}
 use Rattle.lynx_order.specs.declared.explained.Explained.{Explained}
 use Rattle.lynx_lines.specs.Printed.{spaced, values_text}
-use Rattle.lynx_chart.specs.Nodes.{node_text}
-use Rattle.lynx_chart.specs.Places.{place_colour, place_line, place_of, word_of}
-use Rattle.lynx_chart.specs.declared.node.Node.TheVariants.{Entry as EntryNode}
+use Rattle.lynx_chart.specs.Rows.{spot_of}
+use Rattle.lynx_world.specs.Placed.{Placed}
+use Rattle.lynx_chart.specs.Places.{place_line, place_of, word_of}
+use Rattle.lynx_chart.specs.Shapes.{Shape, Boxed}
+use Rattle.lynx_chart.specs.declared.labels.Label.{Label}
 
 -- the chain of which a hop ran, if one did
 abbrev pub chain_in : Entry → Option ChainId
@@ -20,29 +21,32 @@ chain_in (Begun begun) = Some begun.chain
 chain_in (Refused refused) = None
 chain_in (Hop ran) = Some ran.message.chain
 
+-- a hop of a chain
+abbrev pub hop_text : ChainId → ℕ → List ℕ
+hop_text chain hop = chain_text chain ++ codes " hop " ++ decimal hop
+
 -- what the server did
 abbrev pub deed_text : Entry → List ℕ
 deed_text (Begun begun) = chain_text begun.chain ++ codes " begins"
 deed_text (Refused refused) = codes "refused by need " ++ decimal refused.need
-deed_text (Hop ran) = chain_text ran.message.chain ++ codes " hop " ++ decimal ran.message.hop
+deed_text (Hop ran) = hop_text ran.message.chain ran.message.hop
 
 -- a program with its arguments
-abbrev pub request_text : Set → Request → List ℕ
-request_text set request = program_name set request.program ++ spaced request.args
+abbrev pub asked_text : Set → ℕ → List ℕ → List ℕ
+asked_text set program args = program_name set program ++ spaced args
 
--- of which program, with the arguments where a chain was asked for
 abbrev pub program_text : Set → Entry → List ℕ
-program_text set (Begun begun) = request_text set begun.request
-program_text set (Refused refused) = request_text set refused.request
-program_text set (Hop ran) = program_name set ran.message.program
+program_text set (Begun begun) = asked_text set begun.request.program begun.request.args
+program_text set (Refused refused) = asked_text set refused.request.program refused.request.args
+program_text set (Hop ran) = asked_text set ran.message.program ran.message.args
 
 -- when it did
 abbrev pub stamp_text : Entry → List ℕ
-stamp_text entry = codes ", stamp " ++ decimal (stamp_of entry) ++ codes "\\l"
+stamp_text entry = codes "stamp " ++ decimal (stamp_of entry)
 
 -- the line of the results, if a hop ran
 abbrev pub results_text : List ℕ → List ℕ
-results_text results = codes "results " ++ values_text results ++ codes "\\l"
+results_text results = codes "results " ++ values_text results
 
 abbrev pub results_line : Entry → List ℕ
 results_line (Begun begun) = results_text begun.results
@@ -54,15 +58,24 @@ abbrev pub entry_place : Explained → Entry → Option ℕ
 entry_place explained entry = option_and_then (place_of explained) (chain_in entry)
 
 -- what it did, of which program, its results, and the place of its chain: a line each
-abbrev pub entry_label : Set → Explained → Entry → List ℕ
-entry_label set explained entry =
-    deed_text entry ++ stamp_text entry ++ program_text set entry ++ codes "\\l"
-    ++ results_line entry
-    ++ place_line (word_of explained) (entry_place explained entry)
+abbrev pub entry_lines : Set → Explained → Entry → List (List ℕ)
+entry_lines set explained entry =
+    deed_text entry ∷ program_text set entry ∷ results_line entry
+    ∷ place_line (word_of explained) (entry_place explained entry) ∷ []
 
--- the node of a server's entry
-abbrev pub entry_line : Set → Explained → ℕ → Entry → List ℕ
-entry_line set explained server entry =
-    codes "  " ++ node_text (EntryNode server (stamp_of entry)) ++ codes " [label=\""
-    ++ entry_label set explained entry
-    ++ codes "\", fillcolor=\"" ++ place_colour (entry_place explained entry) ++ codes "\"];\n"
+-- the lines of a label
+abbrev pub lines_of : Label → List (List ℕ)
+lines_of label =
+    label.deed.items ∷ label.program.items ∷ label.results.items ∷ label.place.items ∷ []
+
+-- the kind of an entry's box
+abbrev pub kind_of : Entry → List ℕ
+kind_of (Begun begun) = codes "box"
+kind_of (Refused refused) = codes "box refusal"
+kind_of (Hop ran) = codes "box"
+
+-- the box of an entry
+abbrev pub box_of : Set → Explained → List ℕ → Placed → Shape
+box_of set explained stamps placed =
+    Boxed (kind_of placed.entry) (spot_of stamps placed) (stamp_text placed.entry)
+    (entry_lines set explained placed.entry)

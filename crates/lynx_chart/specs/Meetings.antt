@@ -1,10 +1,9 @@
 -- Where one chain of a cycle comes before the next.
-use Rattle.std.specs.Prelude.{ℕ, List, [], ◌∷◌, ◌++◌, codes, decimal, drop, take, find, Option, None, IsSome, All, option_map}
-use Rattle.std.specs.List.{flat_map, list_any, zip}
-use Rattle.std.specs.Option.{option_map_or, option_or}
+use Rattle.std.specs.Prelude.{List, [], ◌∷◌, ◌++◌, drop, take, find, Option, None, IsSome, All, option_map}
+use Rattle.std.specs.List.{list_any, zip}
+use Rattle.std.specs.Option.{option_or}
 use Rattle.lynx_names.specs.declared.chain.ChainId.{ChainId}
 use Rattle.lynx_set.specs.Set.{Set}
-use Rattle.lynx_set.specs.Lookups.{table_name}
 use Rattle.lynx_entry.specs.Entry.{stamp_of}
 use Rattle.lynx_foot.specs.declared.touch.Touch.{Touch}
 use Rattle.lynx_foot.specs.Tests.{collide}
@@ -12,18 +11,16 @@ use Rattle.lynx_order.specs.Precedence.{touches_in}
 use Rattle.lynx_order.specs.declared.explained.Explained.{Explained}
 use Rattle.lynx_order.specs.declared.explained.Explained.TheVariants.{Order, Cycle}
 use Rattle.lynx_world.specs.Placed.{Placed}
-use Rattle.lynx_chart.specs.Nodes.{arrow_text}
 use Rattle.lynx_chart.specs.declared.meeting.Meeting.{Meeting}
-use Rattle.lynx_chart.specs.declared.node.Node.{Node}
-use Rattle.lynx_chart.specs.declared.node.Node.TheVariants.{Entry as EntryNode}
+use Rattle.lynx_chart.specs.declared.meeting.Node.{Node}
 
 -- the first of these touches that collides with one of the others
 abbrev pub touch_met : List Touch → List Touch → Option Touch
 touch_met lefts rights = find (λ left. list_any (collide left) rights) lefts
 
--- the node of an entry
+-- where an entry stands
 abbrev pub node_of : Placed → Node
-node_of placed = EntryNode placed.server (stamp_of placed.entry)
+node_of placed = record { server = placed.server; stamp = stamp_of placed.entry }
 
 -- the entries of two hops and the cell at which they collide
 abbrev pub meeting_at : Node → Placed → Touch → Meeting
@@ -67,16 +64,3 @@ links_of (Cycle chains) = linked chains
 abbrev pub AreMet : Set → List Placed → Explained → Type 0
 AreMet set list explained =
     All (λ link. IsSome (meeting_of set link.0 link.1 list)) (links_of explained)
-
--- the line of a meeting, with its cell
-abbrev pub meeting_line : Set → Meeting → List ℕ
-meeting_line set meeting =
-    arrow_text meeting.before meeting.after ++ codes " [label=\" " ++ table_name set meeting.table
-    ++ codes " " ++ decimal meeting.key ++ codes "\"];\n"
-
-abbrev pub link_line : Set → List Placed → ChainId × ChainId → List ℕ
-link_line set list link = option_map_or (meeting_line set) (meeting_of set link.0 link.1 list) []
-
--- a line for each link
-abbrev pub link_lines : Set → List Placed → Explained → List ℕ
-link_lines set list explained = flat_map (link_line set list) (links_of explained)

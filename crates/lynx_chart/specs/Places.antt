@@ -28,7 +28,7 @@ place_of explained chain = place_from 0 (chains_of explained) chain
 
 -- a line with a place, counted from 1
 abbrev pub place_text : List ℕ → ℕ → List ℕ
-place_text word place = decimal (place + 1) ++ codes " in the " ++ word ++ codes "\\l"
+place_text word place = decimal (place + 1) ++ codes " in the " ++ word
 
 -- the line, if there is a place
 abbrev pub place_line : List ℕ → Option ℕ → List ℕ

@@ -1,84 +1,154 @@
 //! What befell messages on their way.
-ghost use Rattle.std.specs.Prelude.{◌≡◌, ◌++◌, OnOk};
-ghost use Rattle.std.specs.List.{list_any};
-ghost use Rattle.lynx_chart.specs.Fates.{fate_word, fates_of, fates_style, fates_text, is_drop, is_hold, is_loss};
+ghost use Rattle.std.specs.Prelude.{◌≡◌, ◌++◌, [], IfOk, OnOk};
+ghost use Rattle.std.specs.List.{cons_option, list_any};
+ghost use Rattle.lynx_chart.specs.Fates.{fate_of, fate_word, fates_of, fates_text, is_again, is_drop, is_hold, is_loss, is_of, notice_of, notices_of};
 
 use lynx_entry::{Delivered, Outcome};
 use lynx_names::{ChainId, Memory};
+use std::alloc::Global;
+
+/// What may befall a message.
+#[derive(Clone, Copy, Debug, PartialEq, Eq)]
+pub(crate) enum Fate {
+    Lost,
+    /// Its server held as many as it may.
+    Dropped,
+    Held,
+    /// It came once more, after its hop had run.
+    Again,
+}
+
+/// What an outcome says of the message of a hop.
+#[derive(Clone, Copy, Debug, PartialEq, Eq)]
+pub(crate) struct Notice {
+    pub chain: ChainId,
+    pub hop: u8,
+    pub fate: Fate,
+}
 
 /// What befell a message on its way.
 #[derive(Clone, Copy, Debug, PartialEq, Eq)]
 pub(crate) struct Fates {
     pub lost: bool,
-    /// Its server held as many as it may.
     pub dropped: bool,
     pub held: bool,
+    pub again: bool,
 }
 
-fn is_loss(chain: &ChainId, hop: u8, outcome: &Outcome) -> bool
-    ensures { result ≡ is_loss chain.now hop outcome.now }
+/// What befell a message that was delivered, if anything did.
+fn fate_of(delivered: &Delivered) -> Option<Fate>
+    ensures { result ≡ fate_of delivered.now }
 {
-    match outcome {
-        Outcome::LostNow {
-            chain: other,
-            hop: number,
-        } => other == chain && *number == hop,
-        _ => false,
+    match delivered {
+        Delivered::Held => Some(Fate::Held),
+        Delivered::Dropped => Some(Fate::Dropped),
+        Delivered::Repeat { .. } => Some(Fate::Again),
+        _ => None,
     }
 }
 
-fn is_drop(chain: &ChainId, hop: u8, outcome: &Outcome) -> bool
-    ensures { result ≡ is_drop chain.now hop outcome.now }
+/// What an outcome says of a message, if it does.
+fn notice_of(outcome: &Outcome) -> Option<Notice>
+    ensures { result ≡ notice_of outcome.now }
 {
-    match outcome {
+    let (chain, hop, fate) = match outcome {
+        Outcome::LostNow { chain, hop } => (*chain, *hop, Fate::Lost),
         Outcome::Delivered {
-            chain: other,
-            hop: number,
-            delivered: Delivered::Dropped,
-        } => other == chain && *number == hop,
-        _ => false,
+            chain,
+            hop,
+            delivered,
+        } => (*chain, *hop, fate_of(delivered)?),
+        _ => return None,
+    };
+    Some(Notice { chain, hop, fate })
+}
+
+/// Adds what an outcome says of a message, if it does.
+fn add_notice(notices: &mut Vec<Notice>, outcome: &Outcome) -> Result<(), Memory>
+    ensures { OnOk result (notices.new.items ≡ notices.old.items
+        ++ cons_option (notice_of outcome.now) []) }
+{
+    if let Some(notice) = notice_of(outcome) {
+        notices.push(notice)?;
     }
+    Ok(())
 }
 
-fn is_hold(chain: &ChainId, hop: u8, outcome: &Outcome) -> bool
-    ensures { result ≡ is_hold chain.now hop outcome.now }
+/// What the outcomes say of messages.
+pub(crate) fn notices_of(alloc: Global, outcomes: &[Outcome]) -> Result<Vec<Notice>, Memory>
+    ensures { IfOk result (λ notices. notices.items ≡ notices_of outcomes.now) }
 {
-    match outcome {
-        Outcome::Delivered {
-            chain: other,
-            hop: number,
-            delivered: Delivered::Held,
-        } => other == chain && *number == hop,
-        _ => false,
+    let mut notices = Vec::new(alloc);
+    for outcome in outcomes {
+        add_notice(&mut notices, outcome)?;
     }
+    Ok(notices)
 }
 
-fn any_loss(outcomes: &[Outcome], chain: &ChainId, hop: u8) -> bool
-    ensures { result ≡ list_any (is_loss chain.now hop) outcomes.now }
+/// Whether it is of that hop of the chain.
+fn is_of(chain: &ChainId, hop: u8, notice: &Notice) -> bool
+    ensures { result ≡ is_of chain.now hop notice.now }
 {
-    outcomes.iter().any(|outcome| is_loss(chain, hop, outcome))
+    notice.chain == *chain && notice.hop == hop
 }
 
-fn any_drop(outcomes: &[Outcome], chain: &ChainId, hop: u8) -> bool
-    ensures { result ≡ list_any (is_drop chain.now hop) outcomes.now }
+fn is_loss(chain: &ChainId, hop: u8, notice: &Notice) -> bool
+    ensures { result ≡ is_loss chain.now hop notice.now }
 {
-    outcomes.iter().any(|outcome| is_drop(chain, hop, outcome))
+    is_of(chain, hop, notice) && matches!(notice.fate, Fate::Lost)
 }
 
-fn any_hold(outcomes: &[Outcome], chain: &ChainId, hop: u8) -> bool
-    ensures { result ≡ list_any (is_hold chain.now hop) outcomes.now }
+fn is_drop(chain: &ChainId, hop: u8, notice: &Notice) -> bool
+    ensures { result ≡ is_drop chain.now hop notice.now }
 {
-    outcomes.iter().any(|outcome| is_hold(chain, hop, outcome))
+    is_of(chain, hop, notice) && matches!(notice.fate, Fate::Dropped)
+}
+
+fn is_hold(chain: &ChainId, hop: u8, notice: &Notice) -> bool
+    ensures { result ≡ is_hold chain.now hop notice.now }
+{
+    is_of(chain, hop, notice) && matches!(notice.fate, Fate::Held)
+}
+
+fn is_again(chain: &ChainId, hop: u8, notice: &Notice) -> bool
+    ensures { result ≡ is_again chain.now hop notice.now }
+{
+    is_of(chain, hop, notice) && matches!(notice.fate, Fate::Again)
+}
+
+fn any_loss(notices: &[Notice], chain: &ChainId, hop: u8) -> bool
+    ensures { result ≡ list_any (is_loss chain.now hop) notices.now }
+{
+    notices.iter().any(|notice| is_loss(chain, hop, notice))
+}
+
+fn any_drop(notices: &[Notice], chain: &ChainId, hop: u8) -> bool
+    ensures { result ≡ list_any (is_drop chain.now hop) notices.now }
+{
+    notices.iter().any(|notice| is_drop(chain, hop, notice))
+}
+
+fn any_hold(notices: &[Notice], chain: &ChainId, hop: u8) -> bool
+    ensures { result ≡ list_any (is_hold chain.now hop) notices.now }
+{
+    notices.iter().any(|notice| is_hold(chain, hop, notice))
+}
+
+fn any_again(notices: &[Notice], chain: &ChainId, hop: u8) -> bool
+    ensures { result ≡ list_any (is_again chain.now hop) notices.now }
+{
+    notices.iter().any(|notice| is_again(chain, hop, notice))
 }
 
 /// What befell the message of a hop.
-pub(crate) fn fates_of(outcomes: &[Outcome], chain: &ChainId, hop: u8) -> Fates
-    ensures { result ≡ fates_of outcomes.now chain.now hop }
+pub(crate) fn fates_of(notices: &[Notice], chain: &ChainId, hop: u8) -> Fates
+    ensures { result ≡ fates_of notices.now chain.now hop }
 {
     Fates {
-        lost: any_loss(outcomes, chain, hop),
-        dropped: any_drop(outcomes, chain, hop),
-        held: any_hold(outcomes, chain, hop),
+        lost: any_loss(notices, chain, hop),
+        dropped: any_drop(notices, chain, hop),
+        held: any_hold(notices, chain, hop),
+        again: any_again(notices, chain, hop),
     }
 }
 
@@ -97,18 +167,6 @@ pub(crate) fn put_fates(out: &mut Vec<u8>, fates: &Fates) -> Result<(), Memory>
 {
     put_fate(out, fates.lost, b" lost")?;
     put_fate(out, fates.dropped, b" dropped")?;
-    put_fate(out, fates.held, b" held")
-}
-
-/// How the message's arrow is drawn.
-pub(crate) fn fates_style(fates: &Fates) -> &'static [u8]
-    ensures { result.now ≡ fates_style fates.now }
-{
-    if fates.lost || fates.dropped {
-        b"dotted"
-    } else if fates.held {
-        b"dashed"
-    } else {
-        b"solid"
-    }
+    put_fate(out, fates.held, b" held")?;
+    put_fate(out, fates.again, b" again")
 }

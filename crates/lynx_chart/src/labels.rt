@@ -1,12 +1,13 @@
 //! What is told of an entry.
-ghost use Rattle.std.specs.Prelude.{◌≡◌, ◌<◌, ◌++◌, IfSome, OnOk, option_copied};
-ghost use Rattle.lynx_chart.specs.Labels.{chain_in, deed_text, entry_label, entry_line, entry_place, program_text, request_text, results_line, results_text, stamp_text};
+ghost use Rattle.std.specs.Prelude.{◌≡◌, ◌<◌, ◌++◌, [], ◌∷◌, IfOk, IfSome, OnOk, codes, option_copied};
+ghost use Rattle.lynx_set.specs.Lookups.{program_name};
+ghost use Rattle.lynx_chart.specs.Places.{place_line, word_of};
+ghost use Rattle.lynx_chart.specs.Labels.{asked_text, chain_in, deed_text, entry_lines, entry_place, hop_text, kind_of, lines_of, program_text, results_line, results_text, stamp_text};
 
-use crate::node::{Node, put_node};
-use crate::places::{place_colour, place_of, put_place_line, word_of};
-use lynx_entry::{Entry, Request};
+use crate::places::{place_of, put_place_line, word_of};
+use lynx_entry::Entry;
 use lynx_lines::{push_spaced, push_values};
-use lynx_names::{ChainId, Memory, ServerId};
+use lynx_names::{ChainId, Memory, ProgramId};
 use lynx_order::Explained;
 use lynx_set::ChainSet;
 use std::alloc::Global;
@@ -33,6 +34,20 @@ fn entry_place(explained: &Explained, entry: &Entry) -> Option<usize>
     }
 }
 
+/// Writes a hop of a chain.
+pub(crate) fn put_hop(
+    alloc: Global,
+    out: &mut Vec<u8>,
+    chain: &ChainId,
+    hop: u8,
+) -> Result<(), Memory>
+    ensures { OnOk result (out.new.items ≡ out.old.items ++ hop_text chain.now hop) }
+{
+    let text = format!(in alloc; "{chain} hop {hop}")?;
+    out.extend_from_slice(text.as_bytes())?;
+    Ok(())
+}
+
 /// Writes what the server did.
 fn put_deed(alloc: Global, out: &mut Vec<u8>, entry: &Entry) -> Result<(), Memory>
     ensures { OnOk result (out.new.items ≡ out.old.items ++ deed_text entry.now) }
@@ -46,32 +61,31 @@ fn put_deed(alloc: Global, out: &mut Vec<u8>, entry: &Entry) -> Result<(), Memor
             let need = refused.need;
             format!(in alloc; "refused by need {need}")?
         }
-        Entry::Hop(ran) => {
-            let (chain, hop) = (&ran.message.chain, ran.message.hop);
-            format!(in alloc; "{chain} hop {hop}")?
-        }
+        Entry::Hop(ran) => return put_hop(alloc, out, &ran.message.chain, ran.message.hop),
     };
     out.extend_from_slice(text.as_bytes())?;
     Ok(())
 }
 
 /// Writes a program with its arguments.
-fn put_request(
+fn put_asked(
     alloc: Global,
     out: &mut Vec<u8>,
     set: &ChainSet,
-    request: &Request,
+    program: ProgramId,
+    values: &[u64],
 ) -> Result<(), Memory>
-    ensures { OnOk result (out.new.items ≡ out.old.items ++ request_text set.now request.now) }
+    ensures { OnOk result (out.new.items ≡ out.old.items
+        ++ asked_text set.now program values.now) }
 {
     let mut args = String::new(alloc);
-    push_spaced(&mut args, request.args.as_slice())?;
-    out.extend_from_slice(set.program_name(request.program))?;
+    push_spaced(&mut args, values)?;
+    out.extend_from_slice(set.program_name(program))?;
     out.extend_from_slice(args.as_bytes())?;
     Ok(())
 }
 
-/// Writes of which program it is, with the arguments where a chain was asked for.
+/// Writes of which program it is, with the chain's arguments.
 fn put_program(
     alloc: Global,
     out: &mut Vec<u8>,
@@ -81,11 +95,17 @@ fn put_program(
     ensures { OnOk result (out.new.items ≡ out.old.items ++ program_text set.now entry.now) }
 {
     match entry {
-        Entry::Begun(begun) => put_request(alloc, out, set, &begun.request),
-        Entry::Refused(refused) => put_request(alloc, out, set, &refused.request),
+        Entry::Begun(begun) => {
+            let request = &begun.request;
+            put_asked(alloc, out, set, request.program, request.args.as_slice())
+        }
+        Entry::Refused(refused) => {
+            let request = &refused.request;
+            put_asked(alloc, out, set, request.program, request.args.as_slice())
+        }
         Entry::Hop(ran) => {
-            out.extend_from_slice(set.program_name(ran.message.program))?;
-            Ok(())
+            let message = &ran.message;
+            put_asked(alloc, out, set, message.program, message.args.as_slice())
         }
     }
 }
@@ -95,7 +115,6 @@ fn put_results(alloc: Global, out: &mut Vec<u8>, values: &[u64]) -> Result<(), M
 {
     let mut text = String::from_str(alloc, "results ")?;
     push_values(&mut text, values)?;
-    text.push_str("\\l")?;
     out.extend_from_slice(text.as_bytes())?;
     Ok(())
 }
@@ -111,59 +130,91 @@ fn put_results_line(alloc: Global, out: &mut Vec<u8>, entry: &Entry) -> Result<(
     }
 }
 
-/// Writes when the server did it.
-fn put_stamp(alloc: Global, out: &mut Vec<u8>, entry: &Entry) -> Result<(), Memory>
-    ensures { OnOk result (out.new.items ≡ out.old.items ++ stamp_text entry.now) }
-{
-    let stamp = entry.stamp();
-    let text = format!(in alloc; ", stamp {stamp}\\l")?;
-    out.extend_from_slice(text.as_bytes())?;
-    Ok(())
+/// What stands in a box: in its corner, and a line each below one another, of which the last may
+/// have no bytes.
+#[derive(Debug, Drop)]
+pub(crate) struct Label {
+    pub corner: Vec<u8>,
+    pub deed: Vec<u8>,
+    pub program: Vec<u8>,
+    pub results: Vec<u8>,
+    pub place: Vec<u8>,
 }
 
-/// Writes what is told of an entry, a line each.
-fn put_label(
-    alloc: Global,
-    out: &mut Vec<u8>,
-    set: &ChainSet,
-    explained: &Explained,
-    entry: &Entry,
-) -> Result<(), Memory>
-    ensures { OnOk result (out.new.items ≡ out.old.items
-        ++ entry_label set.now explained.now entry.now) }
+/// When the server did it.
+fn stamp_text(alloc: Global, entry: &Entry) -> Result<Vec<u8>, Memory>
+    ensures { IfOk result (λ text. text.items ≡ stamp_text entry.now) }
 {
-    put_deed(alloc, out, entry)?;
-    put_stamp(alloc, out, entry)?;
-    put_program(alloc, out, set, entry)?;
-    out.extend_from_slice(b"\\l".as_slice())?;
-    put_results_line(alloc, out, entry)?;
+    let stamp = entry.stamp();
+    let text = format!(in alloc; "stamp {stamp}")?;
+    Ok(text.into_bytes())
+}
+
+/// What it did.
+fn deed_text(alloc: Global, entry: &Entry) -> Result<Vec<u8>, Memory>
+    ensures { IfOk result (λ text. text.items ≡ deed_text entry.now) }
+{
+    let mut text = Vec::new(alloc);
+    put_deed(alloc, &mut text, entry)?;
+    Ok(text)
+}
+
+fn program_text(alloc: Global, set: &ChainSet, entry: &Entry) -> Result<Vec<u8>, Memory>
+    ensures { IfOk result (λ text. text.items ≡ program_text set.now entry.now) }
+{
+    let mut text = Vec::new(alloc);
+    put_program(alloc, &mut text, set, entry)?;
+    Ok(text)
+}
+
+fn results_line(alloc: Global, entry: &Entry) -> Result<Vec<u8>, Memory>
+    ensures { IfOk result (λ text. text.items ≡ results_line entry.now) }
+{
+    let mut text = Vec::new(alloc);
+    put_results_line(alloc, &mut text, entry)?;
+    Ok(text)
+}
+
+fn place_text(alloc: Global, explained: &Explained, entry: &Entry) -> Result<Vec<u8>, Memory>
+    ensures { IfOk result (λ text. text.items
+        ≡ place_line (word_of explained.now) (entry_place explained.now entry.now)) }
+{
+    let mut text = Vec::new(alloc);
     put_place_line(
         alloc,
-        out,
+        &mut text,
         word_of(explained),
         entry_place(explained, entry),
-    )
+    )?;
+    Ok(text)
 }
 
-/// Writes the node of a server's entry.
-pub(crate) fn put_entry_line(
+/// What stands in an entry's box.
+pub(crate) fn label_of(
     alloc: Global,
-    out: &mut Vec<u8>,
     set: &ChainSet,
     explained: &Explained,
-    server: ServerId,
     entry: &Entry,
-) -> Result<(), Memory>
-    ensures { OnOk result (out.new.items ≡ out.old.items
-        ++ entry_line set.now explained.now server entry.now) }
+) -> Result<Label, Memory>
+    ensures corner { IfOk result (λ label. label.corner.items ≡ stamp_text entry.now) }
+    ensures lines { IfOk result (λ label. lines_of label
+        ≡ entry_lines set.now explained.now entry.now) }
 {
-    let stamp = entry.stamp();
-    out.extend_from_slice(b"  ".as_slice())?;
-    put_node(alloc, out, &Node::Entry { server, stamp })?;
-    out.extend_from_slice(b" [label=\"".as_slice())?;
-    put_label(alloc, out, set, explained, entry)?;
-    out.extend_from_slice(b"\", fillcolor=\"".as_slice())?;
-    out.extend_from_slice(place_colour(entry_place(explained, entry)))?;
-    out.extend_from_slice(b"\"];\n".as_slice())?;
-    Ok(())
+    Ok(Label {
+        corner: stamp_text(alloc, entry)?,
+        deed: deed_text(alloc, entry)?,
+        program: program_text(alloc, set, entry)?,
+        results: results_line(alloc, entry)?,
+        place: place_text(alloc, explained, entry)?,
+    })
+}
+
+/// The kind of an entry's box.
+pub(crate) fn kind_of(entry: &Entry) -> &'static [u8]
+    ensures { result.now ≡ kind_of entry.now }
+{
+    match entry {
+        Entry::Begun(_) | Entry::Hop(_) => b"box",
+        Entry::Refused(_) => b"box refusal",
+    }
 }

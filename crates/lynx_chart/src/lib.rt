@@ -1,16 +1,25 @@
-//! The chart of a run, as a graph that Graphviz draws: a column for each server, with its entries
-//! downward by stamp.
+//! The chart of a run, as a picture in SVG: a column for each server, with its entries downward by
+//! stamp.
 #![tactic(auto)]
 
 pub use charting::chart;
 
 mod arrows;
+mod boxes;
+mod captions;
+mod chains;
 pub mod charting;
-mod columns;
 mod fates;
+mod frames;
 mod labels;
+mod lines;
+mod links;
 mod listed;
 mod meeting;
 mod messages;
-mod node;
 mod places;
+mod restarts;
+mod routes;
+mod rows;
+mod spot;
+mod texts;

@@ -1,20 +1,24 @@
 //! Where one chain of a cycle comes before the next.
-ghost use Rattle.std.specs.Prelude.{◌≡◌, ◌++◌, ◌<◌, ◌+◌, IfOk, OnOk, Some, drop, length, option_map, slice_get};
-ghost use Rattle.std.specs.List.{flat_map, list_any};
+ghost use Rattle.std.specs.Prelude.{◌≡◌, ◌<◌, ◌+◌, IfOk, Some, drop, length, option_map, slice_get};
+ghost use Rattle.std.specs.List.{list_any};
 ghost use Rattle.std.specs.Option.{option_and_then};
 ghost use Rattle.lynx_foot.specs.Tests.{collide};
 ghost use Rattle.lynx_world.specs.Servers.{placed_as};
-ghost use Rattle.lynx_chart.specs.Meetings.{link_line, link_lines, linked, meeting_behind, meeting_from, meeting_line, meeting_of, meeting_with, node_of, touch_met};
+ghost use Rattle.lynx_chart.specs.Meetings.{linked, meeting_behind, meeting_from, meeting_of, meeting_with, node_of, touch_met};
 
 use crate::listed::listed_at;
-use crate::node::{Node, put_arrow};
 use lynx_foot::{Touch, touches_collide};
-use lynx_names::{ChainId, Memory, TableId};
-use lynx_order::{Explained, touches_in};
-use lynx_set::ChainSet;
-use lynx_text::printing::put_number;
+use lynx_names::{ChainId, Memory, ServerId, Stamp, TableId};
+use lynx_order::touches_in;
 use lynx_world::{Listed, World};
 use std::alloc::{AllocError, Global};
+
+/// Where an entry stands.
+#[derive(Clone, Copy, Debug, PartialEq, Eq)]
+pub(crate) struct Node {
+    pub server: ServerId,
+    pub stamp: Stamp,
+}
 
 /// The entries of two hops, the one before the other, and the cell at which they collide.
 #[derive(Clone, Copy, Debug, PartialEq, Eq)]
@@ -41,11 +45,11 @@ fn touch_met(lefts: &[Touch], rights: &[Touch]) -> Option<Touch>
         .find(|left| collides_with_any(*left, rights))
 }
 
-/// The node of an entry.
+/// Where an entry stands.
 fn node_of(listed: &Listed<'_>) -> Node
     ensures { Some result ≡ option_map node_of (placed_as (Some listed.now)) }
 {
-    Node::Entry {
+    Node {
         server: listed.server,
         stamp: listed.entry.stamp(),
     }
@@ -126,7 +130,7 @@ fn meeting_from(
 
 /// The first entries by which the one chain precedes the other, and the first cell at which they
 /// do. It goes over the list once, and once more behind each entry of the one chain.
-fn meeting_of(
+pub(crate) fn meeting_of(
     alloc: Global,
     world: &World,
     one: &ChainId,
@@ -142,52 +146,11 @@ fn meeting_of(
     Ok(None)
 }
 
-/// Writes the line of a meeting of two entries at a cell.
-fn put_meeting(
-    alloc: Global,
-    out: &mut Vec<u8>,
-    set: &ChainSet,
-    before: &Node,
-    after: &Node,
-    table: TableId,
-    key: u64,
-) -> Result<(), Memory>
-    ensures { OnOk result (out.new.items ≡ out.old.items ++ meeting_line set.now
-        (record { before = before.now; after = after.now; table = table; key = key })) }
-{
-    put_arrow(alloc, out, before, after)?;
-    out.extend_from_slice(b" [label=\" ".as_slice())?;
-    out.extend_from_slice(set.table_name(table))?;
-    out.push(b' ')?;
-    put_number(alloc, out, key)?;
-    out.extend_from_slice(b"\"];\n".as_slice())?;
-    Ok(())
-}
-
-/// Writes the line of a link, if its chains meet.
-fn put_link(
-    alloc: Global,
-    out: &mut Vec<u8>,
-    world: &World,
-    link: &(ChainId, ChainId),
-) -> Result<(), Memory>
-    ensures { OnOk result (out.new.items ≡ out.old.items
-        ++ link_line world.now.set world.now.list link.now) }
-{
-    let Some(met) = meeting_of(alloc, world, &link.0, &link.1)? else {
-        return Ok(());
-    };
-    let Meeting {
-        before,
-        after,
-        table,
-        key,
-    } = met;
-    put_meeting(alloc, out, world.set(), &before, &after, table, key)
-}
-
 /// Each chain with the next, and the last with the first.
-fn linked(alloc: Global, chains: &[ChainId]) -> Result<Vec<(ChainId, ChainId)>, AllocError>
+pub(crate) fn linked(
+    alloc: Global,
+    chains: &[ChainId],
+) -> Result<Vec<(ChainId, ChainId)>, AllocError>
     ensures { IfOk result (λ links. links.items ≡ linked chains.now) }
 {
     let next = chains.iter().skip(1).chain(chains.iter().take(1));
@@ -196,39 +159,4 @@ fn linked(alloc: Global, chains: &[ChainId]) -> Result<Vec<(ChainId, ChainId)>, 
         .zip(next)
         .map(|(chain, next)| (*chain, *next))
         .collect(alloc)
-}
-
-/// Writes a line for each of the links.
-fn put_each_link(
-    alloc: Global,
-    out: &mut Vec<u8>,
-    world: &World,
-    links: &[(ChainId, ChainId)],
-) -> Result<(), Memory>
-    ensures { OnOk result (out.new.items ≡ out.old.items
-        ++ flat_map (link_line world.now.set world.now.list) links.now) }
-{
-    for link in links {
-        put_link(alloc, out, world, link)?;
-    }
-    Ok(())
-}
-
-/// Writes a line for each link of a cycle.
-pub(crate) fn put_links(
-    alloc: Global,
-    out: &mut Vec<u8>,
-    world: &World,
-    explained: &Explained,
-) -> Result<(), Memory>
-    ensures { OnOk result (out.new.items ≡ out.old.items
-        ++ link_lines world.now.set world.now.list explained.now) }
-{
-    match explained {
-        Explained::Order(_) => Ok(()),
-        Explained::Cycle(chains) => {
-            let links = linked(alloc, chains.as_slice())?;
-            put_each_link(alloc, out, world, links.as_slice())
-        }
-    }
 }

@@ -45,7 +45,7 @@ fn put_place(alloc: Global, out: &mut Vec<u8>, word: &str, place: usize) -> Resu
     ensures { OnOk result (out.new.items ≡ out.old.items ++ place_text word.now place) }
 {
     let counted = place + 1;
-    let text = format!(in alloc; "{counted} in the {word}\\l")?;
+    let text = format!(in alloc; "{counted} in the {word}")?;
     out.extend_from_slice(text.as_bytes())?;
     Ok(())
 }

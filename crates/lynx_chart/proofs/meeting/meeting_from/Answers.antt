@@ -6,7 +6,7 @@ use Rattle.lynx_foot.specs.declared.touch.Touch.{Touch}
 use Rattle.lynx_order.specs.Precedence.{touches_in}
 use Rattle.lynx_world.specs.Placed.{Placed}
 use Rattle.lynx_chart.specs.Meetings.{meeting_behind, meeting_from, node_of}
-use Rattle.lynx_chart.proofs.Links.{no_meeting}
+use Rattle.lynx_chart.proofs.Linked.{no_meeting}
 use Rattle.lynx_chart.proofs.meeting.meeting_from.Goals as goal
 
 pub returns-then-is_empty : goal.returns-then-is_empty

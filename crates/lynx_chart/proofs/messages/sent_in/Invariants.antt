@@ -1,9 +1,8 @@
-use Rattle.std.proofs.Common.{◌≡◌, ◌++◌, drop}
-use Rattle.std.specs.List.{filter_map}
-use Rattle.lynx_chart.specs.Messages.{sent_by, sent_in}
+use Rattle.std.proofs.Common.{◌≡◌, drop}
+use Rattle.lynx_chart.specs.Messages.{sent_behind, sent_in}
 use Rattle.lynx_chart.proofs.messages.sent_in.Given as goal
 
--- the messages so far and those of what is left are all
+-- those of what is left come behind those so far
 abbrev pub invariant-loop-place : goal.invariant-loop-place
 invariant-loop-place l =
-    l.messages.items ++ filter_map (sent_by l.world.set l.world.list) (drop l.place l.world.list) ≡ sent_in l.world.set l.world.list
+    sent_behind l.world.set l.stamps l.messages.items (drop l.place l.world.list) ≡ sent_in l.world.set l.stamps l.world.list

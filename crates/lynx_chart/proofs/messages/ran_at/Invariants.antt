@@ -1,7 +1,0 @@
-use Rattle.std.proofs.Common.{◌≡◌, drop}
-use Rattle.lynx_chart.specs.Messages.{ran_at}
-use Rattle.lynx_chart.proofs.messages.ran_at.Given as goal
-
--- it ran where it ran in what is left
-abbrev pub invariant-loop-place : goal.invariant-loop-place
-invariant-loop-place l = ran_at l.chain l.hop (drop l.place l.world.list) ≡ ran_at l.chain l.hop l.world.list

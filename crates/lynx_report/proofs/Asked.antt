@@ -7,14 +7,20 @@ use Rattle.std.proofs.lemmas.List.{append-nil}
 use Rattle.lynx_set.specs.Rules.{IsSet}
 use Rattle.lynx_set.specs.Set.{Set}
 use Rattle.lynx_set.specs.Text.{text_of}
+use Rattle.lynx_set.proofs.Literals.{literals_home}
 use Rattle.lynx_entry.specs.declared.event.Event.{Event}
 use Rattle.lynx_lines.specs.Scripts.{IsScript, script_of}
 use Rattle.lynx_world.specs.Worlds.{WorldState, new_world}
 use Rattle.lynx_lines.proofs.Parts.{appends_both, kept_on, part_on}
+use Rattle.lynx_order.specs.declared.explained.Explained.{Explained}
+use Rattle.lynx_order.specs.declared.explained.Explained.TheVariants.{Order, Cycle}
+use Rattle.lynx_order.specs.Explained.{GivesOrder}
+use Rattle.lynx_promises.proofs.Promised.{headline}
 use Rattle.lynx_report.specs.declared.run.Ending.{Ending}
+use Rattle.lynx_report.specs.declared.run.Ending.TheVariants.{Ordered}
 use Rattle.lynx_report.specs.declared.run.RunFault.{RunFault}
 use Rattle.lynx_report.specs.Options.{BeginsRunWith, PrintsOwed, RestPrints, RunPrintsWith, WritesRest}
-use Rattle.lynx_report.specs.Runs.{EndPrints, Prints, RunPrints, cell_lines, explained_line, outcome_lines, world_after}
+use Rattle.lynx_report.specs.Runs.{EndPrints, Explains, IsPromised, Prints, RunPrints, cell_lines, ending_of, explained_line, outcome_lines, world_after}
 use Rattle.lynx_report.specs.Written.{AppendsPart, BeginsRun, WritesEnd, WritesPart}
 use Rattle.lynx_report.proofs.RunLemmas.{whole_run, world_after-set}
 use Rattle.lynx_report.proofs.Stops.{events_cut, run_cut}
@@ -144,6 +150,22 @@ run_alone set events ending printed with_rest =
     let whole : printed ≡ with_rest.run_lines = with_rest.lines ∙ ap (λ more. with_rest.run_lines ++ more) with_rest.asked ∙ append-nil with_rest.run_lines in
     subst (RunPrints set events ending) (sym whole) with_rest.run
 
+-- how the run ends that is explained by an order
+ends_ordered : (explained : Explained) → GivesOrder explained → ending_of explained ≡ Ordered
+ends_ordered (Order chains) given = refl
+ends_ordered (Cycle chains) given = absurd given
+
+-- all promises hold of a run over a set that has a text
+pub explained_promised : (set : Set) (events : List Event) (ending : Ending) (explained : Explained) → IsSet set →
+    Explains set (world_after (new_world set) events).list explained → ending ≡ ending_of explained → IsPromised set events ending
+explained_promised set events ending explained is explains ending_is = record {
+  promises = headline set events is;
+  ordered = λ accepted. ending_is ∙ ends_ordered explained (explains.accepted (literals_home set is) accepted);
+}
+
+run_promised : (set : Set) (events : List Event) (ending : Ending) (printed : List ℕ) → IsSet set → RunPrints set events ending printed → IsPromised set events ending
+run_promised set events ending printed is run = explained_promised set events ending run.end.explained is run.end.explains run.end.ending_is
+
 -- a run of texts prints what it is to print
 pub texts_print_with : (first third : Option (List ℕ)) (owed : Bool) (text script : List ℕ) (set : Set) (events : List Event) (r : Result Ending RunFault) →
     IsSet set × (text ≡ text_of set) → IsScript set events × (script ≡ script_of set events) →
@@ -160,6 +182,7 @@ texts_print_with first third true text script set events (Ok ending) is_set is_s
     is_script = is_script.0;
     script_spelled = is_script.1;
     run = ran.1;
+    promised = run_promised set events ending _ is_set.0 ran.1.run;
   },
   ran.2,
 )
@@ -173,6 +196,7 @@ texts_print_with first third false text script set events (Ok ending) is_set is_
     is_script = is_script.0;
     script_spelled = is_script.1;
     run = run_alone set events ending ran.0 ran.1;
+    promised = run_promised set events ending _ is_set.0 ran.1.run;
   },
   ran.2,
 )
@@ -224,6 +248,7 @@ texts_cut_with first third true text script set events (Err fault) is_set is_scr
             is_script = is_script.0;
             script_spelled = is_script.1;
             run = whole.2;
+            promised = run_promised set events whole.0 _ is_set.0 whole.2.run;
           },
           (begun.0, whole.3, begun.2),
         )

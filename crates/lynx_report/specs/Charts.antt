@@ -14,7 +14,7 @@ use Rattle.lynx_lex.specs.declared.fault.FaultKind.TheVariants.{Memory as NoMemo
 use Rattle.lynx_report.specs.declared.run.Ending.{Ending}
 use Rattle.lynx_report.specs.declared.run.RunFault.{RunFault}
 use Rattle.lynx_report.specs.declared.run.RunFault.TheVariants.{Set as SetFault, Script as ScriptFault, Write, Memory}
-use Rattle.lynx_report.specs.Runs.{Explains, HasNoScript, IsNoSet, ending_of, outcomes_of, world_after}
+use Rattle.lynx_report.specs.Runs.{Explains, HasNoScript, IsPromised, IsNoSet, ending_of, outcomes_of, world_after}
 use Rattle.lynx_report.specs.Written.{AppendsPart}
 
 -- The chart shows what the servers of a new world do in these events, what befell their messages,
@@ -39,6 +39,7 @@ pub record Charts (set script : List ℕ) (ending : Ending) (chart : List ℕ) :
   pub is_script : IsScript chains events
   pub script_spelled : script ≡ script_of chains events
   pub is_chart : IsChart chains events ending chart
+  pub promised : IsPromised chains events ending
 
 -- why no chart comes: a faulty text, and want of memory, are told before anything is written, and a
 -- text's fault is never want of memory

@@ -13,7 +13,7 @@ use Rattle.lynx_report.specs.declared.owed.OwedHop.{OwedHop}
 use Rattle.lynx_report.specs.declared.run.Ending.{Ending}
 use Rattle.lynx_report.specs.declared.options.RunOptions.{RunOptions}
 use Rattle.lynx_report.specs.Owed.{AreTheOwed, owed_lines}
-use Rattle.lynx_report.specs.Runs.{EndPrints, Prints, RunPrints, world_after}
+use Rattle.lynx_report.specs.Runs.{EndPrints, IsPromised, Prints, RunPrints, world_after}
 use Rattle.lynx_report.specs.Written.{AppendsPart, BeginsRun, BeginsWith, WritesPart}
 
 -- what is printed behind a run: a line for each hop that its list owes where that is asked for,
@@ -66,6 +66,7 @@ pub record PrintsOwed (set script : List ℕ) (ending : Ending) (printed : List 
   pub is_script : IsScript chains events
   pub script_spelled : script ≡ script_of chains events
   pub run : RunPrintsWith true chains events ending printed
+  pub promised : IsPromised chains events ending
 
 -- What a set text and a script print with these options.
 abbrev pub PrintsWith : RunOptions → List ℕ → List ℕ → Ending → List ℕ → Type 0

@@ -13,6 +13,7 @@ use Rattle.lynx_names.specs.declared.limits.TheConstants.{MAX_HELD}
 use Rattle.lynx_world.specs.Placed.{Placed}
 use Rattle.lynx_world.specs.Worlds.{WorldState, new_world}
 use Rattle.lynx_world.specs.Steps.{step}
+pub use Rattle.lynx_world.specs.Steps.{world_after}
 use Rattle.lynx_world.specs.Tables.{cells_of, triple_cmp}
 use Rattle.lynx_report.specs.declared.run.RunFault.{RunFault}
 use Rattle.lynx_report.specs.declared.run.RunFault.TheVariants.{Set as SetFault, Script as ScriptFault, Write, Memory}
@@ -21,16 +22,12 @@ use Rattle.lynx_graph.specs.Acceptance.{IsAccepted}
 use Rattle.lynx_order.specs.declared.explained.Explained.{Explained}
 use Rattle.lynx_order.specs.declared.explained.Explained.TheVariants.{Order, Cycle}
 use Rattle.lynx_order.specs.Explained.{CycleIsRight, GivesOrder, OrderIsRight}
+use Rattle.lynx_promises.specs.Promises.{KeepsPromises}
 use Rattle.lynx_report.specs.declared.run.Ending.{Ending}
 use Rattle.lynx_report.specs.declared.run.Ending.TheVariants.{Ordered, Cyclic}
 use Rattle.lynx_lines.specs.Printed.{chains_text, outcome_text}
 use Rattle.lynx_lex.specs.Lines.{with_feed}
 use Rattle.lynx_lines.specs.Scripts.{IsScript, script_of}
-
--- the world after these events
-abbrev pub world_after : WorldState → List Event → WorldState
-world_after world [] = world
-world_after world (event ∷ events) = world_after (step MAX_HELD world event).world events
 
 -- what the events come to, one after another
 abbrev pub outcomes_of : WorldState → List Event → List Outcome
@@ -89,6 +86,12 @@ pub record RunPrints (chains : Set) (events : List Event) (ending : Ending)
   pub end : EndPrints chains (world_after (new_world chains) events) ending rest
   pub lines : printed ≡ outcome_lines (new_world chains) events ++ rest
 
+-- What is promised of a run of these events: all promises hold of what the servers did, and where
+-- the set is accepted, for either reason, the run ends with an order.
+pub record IsPromised (chains : Set) (events : List Event) (ending : Ending) : Type 0 where
+  pub promises : KeepsPromises chains (world_after (new_world chains) events).list
+  pub ordered : IsAccepted chains → ending ≡ Ordered
+
 -- What a set text and a script print: the lines of a run of the script's events over the set.
 pub record Prints (set script : List ℕ) (ending : Ending) (printed : List ℕ) : Type 0 where
   pub chains : Set
@@ -98,6 +101,7 @@ pub record Prints (set script : List ℕ) (ending : Ending) (printed : List ℕ)
   pub is_script : IsScript chains events
   pub script_spelled : script ≡ script_of chains events
   pub run : RunPrints chains events ending printed
+  pub promised : IsPromised chains events ending
 
 -- the text is that of no set
 abbrev pub IsNoSet : List ℕ → Type 0

@@ -3,6 +3,7 @@ ghost use Rattle.std.specs.Prelude.{◌≡◌, ◌⊎◌, ℕ, List, [], ◌++�
 ghost use Rattle.std.specs.List.{flat_map};
 ghost use Rattle.std.specs.Io.KnownBytes.{Appends, Keeps};
 ghost use Rattle.lynx_check.specs.Reasons.{reason_of};
+ghost use Rattle.lynx_check.specs.Verdicts.{Judges};
 ghost use Rattle.lynx_graph.specs.Walks.{IsOffending};
 ghost use Rattle.lynx_set.specs.Rules.{IsSet};
 ghost use Rattle.lynx_lex.specs.Lines.{with_feed};
@@ -80,7 +81,8 @@ fn lines_behind(
     verdict: &Verdict,
     options: CheckOptions,
 ) -> Result<Vec<u8>, Memory>
-    requires { IsSet set.now }
+    requires text { IsSet set.now }
+    requires judged { Judges set.now verdict.now }
     ensures { IfOk result (λ lines. AreBehind options.why set.now verdict.now lines.items) }
 {
     if options.why {

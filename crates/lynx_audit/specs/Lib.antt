@@ -1,0 +1,4 @@
+pub mod Audits
+pub mod Sizes
+pub mod Latest
+pub mod Owing

@@ -1,24 +1,47 @@
 -- A run over a set that was read or judged before, by the set's text.
-use Rattle.std.proofs.Common.{◌≡◌, ℕ, List, Option, Result, Ok, Err, inr, sym, subst}
+use Rattle.std.proofs.Common.{◌≡◌, ◌∙◌, ℕ, Bool, true, false, List, Option, Result, Ok, Err, inr, ap, sym, subst}
+use Rattle.std.specs.Bool.{MatchBool}
 use Rattle.std.specs.Prelude.{IfErr, IfOk}
 use Rattle.lynx_keep.specs.Kept.{Terms}
+use Rattle.lynx_graph.specs.Acceptance.{IsAccepted as IsAcceptedSet}
+use Rattle.lynx_set.specs.Rules.{IsSet}
 use Rattle.lynx_set.specs.Set.{Set}
 use Rattle.lynx_set.specs.Text.{text_of}
+use Rattle.lynx_text.proofs.OneSet.{one_set}
+use Rattle.lynx_report.specs.Options.{PrintsOwed, PrintsWith}
 use Rattle.lynx_report.specs.Refusals.{Accepts}
+use Rattle.lynx_report.specs.Runs.{Prints}
+use Rattle.lynx_report.specs.declared.run.Ending.{Ending}
 use Rattle.lynx_report.specs.declared.options.RunOptions.{RunOptions}
 use Rattle.lynx_cli.specs.declared.fault.Fault.{Fault}
 use Rattle.lynx_cli.specs.Done.{HasRerunJudged, HasRerunTexts, HasRunJudged, HasRunTexts}
+use Rattle.lynx_cli.specs.Statuses.{status_of_ending}
 use Rattle.lynx_cli.specs.Stopped.{StopsRunJudged, StopsRunTexts}
 
 -- what holds of the set's text, and of what is written from here on, holds of the text, and of what was written before
 at_text : (Holds : List ℕ → Option (List ℕ) → Type 0) (text spelled : List ℕ) (old mid : Option (List ℕ)) → text ≡ spelled → mid ≡ old → Holds spelled mid → Holds text old
 at_text Holds text spelled old mid same kept holds = subst (λ bytes. Holds bytes old) (sym same) (subst (Holds spelled) kept holds)
 
+-- the text's set is that which is accepted
+accepted_text : (text : List ℕ) (set other : Set) → Accepts text set → IsSet other → text ≡ text_of other → IsAcceptedSet other
+accepted_text text set other accepts is spelled =
+    subst IsAcceptedSet (one_set set other accepts.is_set is (sym accepts.spelled ∙ spelled)) accepts.accepted
+
+-- so its run ends with an order
+ends_ordered : (options : RunOptions) (text script : List ℕ) (set : Set) (ending : Ending) (printed : List ℕ) → Accepts text set → PrintsWith options text script ending printed →
+    status_of_ending ending ≡ 0
+ends_ordered options text script set ending printed accepts prints = by options.owed prints
+  where
+    by : (owed : Bool) → MatchBool owed (PrintsOwed text script ending printed) (Prints text script ending printed) → status_of_ending ending ≡ 0
+    by true owes = ap status_of_ending (owes.promised.ordered (accepted_text text set owes.chains accepts owes.is_set owes.set_spelled))
+    by false plain = ap status_of_ending (plain.promised.ordered (accepted_text text set plain.chains accepts plain.is_set plain.set_spelled))
+
 pub judged_done : (options : RunOptions) (text script : List ℕ) (set : Set) (result : Result ℕ Fault) (old mid new : Option (List ℕ)) → Accepts text set → mid ≡ old →
     IfOk result (HasRunTexts options (text_of set) script mid new) → IfOk result (HasRunJudged options text script old new)
 judged_done options text script set (Err fault) old mid new accepts kept run = tt
 judged_done options text script set (Ok status) old mid new accepts kept run =
-    inr ((set, accepts), at_text (λ bytes before. HasRunTexts options bytes script before new status) text (text_of set) old mid accepts.spelled kept run)
+    let ran = at_text (λ bytes before. HasRunTexts options bytes script before new status) text (text_of set) old mid accepts.spelled kept run in
+    inr ((set, accepts), ran, ran.status_is ∙ ends_ordered options text script set ran.ending ran.printed accepts ran.prints)
 
 pub judged_stops : (options : RunOptions) (text script : List ℕ) (set : Set) (result : Result ℕ Fault) (old mid new : Option (List ℕ)) → Accepts text set → mid ≡ old →
     IfErr result (StopsRunTexts options (text_of set) script mid new) → IfErr result (StopsRunJudged options text script old new)

@@ -1,2 +1,3 @@
 mod InputLemmas
 mod Judged
+pub mod Found

@@ -72,11 +72,13 @@ pub record HasRefused (set : List ℕ) (old new : Option (List ℕ)) (status : �
 abbrev pub IsAccepted : List ℕ → Type 0
 IsAccepted text = (set : Set) × Accepts text set
 
--- a set that offends is refused, and over another the script is run
+-- a set that offends is refused, and over another the script is run; that run ends with an order,
+-- never with a cycle, so the status is 0
 abbrev pub HasRunJudged : RunOptions → List ℕ → List ℕ → Option (List ℕ) → Option (List ℕ) → ℕ
     → Type 0
 HasRunJudged options set script old new status =
-    HasRefused set old new status ⊎ (IsAccepted set × HasRunTexts options set script old new status)
+    HasRefused set old new status
+    ⊎ (IsAccepted set × HasRunTexts options set script old new status × (status ≡ 0))
 
 -- what the flags ask of a run
 abbrev pub options_of : RunFlags → RunOptions

@@ -1,8 +1,10 @@
 -- What the words of the command line ask for.
-use Rattle.std.specs.Prelude.{◌≡◌, ◌≢◌, ◌⊎◌, ℕ, List, Option, Some, None, IsSome, Result, Ok, Err, codes, Bool, false, true}
+use Rattle.std.specs.Prelude.{◌≡◌, ◌≢◌, ◌⊎◌, ℕ, List, Option, Some, None, IsSome, Result, Ok, Err, codes, Bool, false, true, unwrap_or}
+use Rattle.clap.specs.Words.{Row, Text, first_of, one_of}
 use Rattle.lynx_cli.specs.declared.job.Job.{Job}
-use Rattle.lynx_cli.specs.declared.job.Job.TheVariants.{Ask, Chart, Check, Draw, Run, RunInput, RunStores, Sample, Serve, Show, Upgrade}
+use Rattle.lynx_cli.specs.declared.job.Job.TheVariants.{Ask, AskFolder, Audit, Chart, Check, Draw, Extend, Owed, Run, RunInput, RunStores, Sample, Serve, Show, Upgrade}
 use Rattle.lynx_cli.specs.declared.job.RunFlags.{RunFlags}
+use Rattle.lynx_cli.specs.declared.job.SampleFlags.{SampleFlags}
 use Rattle.lynx_cli.specs.declared.job.CommandFault.{CommandFault}
 use Rattle.lynx_cli.specs.declared.job.CommandFault.TheVariants.{NoScript, ScriptTooMany, StoresOfInput, WalkOfRun, NoCommand, NotUtf8}
 
@@ -44,8 +46,12 @@ AskedBy command (Ok (Chart set script)) = command ≡ Some (codes "draw")
 AskedBy command (Ok (Sample set flags)) = command ≡ Some (codes "sample")
 AskedBy command (Ok (Show store)) = command ≡ Some (codes "show")
 AskedBy command (Ok (Upgrade store)) = command ≡ Some (codes "upgrade")
+AskedBy command (Ok (Extend folder set)) = command ≡ Some (codes "extend")
 AskedBy command (Ok (Serve set folder port)) = command ≡ Some (codes "serve")
+AskedBy command (Ok (Audit folder)) = command ≡ Some (codes "audit")
+AskedBy command (Ok (Owed folder)) = command ≡ Some (codes "owed")
 AskedBy command (Ok (Ask set port)) = command ≡ Some (codes "ask")
+AskedBy command (Ok (AskFolder folder)) = command ≡ Some (codes "ask")
 AskedBy command (Ok (Run set script flags)) = command ≡ Some (codes "run")
 AskedBy command (Ok (RunStores set script folder flags)) = command ≡ Some (codes "run")
 AskedBy command (Ok (RunInput flags)) = (command ≡ None) ⊎ (command ≡ Some (codes "run"))
@@ -57,5 +63,78 @@ AskedBy command (Err NoCommand) =
     (command ≢ None) × (command ≢ Some (codes "check")) × (command ≢ Some (codes "draw"))
     × (command ≢ Some (codes "run")) × (command ≢ Some (codes "show"))
     × (command ≢ Some (codes "upgrade")) × (command ≢ Some (codes "sample"))
-    × (command ≢ Some (codes "serve")) × (command ≢ Some (codes "ask"))
+    × (command ≢ Some (codes "extend")) × (command ≢ Some (codes "serve"))
+    × (command ≢ Some (codes "ask")) × (command ≢ Some (codes "audit"))
+    × (command ≢ Some (codes "owed"))
 AskedBy command (Err NotUtf8) = ⊥
+
+-- the text that was found under a name, `-` where none was
+abbrev pub text_at : Text → List Row → List ℕ
+text_at name rows = unwrap_or (first_of name rows) (codes "-")
+
+-- a flag is given where `true` was found under its name, and isn't where `false` or nothing was
+pub record IsFlag (name : Text) (rows : List Row) (flag : Bool) : Type 0 where
+  pub given : one_of name rows ≡ Some (codes "true") → flag ≡ true
+  pub left_out : one_of name rows ≡ Some (codes "false") → flag ≡ false
+  pub unknown : one_of name rows ≡ None → flag ≡ false
+
+-- the flags of a run were found so
+pub record AreFlags (rows : List Row) (flags : RunFlags) : Type 0 where
+  pub checked : IsFlag (codes "checked") rows flags.checked
+  pub owed : IsFlag (codes "owed") rows flags.owed
+
+-- what a random script is to be was found so: seed 0 and 8 begins where the words don't say
+pub record AreSampleFlags (rows : List Row) (flags : SampleFlags) : Type 0 where
+  pub cycle : IsFlag (codes "cycle") rows flags.cycle
+  pub seed : one_of (codes "seed") rows ≡ None → flags.seed ≡ 0
+  pub begins : one_of (codes "begins") rows ≡ None → flags.begins ≡ 8
+
+-- a run of the files and the folder that were found, with the flags that were
+pub record RunsFound (rows : List Row) (job : Result Job CommandFault) : Type 0 where
+  pub flags : RunFlags
+  pub are_flags : AreFlags rows flags
+  pub runs : RunsAs (text_at (codes "SET") rows) (first_of (codes "SCRIPT") rows)
+      (first_of (codes "stores") rows) flags job
+
+-- a picture of the files that were found
+pub record DrawsFound (rows : List Row) (job : Result Job CommandFault) : Type 0 where
+  pub walk : Bool
+  pub is_flag : IsFlag (codes "walk") rows walk
+  pub draws : DrawsAs (text_at (codes "SET") rows) (first_of (codes "SCRIPT") rows) walk job
+
+-- What was found behind a command is what the job is done with. Of the numbers of ports, seeds and
+-- begins it is told only what they are where none was found.
+abbrev pub TakesFound : List Row → Result Job CommandFault → Type 0
+TakesFound rows (Ok (Check set why)) =
+    (set.now ≡ text_at (codes "SET") rows) × IsFlag (codes "why") rows why
+TakesFound rows (Ok (Draw set walk)) = DrawsFound rows (Ok (Draw set walk))
+TakesFound rows (Ok (Chart set script)) = DrawsFound rows (Ok (Chart set script))
+TakesFound rows (Ok (Sample set flags)) =
+    (set.now ≡ text_at (codes "SET") rows) × AreSampleFlags rows flags
+TakesFound rows (Ok (Show store)) = store.now ≡ text_at (codes "STORE") rows
+TakesFound rows (Ok (Upgrade store)) = store.now ≡ text_at (codes "STORE") rows
+TakesFound rows (Ok (Extend folder set)) =
+    (folder.now ≡ text_at (codes "DIR") rows) × (set.now ≡ text_at (codes "SET") rows)
+TakesFound rows (Ok (Serve set folder port)) =
+    (set.now ≡ text_at (codes "SET") rows) × (folder.now ≡ text_at (codes "DIR") rows)
+TakesFound rows (Ok (Audit folder)) = folder.now ≡ text_at (codes "DIR") rows
+TakesFound rows (Ok (Owed folder)) = folder.now ≡ text_at (codes "DIR") rows
+TakesFound rows (Ok (Ask set port)) =
+    (set.now ≡ text_at (codes "SET") rows) × IsSome (first_of (codes "PORT") rows)
+TakesFound rows (Ok (AskFolder folder)) =
+    (folder.now ≡ text_at (codes "SET") rows) × (first_of (codes "PORT") rows ≡ None)
+TakesFound rows (Ok (Run set script flags)) = RunsFound rows (Ok (Run set script flags))
+TakesFound rows (Ok (RunStores set script folder flags)) =
+    RunsFound rows (Ok (RunStores set script folder flags))
+TakesFound rows (Ok (RunInput flags)) = RunsFound rows (Ok (RunInput flags))
+TakesFound rows (Err NoScript) = RunsFound rows (Err NoScript)
+TakesFound rows (Err ScriptTooMany) = RunsFound rows (Err ScriptTooMany)
+TakesFound rows (Err StoresOfInput) = RunsFound rows (Err StoresOfInput)
+TakesFound rows (Err WalkOfRun) = DrawsFound rows (Err WalkOfRun)
+TakesFound rows (Err NoCommand) = Unit {0}
+TakesFound rows (Err NotUtf8) = ⊥
+
+-- the same of what clap found, if it found a command
+abbrev pub TakesWords : Option (Text × List Row) → Result Job CommandFault → Type 0
+TakesWords None job = job ≡ Ok (RunInput no_flags)
+TakesWords (Some found) job = TakesFound found.1 job

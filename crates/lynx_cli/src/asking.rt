@@ -2,17 +2,19 @@
 use crate::fault::Fault;
 use crate::hints::{Hints, Named};
 use crate::job::INPUT;
-use crate::reading::text_of;
-use crate::source::InputFault;
+use crate::reading::{is_named_pipe, text_of};
+use crate::source::{InputFault, MAX_FILE_BYTES, read_all};
 use crate::texts::{DONE, FAULTY};
 use lynx_ask::{AskFault, AskSession, LineReply};
 use lynx_codec::Item;
 use lynx_entry::Answer;
 use lynx_hints::{Part, asked_begin_hint, hint};
 use lynx_lex::TextFault;
+use lynx_notice::{notice_in, service_path};
 use lynx_report::read_set;
 use lynx_set::ChainSet;
 use std::alloc::Global;
+use std::fs;
 use std::io::{BufRead, BufReader, ErrorKind, Write};
 use std::net::{Ipv4Addr, Net, TcpListener, TcpStream};
 
@@ -112,6 +114,30 @@ fn ask_lines<'a, L: BufRead, W: Write>(
     Ok(status)
 }
 
+/// Asks the service at the port what the lines of standard input ask, by this set.
+fn ask_at<'a, R: Net<Listener = TcpListener, Stream = TcpStream>, W: Write>(
+    host: &HostRuntime,
+    rt: &R,
+    set: &ChainSet,
+    port: u16,
+    hints: &mut Hints,
+    writer: &mut W,
+) -> Result<u8, Fault<'a>> {
+    let mut stream = match TcpStream::connect(rt, (Ipv4Addr::LOCALHOST, port)) {
+        Ok(stream) => stream,
+        Err(error) => {
+            hints.note_port(host.alloc(), port, &error);
+            return Err(Fault::of_asking(AskFault::Connect));
+        }
+    };
+    let Ok(mut lines) = BufReader::new(host.alloc(), host.reader()) else {
+        return Err(Fault::Memory);
+    };
+    let done = ask_lines(host, set, &mut lines, &mut stream, hints, writer);
+    hints.note_lost(host.alloc(), &done);
+    done
+}
+
 /// Asks the service at the port what the lines of standard input ask, by the set of a file.
 pub(crate) fn ask_port<'a, R: Net<Listener = TcpListener, Stream = TcpStream>, W: Write>(
     host: &HostRuntime,
@@ -128,18 +154,52 @@ pub(crate) fn ask_port<'a, R: Net<Listener = TcpListener, Stream = TcpStream>, W
         Err(fault) => Err(Fault::of_run(fault)),
     };
     hints.note_set(host.alloc(), Named::new(name, text), &set);
-    let set = set?;
-    let mut stream = match TcpStream::connect(rt, (Ipv4Addr::LOCALHOST, port)) {
-        Ok(stream) => stream,
-        Err(error) => {
-            hints.note_port(host.alloc(), port, &error);
-            return Err(Fault::of_asking(AskFault::Connect));
-        }
-    };
-    let Ok(mut lines) = BufReader::new(host.alloc(), host.reader()) else {
+    ask_at(host, rt, &set?, port, hints, writer)
+}
+
+/// As many bytes of the notice of a service are read at most: its lines, and a set's text with one
+/// byte too many.
+const MAX_NOTICE_BYTES: usize = MAX_FILE_BYTES + 64;
+
+/// What a folder tells of the service over it. None where it tells of none.
+fn told_in<'a>(host: &HostRuntime, folder: &str) -> Result<Option<Vec<u8>>, Fault<'a>> {
+    let Ok(path) = service_path(host.alloc(), folder) else {
         return Err(Fault::Memory);
     };
-    let done = ask_lines(host, &set, &mut lines, &mut stream, hints, writer);
-    hints.note_lost(host.alloc(), &done);
-    done
+    if is_named_pipe(host, path.as_str()) {
+        return Ok(None);
+    }
+    let Ok(mut file) = fs::open(host, path.as_str()) else {
+        return Ok(None);
+    };
+    match read_all(host.alloc(), &mut file, MAX_NOTICE_BYTES) {
+        Ok(text) => Ok(Some(text)),
+        Err(InputFault::Read) => Ok(None),
+        Err(InputFault::Memory) => Err(Fault::Memory),
+    }
+}
+
+/// Asks the service over the stores of the folder what the lines of standard input ask, by the set
+/// that it serves.
+pub(crate) fn ask_folder<'a, R: Net<Listener = TcpListener, Stream = TcpStream>, W: Write>(
+    host: &HostRuntime,
+    rt: &R,
+    folder: &str,
+    hints: &mut Hints,
+    writer: &mut W,
+) -> Result<u8, Fault<'a>> {
+    let told = told_in(host, folder)?;
+    let notice = match &told {
+        Some(text) => notice_in(text.as_slice()),
+        None => None,
+    };
+    let Some(notice) = notice else {
+        hints.note_no_service(host.alloc(), folder);
+        return Err(Fault::NoService);
+    };
+    let set = match read_set(host.alloc(), notice.set) {
+        Ok(set) => set,
+        Err(fault) => return Err(Fault::of_run(fault)),
+    };
+    ask_at(host, rt, &set, notice.port, hints, writer)
 }

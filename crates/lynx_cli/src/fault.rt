@@ -1,18 +1,21 @@
 //! Why the program stops short: the one line on standard error, and the status.
 ghost use Rattle.std.specs.Prelude.{◌≡◌};
 ghost use Rattle.lynx_cli.specs.Statuses.{status_of, status_of_run};
-ghost use Rattle.lynx_cli.specs.Stopped.{run_fault, sampling_fault};
+ghost use Rattle.lynx_cli.specs.Stopped.{apart_fault, asking_fault, lost_fault, rerun_fault, run_fault, sampling_fault, serving_fault, showing_fault, store_fault, taking_fault};
 
 use crate::job::CommandFault;
 use crate::shown::Shown;
 use crate::source::InputFault;
 use lynx_ask::AskFault;
 use lynx_lex::TextFault;
+use lynx_names::ServerId;
 use lynx_report::RunFault;
 use lynx_rerun::RerunFault;
 use lynx_sample::SampleFault;
-use lynx_service::ServeFault;
-use lynx_show::ShowFault;
+use lynx_service::{CloseWord, Damage, ServeFault, StoreWord};
+use lynx_show::{ShowFault, TakeFault};
+use lynx_store::StoreFault;
+use lynx_weave::WeaveFault;
 use thiserror::Error;
 
 /// Why the program did not do what it was asked for.
@@ -43,6 +46,9 @@ pub enum Fault<'a> {
     /// Asking a service stopped; never for want of memory or a writer.
     #[error("{0}")]
     Ask(AskFault),
+    /// Nothing in the folder tells of a service.
+    #[error("no service")]
+    NoService,
     /// No script was made; never for what stops a run too.
     #[error("{0}")]
     Sample(SampleFault),
@@ -92,8 +98,7 @@ impl<'a> Fault<'a> {
 
     /// The fault of listing a store.
     pub fn of_showing(fault: ShowFault) -> Fault<'a>
-        ensures write { fault ≡ ShowFault.Write → result ≡ Fault.Write }
-        ensures memory { fault ≡ ShowFault.Memory → result ≡ Fault.Memory }
+        ensures { result ≡ showing_fault fault }
     {
         match fault {
             ShowFault::Write => Fault::Write,
@@ -104,8 +109,7 @@ impl<'a> Fault<'a> {
 
     /// The fault of a service.
     pub fn of_serving(fault: ServeFault) -> Fault<'a>
-        ensures write { fault ≡ ServeFault.Write → result ≡ Fault.Write }
-        ensures memory { fault ≡ ServeFault.Memory → result ≡ Fault.Memory }
+        ensures { result ≡ serving_fault fault }
     {
         match fault {
             ServeFault::Write => Fault::Write,
@@ -116,8 +120,7 @@ impl<'a> Fault<'a> {
 
     /// The fault of asking a service.
     pub fn of_asking(fault: AskFault) -> Fault<'a>
-        ensures write { fault ≡ AskFault.Write → result ≡ Fault.Write }
-        ensures memory { fault ≡ AskFault.Memory → result ≡ Fault.Memory }
+        ensures { result ≡ asking_fault fault }
     {
         match fault {
             AskFault::Write => Fault::Write,
@@ -126,16 +129,63 @@ impl<'a> Fault<'a> {
         }
     }
 
-    /// The fault of a run over stores, told as a service tells its own.
+    /// The fault of the store of that server, told as a service tells it.
+    pub(crate) fn of_store(server: ServerId, fault: StoreFault) -> Fault<'a>
+        ensures { result ≡ store_fault server fault }
+    {
+        let word = match fault {
+            StoreFault::OtherSet => StoreWord::OtherSet,
+            StoreFault::OtherVersion => StoreWord::OtherVersion,
+            StoreFault::Damaged => StoreWord::Damaged(Damage::Somewhere),
+            StoreFault::Store => StoreWord::Store,
+            StoreFault::Memory => return Fault::Memory,
+        };
+        let server = server.number();
+        Fault::Serve(ServeFault::Store { server, word })
+    }
+
+    /// The store of that server isn't there, where it was.
+    pub(crate) fn of_lost(server: ServerId) -> Fault<'a>
+        ensures { result ≡ lost_fault server }
+    {
+        let server = server.number();
+        let word = StoreWord::Damaged(Damage::Missing);
+        Fault::Serve(ServeFault::Store { server, word })
+    }
+
+    /// The fault of giving the store of that server to a set.
+    pub(crate) fn of_taking(server: ServerId, fault: TakeFault) -> Fault<'a>
+        ensures { result ≡ taking_fault server fault }
+    {
+        match fault {
+            TakeFault::Store(fault) => Fault::of_store(server, fault),
+            TakeFault::Write => Fault::Write,
+        }
+    }
+
+    /// The fault of stores that don't belong together, told as a service tells it.
+    fn of_apart(fault: WeaveFault) -> Fault<'a>
+        ensures { result ≡ apart_fault fault }
+    {
+        let word = match fault {
+            WeaveFault::Mismatch { server, place } => CloseWord::Mismatch {
+                server: server.number(),
+                place,
+            },
+            WeaveFault::Told { session, place } => CloseWord::Told { session, place },
+            WeaveFault::Memory => return Fault::Memory,
+        };
+        Fault::Serve(ServeFault::Close(word))
+    }
+
+    /// The fault of a run over stores.
     pub fn of_rerun(fault: RerunFault) -> Fault<'a>
-        ensures { (found : RunFault) → fault ≡ RerunFault.Run found → result ≡ run_fault found }
+        ensures { result ≡ rerun_fault fault }
     {
         match fault {
             RerunFault::Run(fault) => Fault::of_run(fault),
-            RerunFault::Store { server, fault } => {
-                Fault::of_serving(ServeFault::of_store(server, fault))
-            }
-            RerunFault::Apart(fault) => Fault::of_serving(ServeFault::from(fault)),
+            RerunFault::Store { server, fault } => Fault::of_store(server, fault),
+            RerunFault::Apart(fault) => Fault::of_apart(fault),
         }
     }
 
@@ -157,6 +207,7 @@ impl<'a> Fault<'a> {
         match self {
             Fault::Command(_) | Fault::NoSeparator | Fault::Set(_) | Fault::Script(_) => 2,
             Fault::Unread(_) | Fault::Store(_) | Fault::Serve(_) | Fault::Ask(_) => 4,
+            Fault::NoService => 4,
             Fault::Sample(SampleFault::NoCycle) => 1,
             Fault::Sample(SampleFault::TooLong) => 2,
             Fault::Sample(SampleFault::Run(fault)) => status_of_run(*fault),

@@ -2,6 +2,7 @@
 //! what was expected, or why the system refused.
 use crate::causes::{cause_of_damage, cause_of_store};
 use crate::fault::Fault;
+use crate::foreign::foreign_lines;
 use crate::input::split_input;
 use crate::job::INPUT;
 use crate::reading::is_named_pipe;
@@ -11,6 +12,7 @@ use lynx_ask::AskFault;
 use lynx_hints::{Part, begin_hints, hint, separator_hint};
 use lynx_lex::TextFault;
 use lynx_service::{Damage, ServeFault, StoreWord};
+use lynx_set::ChainSet;
 use lynx_text::parse;
 use std::alloc::Global;
 use std::io::Read;
@@ -196,6 +198,21 @@ impl Hints {
         }
     }
 
+    /// Notes how the set of a store differs from the one that it was to be opened for.
+    pub(crate) fn note_foreign<T>(
+        &mut self,
+        host: &HostRuntime,
+        folder: &str,
+        set: &ChainSet,
+        done: &Result<T, Fault<'_>>,
+    ) {
+        if self.is_wanted {
+            if let Some(lines) = foreign_lines(host, folder, set, done) {
+                self.lines = Some(lines);
+            }
+        }
+    }
+
     /// Notes where the fault of a service is.
     fn note_spot<T>(&mut self, alloc: Global, done: &Result<T, Fault<'_>>) {
         if let Err(Fault::Serve(fault)) = done {
@@ -225,6 +242,15 @@ impl Hints {
         match TcpListener::bind(rt, (Ipv4Addr::LOCALHOST, port)) {
             Ok(_) => {}
             Err(error) => self.note_port(alloc, port, &error),
+        }
+    }
+
+    /// Notes that nothing in the folder tells of a service.
+    pub(crate) fn note_no_service(&mut self, alloc: Global, folder: &str) {
+        if self.is_wanted {
+            self.lines = format!(in alloc;
+                "  {folder}/service tells of none: lynx serve SET {folder} PORT makes it, and takes it away when it ends\n"
+            ).ok();
         }
     }
 

@@ -79,6 +79,19 @@ pub enum Job<'a> {
     Upgrade {
         store: &'a str,
     },
+    /// Give the stores of the folder to the set of a file, which extends theirs.
+    Extend {
+        folder: &'a str,
+        set: &'a str,
+    },
+    /// Audit the stores of the folder, which no service has open.
+    Audit {
+        folder: &'a str,
+    },
+    /// List the hops that are owed, of the stores of the folder.
+    Owed {
+        folder: &'a str,
+    },
     /// Serve clients at the port, over the stores of the set's servers in the folder.
     Serve {
         set: &'a str,
@@ -89,6 +102,10 @@ pub enum Job<'a> {
     Ask {
         set: &'a str,
         port: u16,
+    },
+    /// Ask the service over the stores of the folder, by the set that it serves.
+    AskFolder {
+        folder: &'a str,
     },
 }
 

@@ -2,7 +2,9 @@
 ghost use Rattle.std.specs.Prelude.{◌≡◌, Ok, Err};
 ghost use Rattle.lynx_cli.specs.Statuses.{finished_as};
 
-use crate::asking::ask_port;
+use crate::asking::{ask_folder, ask_port};
+use crate::auditing::{audit_folder, list_owed_in};
+use crate::extending::extend_folder;
 use crate::fault::Fault;
 use crate::hints::{Hints, Named};
 use crate::job::{INPUT, Job, RunFlags, SampleFlags};
@@ -54,11 +56,17 @@ pub fn do_job<
         Job::RunInput { flags } => run_standard_input(host, flags, hints, &mut writer),
         Job::Show { store } => show_file(host, store, hints, &mut writer),
         Job::Upgrade { store } => upgrade_file(host, store, hints, &mut writer),
+        Job::Extend { folder, set } => {
+            extend_folder(host, stores, folder, set, hints, &mut writer)
+        }
+        Job::Audit { folder } => audit_folder(host, folder, hints, &mut writer),
+        Job::Owed { folder } => list_owed_in(host, folder, hints, &mut writer),
         Job::Serve { set, folder, port } => {
             let service = Service { folder, port };
             serve_file(host, rt, stores, set, service, hints, &mut writer)
         }
         Job::Ask { set, port } => ask_port(host, &rt, set, port, hints, &mut writer),
+        Job::AskFolder { folder } => ask_folder(host, &rt, folder, hints, &mut writer),
     };
     hints.note_unread(host, host.alloc(), &done);
     let flushed = writer.flush().is_ok();

@@ -12,8 +12,11 @@ pub use source::{InputFault, MAX_FILE_BYTES, MAX_INPUT_BYTES, read_all};
 pub use texts::{chart_script, check_set, draw_set, run_input, run_script, sample_set};
 
 mod asking;
+mod auditing;
 mod causes;
+mod extending;
 pub mod fault;
+mod foreign;
 pub mod hints;
 pub mod input;
 pub mod job;

@@ -1,7 +1,7 @@
 //! The words of the command line.
-ghost use Rattle.std.specs.Prelude.{◌≡◌, Ok, None};
-ghost use Rattle.clap.specs.Matches.{subcommand_name_of};
-ghost use Rattle.lynx_cli.specs.Jobs.{AskedBy, no_flags};
+ghost use Rattle.std.specs.Prelude.{◌≡◌, Ok, None, Some, codes, option_map};
+ghost use Rattle.clap.specs.Words.{first_of, found_of, rows_of, subcommand_name_of, subcommand_rows_of};
+ghost use Rattle.lynx_cli.specs.Jobs.{AreFlags, AreSampleFlags, AskedBy, IsFlag, TakesFound, TakesWords, no_flags, text_at};
 
 use crate::job::{
     CommandFault, INPUT, Job, NO_FLAGS, RunFlags, SampleFlags, job_of_draw, job_of_run,
@@ -82,7 +82,7 @@ fn check_command<'a>(alloc: Global) -> Result<Command<'a>, AllocError> {
         .arg(flag(
             alloc,
             WHY,
-            "Tell behind the verdict which hops may conflict, why each group of programs is fine, and which programs make\nthe server where they begin busy",
+            "Tell behind the verdict which hops may conflict, why each group of programs is fine, which programs make the\nserver where they begin busy, and of a set that offends which blocks are in the way and which programs to blame",
         ))?
         .arg(hints_flag(alloc))
 }
@@ -90,10 +90,10 @@ fn check_command<'a>(alloc: Global) -> Result<Command<'a>, AllocError> {
 fn draw_command<'a>(alloc: Global) -> Result<Command<'a>, AllocError> {
     Command::new(alloc, "draw")
         .about(
-            "Draw a set of chain programs, or a run of a script, in the DOT language of Graphviz",
+            "Draw a set of chain programs as a text for Graphviz, or a run of a script as an SVG",
         )
         .after_help(
-            "Of a set: dashed lines join hops that may conflict, red steps are those by which the set offends.\nStatus 0 where the set is accepted, 1 where it offends: it is drawn all the same.\nOf a run: each server's entries stand in a column, arrows are messages, red lines lead around a cycle.\nStatus 0 where an order explains the run, 1 where it ends with a cycle. The set isn't checked.\nExample: lynx draw payment.set | dot -Tsvg > payment.svg",
+            "Of a set: dashed lines join hops that may conflict, red steps are those by which the set offends.\nStatus 0 where the set is accepted, 1 where it offends: it is drawn all the same.\nOf a run: each server's entries stand in a column, arrows are messages, red lines lead around a cycle.\nStatus 0 where an order explains the run, 1 where it ends with a cycle. The set isn't checked.\nExamples: lynx draw payment.set | dot -Tsvg > payment.svg\n          lynx draw payment.set payment.script > run.svg",
         )
         .arg(set_file(alloc))?
         .arg(script_file(alloc))?
@@ -203,9 +203,38 @@ fn upgrade_command<'a>(alloc: Global) -> Result<Command<'a>, AllocError> {
         .arg(hints_flag(alloc))
 }
 
+fn extend_command<'a>(alloc: Global) -> Result<Command<'a>, AllocError> {
+    let folder = Arg::new(alloc, "DIR")
+        .required(true)
+        .help("The folder of the stores, server-0.lynx and so on");
+    let set = Arg::new(alloc, "SET")
+        .required(true)
+        .help("The file of the text of a set that extends theirs");
+    Command::new(alloc, "extend")
+        .about(
+            "Give the stores of a folder to a set that extends theirs: with more programs, tables or servers",
+        )
+        .after_help(
+            "The set has each table and each program of theirs under its number, the same to the last word, and as many\nservers or more; version 1 may rise to 2. An offending set is refused as by check, and nothing is opened.\nNo service may have the stores open. All are read first, then the stores of new servers are made, then each\nold one is changed: after a stop the same words go on. It prints made N, extended N ENTRIES or same N for\neach server.\nExample: lynx extend stores grown.set",
+        )
+        .arg(folder)?
+        .arg(set)?
+        .arg(hints_flag(alloc))
+}
+
+/// The port, of a service or of one that is asked.
+const PORT: &str = "PORT";
+
+/// The folder of stores that nobody has open.
+fn store_folder<'a>(alloc: Global) -> Arg<'a> {
+    Arg::new(alloc, "DIR")
+        .required(true)
+        .help("The folder of the stores, server-0.lynx and so on")
+}
+
 /// The port of a service.
 fn port<'a>(alloc: Global) -> Arg<'a> {
-    Arg::new(alloc, "PORT")
+    Arg::new(alloc, PORT)
         .required(true)
         .value_parser(value_parser!(u16).range(1..=65535))
         .help("The port of 127.0.0.1, 1 to 65535")
@@ -226,14 +255,53 @@ fn serve_command<'a>(alloc: Global) -> Result<Command<'a>, AllocError> {
         .arg(hints_flag(alloc))
 }
 
+fn audit_command<'a>(alloc: Global) -> Result<Command<'a>, AllocError> {
+    Command::new(alloc, "audit")
+        .about(
+            "Check the stores of a folder as the end of a service does, and print the order of all chains",
+        )
+        .after_help(
+            "No service may have the stores open; they are only read, so a copy of the folder does as well. Each server is\nopened over a copy of its store in memory, all histories are woven to one world, and what explains it is\nprinted: closed, and the order, or a cycle. Behind it: entries SERVER COUNT, and cells TABLE COUNT of the\ncells that aren't 0. Faults are those of serve. Status 0, or 1 where it is a cycle.\nExample: lynx audit stores",
+        )
+        .arg(store_folder(alloc))?
+        .arg(hints_flag(alloc))
+}
+
+fn owed_command<'a>(alloc: Global) -> Result<Command<'a>, AllocError> {
+    Command::new(alloc, "owed")
+        .about("List the hops that chains owe, of the stores of a folder")
+        .after_help(
+            "A line owed CHAIN HOP server S since STAMP for each: the server that is to do it, and the stamp of the last\nhop that its chain did. They are done once the set is served over these stores. No service may have them\nopen; they are only read. Faults are those of audit.\nExample: lynx owed stores",
+        )
+        .arg(store_folder(alloc))?
+        .arg(hints_flag(alloc))
+}
+
+/// The port of the service that is asked.
+fn asked_port<'a>(alloc: Global) -> Arg<'a> {
+    Arg::new(alloc, PORT)
+        .value_parser(value_parser!(u16).range(1..=65535))
+        .help("The port of 127.0.0.1, 1 to 65535; behind a folder none, since its service is asked")
+}
+
+/// The set of a service that is asked, or its folder.
+fn asked_set<'a>(alloc: Global) -> Arg<'a> {
+    Arg::new(alloc, "SET")
+        .value_name("DIR|SET")
+        .required(true)
+        .help(
+            "The folder of a service, which tells its port and its set; or the file of the set's text",
+        )
+}
+
 fn ask_command<'a>(alloc: Global) -> Result<Command<'a>, AllocError> {
     Command::new(alloc, "ask")
         .about("Ask a service what the lines of standard input ask, and print its answers")
         .after_help(
-            "Lines:\n  begin CLIENT NUMBER PROGRAM ARG..  begin a chain; the same CLIENT and NUMBER never begin two\n  look ORIGIN:INDEX HOP              whether that hop of a chain is done, and its results\n  look ORIGIN:INDEX HOP wait         the same, once the hop is done, or after ten seconds\n  quit                               leave, as the end of the input does\n  shut                               have the service end\nA faulty line is told on standard error, and the next one asked; the status is then 2.\nExample: echo 'begin 1 1 pay 30' | lynx ask payment.set 7000",
+            "Lines:\n  begin CLIENT NUMBER PROGRAM ARG..  begin a chain; the same CLIENT and NUMBER never begin two\n  look ORIGIN:INDEX HOP              whether that hop of a chain is done, and its results\n  look ORIGIN:INDEX HOP wait         the same, once the hop is done, or after ten seconds\n  quit                               leave, as the end of the input does\n  shut                               have the service end\nA faulty line is told on standard error, and the next one asked; the status is then 2.\nA request tells a program by its number: SET and PORT are right where SET is the service's, to the word.\nExamples: echo 'begin 1 1 pay 30' | lynx ask stores\n          echo 'begin 1 1 pay 30' | lynx ask payment.set 7000",
         )
-        .arg(set_file(alloc))?
-        .arg(port(alloc))?
+        .arg(asked_set(alloc))?
+        .arg(asked_port(alloc))?
         .arg(hints_flag(alloc))
 }
 
@@ -242,7 +310,7 @@ fn bare_command<'a>(alloc: Global) -> Command<'a> {
     Command::new(alloc, "lynx")
         .version("0.1.0")
         .about(
-            "A transaction-chain store: judges, draws and runs sets of chain programs, makes scripts for them, serves them to\nclients, and lists and upgrades stores",
+            "A transaction-chain store: judges, draws and runs sets of chain programs, makes scripts for them, serves them to\nclients, and lists, audits, upgrades and extends stores",
         )
         .after_help(STATUSES_AND_FAULTS)
 }
@@ -271,8 +339,18 @@ fn with_upgrade<'a>(alloc: Global, command: Command<'a>) -> Result<Command<'a>, 
     command.subcommand(upgrade_command(alloc)?)
 }
 
+fn with_extend<'a>(alloc: Global, command: Command<'a>) -> Result<Command<'a>, AllocError> {
+    command.subcommand(extend_command(alloc)?)
+}
+
 fn with_serve<'a>(alloc: Global, command: Command<'a>) -> Result<Command<'a>, AllocError> {
     command.subcommand(serve_command(alloc)?)
+}
+
+fn with_audit<'a>(alloc: Global, command: Command<'a>) -> Result<Command<'a>, AllocError> {
+    command
+        .subcommand(audit_command(alloc)?)?
+        .subcommand(owed_command(alloc)?)
 }
 
 fn with_ask<'a>(alloc: Global, command: Command<'a>) -> Result<Command<'a>, AllocError> {
@@ -285,29 +363,72 @@ pub fn command<'a>(alloc: Global) -> Result<Command<'a>, AllocError> {
     let command = with_run(alloc, with_draw(alloc, command)?)?;
     let command = with_sample(alloc, command)?;
     let command = with_upgrade(alloc, with_show(alloc, command)?)?;
+    let command = with_audit(alloc, with_extend(alloc, command)?)?;
     let command = with_serve(alloc, command)?;
     with_ask(alloc, command)
 }
 
 /// The number of the port. The parser lets no other words through.
 fn port_of(words: &ArgMatches<'_>) -> u16 {
-    words.get_one("PORT").unwrap_or_default()
+    words.get_one(PORT).unwrap_or_default()
+}
+
+/// The text that was found under a name, standard input where none was. The parser lets no words
+/// through that lack one which is asked for here.
+fn text_at<'a>(words: &ArgMatches<'a>, name: &str) -> &'a str
+    ensures { result.now ≡ text_at name.now (rows_of (found_of words.now)) }
+{
+    words.get_str(name).unwrap_or(INPUT)
+}
+
+/// A text that may have been found under a name.
+fn found_at<'a>(words: &ArgMatches<'a>, name: &str) -> Option<&'a str>
+    ensures { option_map (λ own. own.now) result
+        ≡ first_of name.now (rows_of (found_of words.now)) }
+{
+    words.get_str(name)
+}
+
+/// Whether a flag is given.
+fn flag_at(words: &ArgMatches<'_>, name: &str) -> bool
+    ensures { IsFlag name.now (rows_of (found_of words.now)) result }
+{
+    words.get_flag(name)
+}
+
+/// The service that is asked: that at the port, or without one that of the folder.
+fn job_of_ask<'a>(words: &ArgMatches<'a>) -> Job<'a>
+    ensures asked { AskedBy (Some (codes "ask")) (Ok result) }
+    ensures words { TakesFound (rows_of (found_of words.now)) (Ok result) }
+{
+    let set = text_at(words, "SET");
+    match found_at(words, PORT) {
+        Some(_) => Job::Ask {
+            set,
+            port: port_of(words),
+        },
+        None => Job::AskFolder { folder: set },
+    }
 }
 
 /// The flags of a run.
-fn flags_of(words: &ArgMatches<'_>) -> RunFlags {
+fn flags_of(words: &ArgMatches<'_>) -> RunFlags
+    ensures { AreFlags (rows_of (found_of words.now)) result }
+{
     RunFlags {
-        checked: words.get_flag(CHECKED),
-        owed: words.get_flag(OWED),
+        checked: flag_at(words, CHECKED),
+        owed: flag_at(words, OWED),
     }
 }
 
 /// What a random script is to be. The parser lets no other words through.
-fn sample_flags_of(words: &ArgMatches<'_>) -> SampleFlags {
+fn sample_flags_of(words: &ArgMatches<'_>) -> SampleFlags
+    ensures { AreSampleFlags (rows_of (found_of words.now)) result }
+{
     SampleFlags {
-        seed: words.get_one(SEED).unwrap_or_default(),
+        seed: words.get_one(SEED).unwrap_or(0),
         begins: words.get_one(BEGINS).unwrap_or(USUAL_BEGINS),
-        cycle: words.get_flag(CYCLE),
+        cycle: flag_at(words, CYCLE),
     }
 }
 
@@ -319,46 +440,60 @@ pub fn wants_hints(matches: &ArgMatches<'_>) -> bool {
     }
 }
 
-/// What the words ask for.
-pub fn job_of<'a>(matches: &ArgMatches<'a>) -> Result<Job<'a>, CommandFault>
-    ensures no_words { subcommand_name_of matches.now ≡ None → result ≡ Ok (Job.RunInput no_flags) }
-    ensures asked { AskedBy (subcommand_name_of matches.now) result }
+/// What a command and the words behind it ask for.
+fn job_of_command<'a>(name: &str, words: &ArgMatches<'a>) -> Result<Job<'a>, CommandFault>
+    ensures asked { AskedBy (Some name.now) result }
+    ensures words { TakesFound (rows_of (found_of words.now)) result }
 {
-    let Some((name, words)) = matches.subcommand() else {
-        return Ok(Job::RunInput { flags: NO_FLAGS });
-    };
-    let set = words.get_str("SET").unwrap_or(INPUT);
+    let set = text_at(words, "SET");
     match name {
         "check" => Ok(Job::Check {
             set,
-            why: words.get_flag(WHY),
+            why: flag_at(words, WHY),
         }),
-        "draw" => job_of_draw(set, words.get_str(SCRIPT), words.get_flag(WALK)),
+        "draw" => job_of_draw(set, found_at(words, SCRIPT), flag_at(words, WALK)),
         "sample" => Ok(Job::Sample {
             set,
             flags: sample_flags_of(words),
         }),
-        "run" => job_of_run(
-            set,
-            words.get_str(SCRIPT),
-            words.get_str(STORES),
-            flags_of(words),
-        ),
+        "run" => {
+            let script = found_at(words, SCRIPT);
+            job_of_run(set, script, found_at(words, STORES), flags_of(words))
+        }
         "show" => Ok(Job::Show {
-            store: words.get_str("STORE").unwrap_or(INPUT),
+            store: text_at(words, "STORE"),
         }),
         "upgrade" => Ok(Job::Upgrade {
-            store: words.get_str("STORE").unwrap_or(INPUT),
+            store: text_at(words, "STORE"),
+        }),
+        "extend" => Ok(Job::Extend {
+            folder: text_at(words, "DIR"),
+            set,
         }),
         "serve" => Ok(Job::Serve {
             set,
-            folder: words.get_str("DIR").unwrap_or(INPUT),
+            folder: text_at(words, "DIR"),
             port: port_of(words),
         }),
-        "ask" => Ok(Job::Ask {
-            set,
-            port: port_of(words),
+        "audit" => Ok(Job::Audit {
+            folder: text_at(words, "DIR"),
         }),
+        "owed" => Ok(Job::Owed {
+            folder: text_at(words, "DIR"),
+        }),
+        "ask" => Ok(job_of_ask(words)),
         _ => Err(CommandFault::NoCommand),
+    }
+}
+
+/// What the words ask for.
+pub fn job_of<'a>(matches: &ArgMatches<'a>) -> Result<Job<'a>, CommandFault>
+    ensures no_words { subcommand_name_of matches.now ≡ None → result ≡ Ok (Job.RunInput no_flags) }
+    ensures asked { AskedBy (subcommand_name_of matches.now) result }
+    ensures words { TakesWords (subcommand_rows_of matches.now) result }
+{
+    match matches.subcommand() {
+        Some((name, words)) => job_of_command(name, words),
+        None => Ok(Job::RunInput { flags: NO_FLAGS }),
     }
 }

@@ -12,6 +12,7 @@ use crate::reading::text_of;
 use crate::texts::{DONE, OFFENDING};
 use lynx_cluster::Host;
 use lynx_keep::Keeper;
+use lynx_notice::Board;
 use lynx_order::Explained;
 use lynx_service::{Progress, ServeFault, Service, serve_stores};
 use lynx_set::ChainSet;
@@ -22,7 +23,7 @@ use std::net::{Net, TcpListener, TcpStream};
 
 /// The set that a text spells, if it is accepted. None where it offends, and then the verdict is
 /// written as by a check.
-fn accepted_set<'a, W: Write>(
+pub(crate) fn accepted_set<'a, W: Write>(
     alloc: Global,
     text: &[u8],
     writer: &mut W,
@@ -64,7 +65,21 @@ pub(crate) fn serve_file<
         return Ok(OFFENDING);
     };
     let progress = Progress::new(host);
-    match serve_stores(rt, host.alloc(), &set, stores, service, writer, &progress) {
+    let board = Board {
+        rt: host,
+        folder: service.folder,
+        set: text,
+    };
+    match serve_stores(
+        rt,
+        host.alloc(),
+        &set,
+        stores,
+        service,
+        writer,
+        &progress,
+        &board,
+    ) {
         Ok(Explained::Order(_)) => Ok(DONE),
         Ok(Explained::Cycle(_)) => Ok(OFFENDING),
         Err(fault) => {
@@ -73,6 +88,7 @@ pub(crate) fn serve_file<
             }
             let done = Err(Fault::of_serving(fault));
             hints.note_store(host, service.folder, &done);
+            hints.note_foreign(host, service.folder, &set, &done);
             done
         }
     }

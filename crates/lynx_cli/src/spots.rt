@@ -11,7 +11,7 @@ fn spot_of_damage(alloc: Global, server: u8, damage: Damage) -> Result<Option<St
         )?)),
         Damage::Missing => Ok(Some(String::from_str(
             alloc,
-            "  there is no such store, and other servers of the folder have entries: put it back, or begin with an empty folder\n",
+            "  there is no such store, and other servers of the folder have entries: put it back, or begin with an empty folder; the stores of servers that a set adds are made by lynx extend\n",
         )?)),
     }
 }

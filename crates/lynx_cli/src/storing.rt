@@ -82,10 +82,10 @@ pub(crate) fn show_file<'a, W: Write>(
 const UPGRADING: &str = "\rlynx: upgrading the store\x1b[K";
 
 /// .. and how that is wiped away.
-const WIPED: &str = "\r\x1b[K";
+pub(crate) const WIPED: &str = "\r\x1b[K";
 
 /// Writes to standard error where that is a terminal.
-fn tell(rt: &HostRuntime, text: &str) {
+pub(crate) fn tell(rt: &HostRuntime, text: &str) {
     if rt.stderr().is_terminal() {
         let _ = eprint!(rt; "{text}");
     }

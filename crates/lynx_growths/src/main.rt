@@ -14,6 +14,7 @@ use std::sync::Wait;
 use std::thread::Threads;
 use std::time::Clock;
 
+mod hops;
 mod openings;
 mod parts;
 mod servers;
@@ -23,6 +24,7 @@ mod tried;
 mod values;
 mod worlds;
 
+use hops::{HopCall, try_hop};
 use openings::{OpeningCall, try_opening};
 use parts::{PartCall, try_part};
 use servers::{ServerCall, try_server};
@@ -37,6 +39,7 @@ use worlds::{WorldCall, try_world};
 enum Call {
     Text(TextCall),
     Value(ValueCall),
+    Hop(HopCall),
     Part(PartCall),
     Server(ServerCall),
     Service(ServiceCall),
@@ -55,17 +58,26 @@ const CALLS: &[(&str, Call)] = &[
     ("conflict_edges", Call::Text(TextCall::Edges)),
     ("check", Call::Text(TextCall::Check)),
     ("draw", Call::Text(TextCall::Draw)),
+    ("Changes::put", Call::Value(ValueCall::Put)),
     ("Cells::stage", Call::Value(ValueCall::Stage)),
     ("Cells::list", Call::Value(ValueCall::List)),
     ("ShardMap::from_ranges", Call::Value(ValueCall::Shards)),
     ("Entry::copy", Call::Value(ValueCall::CopyEntry)),
     ("Request::copy", Call::Value(ValueCall::CopyRequest)),
+    ("Answer::copy", Call::Value(ValueCall::CopyAnswer)),
+    ("Message::copy", Call::Value(ValueCall::CopyMessage)),
+    ("HeldBuffer::new", Call::Value(ValueCall::Held)),
     ("Feed::push", Call::Value(ValueCall::Push)),
     ("Feed::next", Call::Value(ValueCall::Next)),
     ("encode", Call::Value(ValueCall::Encode)),
     ("links", Call::Value(ValueCall::Links)),
+    ("run_hop", Call::Hop(HopCall::Run)),
+    ("touches", Call::Hop(HopCall::Touches)),
+    ("next_of", Call::Hop(HopCall::Next)),
+    ("first_unlawful", Call::Hop(HopCall::Unlawful)),
     ("Sequencer::draw", Call::Part(PartCall::Draw)),
     ("MemoryKeeper::commit", Call::Part(PartCall::Commit)),
+    ("MemoryKeeper::copy", Call::Part(PartCall::Copy)),
     ("Server::begin", Call::Server(ServerCall::Begin)),
     ("Server::deliver", Call::Server(ServerCall::Deliver)),
     (
@@ -86,6 +98,7 @@ const CALLS: &[(&str, Call)] = &[
         "World::apply of a delivery",
         Call::World(WorldCall::Deliver),
     ),
+    ("World::apply of a waking", Call::World(WorldCall::Wake)),
     ("World::apply of a loss", Call::World(WorldCall::Lose)),
     ("World::apply of a restart", Call::World(WorldCall::Restart)),
     ("World::cells", Call::World(WorldCall::Cells)),
@@ -105,6 +118,7 @@ fn make<R: Threads + Wait + Clock + Copy + Send + 'static>(
     match call {
         Call::Text(call) => try_text(alloc, call),
         Call::Value(call) => try_value(alloc, call),
+        Call::Hop(call) => try_hop(alloc, call),
         Call::Part(call) => try_part(alloc, call),
         Call::Server(call) => try_server(alloc, call),
         Call::Service(call) => try_service(rt, alloc, call),

@@ -1,7 +1,7 @@
 //! Calls that a server makes of its parts.
 ghost use Rattle.lynx_codec.specs.Entries.{IsEntryInRange};
 
-use crate::tried::{Called, Tried, ended, made_again};
+use crate::tried::{Called, Tried, ended, made_again, of_result};
 use crate::values::changes;
 use lynx_cells::Changes;
 use lynx_entry::Entry;
@@ -10,7 +10,7 @@ use lynx_fixtures::payments::AT_FIRST;
 use lynx_fixtures::texts::{PAYMENT, read};
 use lynx_keep::{KeepFault, Keeper, MemoryKeeper};
 use lynx_names::limits::MAX_SERVERS;
-use lynx_names::{Memory, ServerId, ServerList};
+use lynx_names::{Memory, ServerId, ServerList, TryCopy};
 use lynx_seq::Sequencer;
 use lynx_server::rebuild;
 use std::alloc::Global;
@@ -22,6 +22,8 @@ pub enum PartCall {
     Draw,
     /// A keeper keeps an entry.
     Commit,
+    /// A keeper that keeps entries is copied.
+    Copy,
 }
 
 /// All servers that a set may have.
@@ -93,10 +95,23 @@ fn try_commit(alloc: Global) -> Result<Tried, Memory> {
     }
 }
 
+/// The payer's keeper is copied.
+fn try_copy(alloc: Global) -> Result<Tried, Memory> {
+    let set = read(alloc, PAYMENT)?;
+    let history = entries(alloc, AT_FIRST)?;
+    let payer = rebuild(alloc, &set, ServerId::first(), history).map_err(|_| Memory)?;
+    let keeper = payer.into_keeper();
+    match of_result(keeper.copy(alloc)) {
+        Called::Refused => Ok(made_again(true, of_result(keeper.copy(alloc)))),
+        answered => Ok(ended(answered)),
+    }
+}
+
 /// Makes it, and again where memory was wanting to it.
 pub fn try_part(alloc: Global, call: PartCall) -> Result<Tried, Memory> {
     match call {
         PartCall::Draw => try_draw(alloc),
         PartCall::Commit => try_commit(alloc),
+        PartCall::Copy => try_copy(alloc),
     }
 }

@@ -1,19 +1,22 @@
-//! Calls on cells, shards, entries, forms and links.
+//! Calls on cells, shards, entries, held messages, forms and links.
 use crate::tried::{Called, Tried, ended, made_again, of_result};
 use lynx_cells::{Cells, Changes};
 use lynx_codec::{DecodeFault, Feed, encode};
 use lynx_fixtures::cells::are_cells;
-use lynx_fixtures::made::{entry, request};
+use lynx_fixtures::made::{answer, entry, message, request};
 use lynx_fixtures::parts::EntryParts;
-use lynx_fixtures::payments::{PAID, PAY};
+use lynx_fixtures::payments::{PAID, PAY, PAY_BEGUN, SENT};
 use lynx_link::links;
 use lynx_names::{Memory, TableId, TryCopy};
 use lynx_shards::{Range, ShardFault, ShardMap};
+use lynx_turn::HeldBuffer;
 use std::alloc::Global;
 
 /// A call on a value.
 #[derive(Clone, Copy, Debug, PartialEq, Eq)]
 pub enum ValueCall {
+    /// A change of a cell is noted.
+    Put,
     /// Room is made for changes of cells.
     Stage,
     /// Cells are listed.
@@ -24,6 +27,12 @@ pub enum ValueCall {
     CopyEntry,
     /// A request is copied.
     CopyRequest,
+    /// An answer is copied.
+    CopyAnswer,
+    /// A message is copied.
+    CopyMessage,
+    /// Room is made for messages that are held.
+    Held,
     /// A form is pushed into a feed.
     Push,
     /// The request in it is taken.
@@ -46,6 +55,18 @@ pub fn changes(alloc: Global) -> Result<Changes, Memory> {
     let table = TableId::new(0).ok_or(Memory)?;
     changes.put(table, 0, 100)?;
     Ok(changes)
+}
+
+fn try_put(alloc: Global) -> Result<Tried, Memory> {
+    let mut changes = Changes::new(alloc);
+    let table = TableId::new(0).ok_or(Memory)?;
+    match of_result(changes.put(table, 0, 100)) {
+        Called::Refused => {
+            let is_as_before = changes.list().is_empty();
+            Ok(made_again(is_as_before, of_result(changes.put(table, 0, 100))))
+        }
+        answered => Ok(ended(answered)),
+    }
 }
 
 fn try_stage(alloc: Global) -> Result<Tried, Memory> {
@@ -117,6 +138,13 @@ fn try_copy<T: TryCopy + Drop>(alloc: Global, made: Result<T, Memory>) -> Result
     }
 }
 
+fn try_held(alloc: Global) -> Tried {
+    match of_result(HeldBuffer::new(alloc)) {
+        Called::Refused => made_again(true, of_result(HeldBuffer::new(alloc))),
+        answered => ended(answered),
+    }
+}
+
 fn try_push(alloc: Global) -> Result<Tried, Memory> {
     let mut feed = Feed::new(alloc);
     match of_result(feed.push(SEED_FORM)) {
@@ -166,11 +194,15 @@ fn try_links(alloc: Global) -> Tried {
 /// Makes it, and again where memory was wanting to it.
 pub fn try_value(alloc: Global, call: ValueCall) -> Result<Tried, Memory> {
     match call {
+        ValueCall::Put => try_put(alloc),
         ValueCall::Stage => try_stage(alloc),
         ValueCall::List => try_list(alloc),
         ValueCall::Shards => try_shards(alloc),
         ValueCall::CopyEntry => try_copy(alloc, entry(alloc, EntryParts::Begun(PAID))),
         ValueCall::CopyRequest => try_copy(alloc, request(alloc, PAY)),
+        ValueCall::CopyAnswer => try_copy(alloc, answer(alloc, PAY_BEGUN)),
+        ValueCall::CopyMessage => try_copy(alloc, message(alloc, SENT)),
+        ValueCall::Held => Ok(try_held(alloc)),
         ValueCall::Push => try_push(alloc),
         ValueCall::Next => try_next(alloc),
         ValueCall::Encode => try_encode(alloc),

@@ -2,7 +2,8 @@
 use crate::tried::{Called, Tried, ended, made_again, of_result};
 use lynx_chart::chart;
 use lynx_fixtures::cells::are_cells;
-use lynx_fixtures::made::{boxed, chain, request};
+use lynx_fixtures::made::{boxed, chain, request, server};
+use lynx_fixtures::parts::RequestParts;
 use lynx_fixtures::payments::{PAY, SEED};
 use lynx_fixtures::texts::{PAYMENT, read};
 use lynx_names::{Memory, ServerId, Stamp};
@@ -11,13 +12,16 @@ use lynx_report::owed_hops;
 use lynx_world::{Event, Outcome, World, empty_keepers};
 use std::alloc::Global;
 
-/// A call on a world after the seed and the payment.
+/// A call on a world after the seed and the payment; of a waking, after a second payment too, whose
+/// message came before that of the first and was held.
 #[derive(Clone, Copy, Debug, PartialEq, Eq)]
 pub enum WorldCall {
     /// The payment is given again.
     Begin,
     /// Its second hop arrives.
     Deliver,
+    /// The message of the payment behind it is woken.
+    Wake,
     /// Its message is lost.
     Lose,
     /// The payer is opened again.
@@ -32,17 +36,23 @@ pub enum WorldCall {
     Chart,
 }
 
+/// A payment of 20 behind it.
+const PAY_BEHIND: RequestParts = RequestParts {
+    number: 3,
+    args: &[20],
+    ..PAY
+};
+
 fn event(alloc: Global, call: WorldCall) -> Result<Event, Memory> {
-    let (server, chain) = (ServerId::first(), chain(0, 1)?);
+    let chain = chain(0, 1)?;
     Ok(match call {
-        WorldCall::Deliver => Event::Deliver { chain, hop: 1 },
+        WorldCall::Deliver => deliver(1)?,
+        WorldCall::Wake => Event::Wake { server: server(1)? },
         WorldCall::Lose => Event::Lost { chain, hop: 1 },
-        WorldCall::Restart => Event::Restart { server },
-        _ => Event::Begin {
-            server,
-            request: request(alloc, PAY)?,
-            seen: Stamp::zero(),
+        WorldCall::Restart => Event::Restart {
+            server: ServerId::first(),
         },
+        _ => begin(alloc, PAY)?,
     })
 }
 
@@ -61,22 +71,53 @@ fn applied(alloc: Global, world: &mut World, event: Event) -> Result<Called, Mem
     Ok(came(&outcome))
 }
 
-/// The world after the seed and the payment.
-fn world(alloc: Global) -> Result<Box<World>, Memory> {
+/// A request begins at the payer.
+fn begin(alloc: Global, asked: RequestParts) -> Result<Event, Memory> {
+    Ok(Event::Begin {
+        server: ServerId::first(),
+        request: request(alloc, asked)?,
+        seen: Stamp::zero(),
+    })
+}
+
+/// The message of a payment comes to the payee.
+fn deliver(index: u64) -> Result<Event, Memory> {
+    let chain = chain(0, index)?;
+    Ok(Event::Deliver { chain, hop: 1 })
+}
+
+/// An event happens that is to be done.
+fn apply(alloc: Global, world: &mut World, event: Event) -> Result<(), Memory> {
+    match applied(alloc, world, event)? {
+        Called::Done => Ok(()),
+        _ => Err(Memory),
+    }
+}
+
+/// The world before the call.
+fn world(alloc: Global, call: WorldCall) -> Result<Box<World>, Memory> {
     let set = read(alloc, PAYMENT)?;
     let keepers = empty_keepers(alloc, &set)?;
     let mut world = boxed(alloc, World::new(alloc, set, keepers))?;
-    for asked in [SEED, PAY] {
-        let begin = Event::Begin {
-            server: ServerId::first(),
-            request: request(alloc, asked)?,
-            seen: Stamp::zero(),
-        };
-        if applied(alloc, &mut world, begin)? != Called::Done {
-            return Err(Memory);
-        }
+    apply(alloc, &mut world, begin(alloc, SEED)?)?;
+    apply(alloc, &mut world, begin(alloc, PAY)?)?;
+    if call == WorldCall::Wake {
+        apply(alloc, &mut world, begin(alloc, PAY_BEHIND)?)?;
+        apply(alloc, &mut world, deliver(2)?)?;
+        apply(alloc, &mut world, deliver(1)?)?;
     }
     Ok(world)
+}
+
+/// Whether the world is as it was before the call.
+fn is_as_before(alloc: Global, call: WorldCall, world: &World) -> Result<bool, Memory> {
+    let cells = world.cells(alloc)?;
+    let cells = cells.as_slice();
+    Ok(if call == WorldCall::Wake {
+        world.len() == 4 && are_cells(cells, &[(0, 0, 50), (0, 1000, 30)])
+    } else {
+        world.len() == 2 && are_cells(cells, &[(0, 0, 70)])
+    })
 }
 
 /// The chart of the run.
@@ -101,11 +142,10 @@ fn make(alloc: Global, call: WorldCall, world: &mut World) -> Result<Called, Mem
 
 /// Makes it, and again where memory was wanting to it.
 pub fn try_world(alloc: Global, call: WorldCall) -> Result<Tried, Memory> {
-    let mut world = world(alloc)?;
+    let mut world = world(alloc, call)?;
     match make(alloc, call, &mut world)? {
         Called::Refused => {
-            let cells = world.cells(alloc)?;
-            let is_as_before = world.len() == 2 && are_cells(cells.as_slice(), &[(0, 0, 70)]);
+            let is_as_before = is_as_before(alloc, call, &world)?;
             Ok(made_again(is_as_before, make(alloc, call, &mut world)?))
         }
         answered => Ok(ended(answered)),

@@ -23,6 +23,12 @@ impl MemoryStores {
 }
 
 impl Stores<MemoryStoreKeeper> for MemoryStores {
+    ghost use Rattle.lynx_store.specs.Heading.{owner_in};
+
+    ghost owner_of = { λ keeper. owner_in keeper.heading };
+
+    ghost count_of = { λ keeper. keeper.count };
+
     fn open(
         &self,
         _folder: &str,

@@ -2,14 +2,27 @@
 """tests/reference_why.py SET: the verdict on the set text in a file and why it is so, by a plain reading of docs/FORMATS.md
 that was written apart from the program; the verdict is that of tests/reference.py, and hops that may conflict are found as
 for tests/reference_picture.py. What it prints for a set is what a case of `lynx check SET --why` expects, and tests/random
-compares the program with it."""
+compares the program with it.
+
+tests/reference_why.py --self-check N: on the first N random sets of tests/random, and on the sets under examples and
+tests/cases, that of each offending one the lines `late` and `abroad` name all that stands in the way: taking away the
+meetings that they name leaves no walk of blocks that offends. The last line is 'N passed, M failed'."""
+import glob
+import importlib.machinery
+import importlib.util
+import itertools
 import os
+import random
 import sys
 
 sys.path.insert(0, os.path.dirname(os.path.abspath(__file__)))
 sys.dont_write_bytecode = True
 import reference
 import reference_picture
+
+ACTIONS = ("get", "set", "add", "sub", "max", "let", "need")
+# how many sets without some of their programs are looked at, at most, and how many pairs of hops that may conflict in all
+MAX_LOOKS, MAX_EDGES_SEEN = 2500, 50_000_000
 
 
 def hop_lines(text):
@@ -54,6 +67,83 @@ def reason(chains, edges, group, otherwise):
     return otherwise
 
 
+def abroad(chains):
+    """For each hop that may conflict with hops of programs of another origin those hops, all in the order of the set."""
+    every = reference.places(chains)
+    met = {place: [other for other in every if reference.meet(chains, place, other)] for place in every}
+    return {place: others for place, others in met.items() if others}
+
+
+def late_blocks(chains, reach):
+    """The blocks that aren't forward, and that are entered and left by hops that reach abroad, as pairs of these hops: by the
+    hop entered, those of one chain first, then those of two chains of different programs."""
+    found = []
+    for entered in reach:
+        server = chains.hops(entered[0])[entered[1]][0]
+        found += [(entered, left) for left in reach if left[0] == entered[0] and left[1] < entered[1]]
+        for left in reach:
+            been = [other for other, _ in chains.hops(left[0])[:left[1] + 1]]
+            if left[0] != entered[0] and chains.origin(left[0]) == chains.origin(entered[0]) and server not in been:
+                found.append((entered, left))
+    return found
+
+
+def late_lines(chains, lines):
+    """The lines of late blocks, and behind each what it meets where it is entered and where it is left."""
+    reach, printed = abroad(chains), []
+    for entered, left in late_blocks(chains, reach):
+        exit_words = str(left[1]) if left[0] == entered[0] else f"{left[0]} {left[1]}"
+        printed.append(f"late {entered[0]} {entered[1]} {exit_words} lines {lines[entered]} {lines[left]}")
+        for end in (entered, left):
+            printed += [meet_line(chains, lines, end, other).replace("meet", "abroad", 1) for other in reach[end]]
+    return printed
+
+
+def mixed_lines(chains, edges):
+    """The lines of groups that have programs of two origins, and a program that meets others at two hops."""
+    found = [group for group in groups(chains, edges) if reason(chains, edges, group, None) is None]
+    return [f"mixed {' '.join(group)}" for group in found]
+
+
+def left_of(text, programs):
+    """The set text without these programs."""
+    lines, is_left = [], True
+    for line in text.splitlines():
+        words = line.split(" ")
+        if words[0] == "program":
+            is_left = words[1] not in programs
+        if is_left or words[0] not in ("program", "range", "hop", "end", *ACTIONS):
+            lines.append(line)
+        if words[0] == "end":
+            is_left = True
+    return "".join(line + "\n" for line in lines)
+
+
+def is_accepted(text):
+    chains = reference.Set(text)
+    return not reference.block_walk_offends(chains) or reference.least_walk(chains) is None
+
+
+def without_lines(text, chains, edges):
+    """The lines of programs whose taking away makes the set accepted: of one program, of two or of three, the fewest; first
+    those of which all have late blocks; at most three lines, and no more than so many sets are looked at."""
+    late = {end[0] for block in late_blocks(chains, abroad(chains)) for end in block}
+    found, looks, most = [], 0, min(MAX_LOOKS, MAX_EDGES_SEEN // max(len(edges), 1))
+    for count in (1, 2, 3):
+        chosen = list(itertools.combinations(chains.programs, count))
+        for programs in sorted(chosen, key=lambda programs: not late >= set(programs)):
+            if looks == most:
+                return found + [f"bound {looks}"]
+            looks += 1
+            if is_accepted(left_of(text, programs)):
+                found.append(f"without {' '.join(programs)}")
+            if len(found) == 3:
+                return found
+        if found:
+            return found
+    return []
+
+
 def why(text):
     """What `lynx check SET --why` prints of a set text without fault, and its status."""
     chains, (verdict, status) = reference.Set(text), reference.check(text)
@@ -65,9 +155,50 @@ def why(text):
     for program in chains.programs:
         if chains.origin(program) in [server for server, _ in chains.hops(program)[1:]]:
             printed.append(f"busy {program} {chains.origin(program)}")
+    if not otherwise:
+        printed += late_lines(chains, lines) + mixed_lines(chains, edges) + without_lines(text, chains, edges)
     return verdict + "".join(line + "\n" for line in printed), status
 
 
+def is_mended(text, printed):
+    """Whether no walk of blocks of a set offends once the meetings are taken away that these lines name as abroad."""
+    chains = reference.Set(text)
+    words = [line.split(" ") for line in printed.splitlines() if line.startswith("abroad ")]
+    taken = {frozenset([(word[1], int(word[2])), (word[3], int(word[4]))]) for word in words}
+    every = reference.places(chains)
+    met = {place for place in every for other in every
+           if reference.meet(chains, place, other) and frozenset([place, other]) not in taken}
+    return all(reference.is_forward(chains, block) for block in reference.blocks(chains) if met >= {block[0], block[1]})
+
+
+def self_check(count):
+    """Tries that the lines of random sets, and of those of the repository, name all that stands in the way."""
+    top = os.path.dirname(os.path.dirname(os.path.abspath(__file__)))
+    loader = importlib.machinery.SourceFileLoader("random_sets", os.path.join(top, "tests", "random"))
+    random_sets = importlib.util.module_from_spec(importlib.util.spec_from_loader("random_sets", loader))
+    loader.exec_module(random_sets)
+    texts = [random_sets.set_text(random.Random(seed))[0] for seed in range(count)]
+    for path in sorted(glob.glob(f"{top}/examples/**/*.set", recursive=True) + glob.glob(f"{top}/tests/cases/[!sh]*/*.set")):
+        with open(path, encoding="latin-1") as file:
+            texts.append(file.read())
+    passed = failed = 0
+    for text in texts:
+        try:
+            printed, status = why(text)
+        except Exception:
+            # (a case of a text with a fault)
+            continue
+        if status:
+            is_right = is_mended(text, printed) and "\nlate " in printed and "\nmixed " in printed
+            passed, failed = passed + is_right, failed + (not is_right)
+            if not is_right:
+                print(f"== not mended\n{text}-- by\n{printed}")
+    print(f"{passed} passed, {failed} failed")
+    return 1 if failed or not passed else 0
+
+
 if __name__ == "__main__":
+    if sys.argv[1] == "--self-check":
+        sys.exit(self_check(int(sys.argv[2])))
     with open(sys.argv[1], encoding="ascii") as file:
         sys.stdout.write(why(file.read())[0])

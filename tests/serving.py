@@ -1,4 +1,5 @@
-"""A service under test: `lynx serve` over a fresh folder, for tests/clients, tests/kills and tests/refused."""
+"""What tests of the built program share: the payment set, counts of tests, and a service under test, `lynx serve` over a fresh
+folder."""
 import os
 import shutil
 import socket
@@ -11,6 +12,10 @@ import time
 TOP = os.path.dirname(os.path.dirname(os.path.abspath(__file__)))
 sys.dont_write_bytecode = True
 sys.path.insert(0, os.path.join(TOP, "clients", "python"))
+
+
+with open(os.path.join(TOP, "examples", "payment.set"), encoding="ascii") as file:
+    PAYMENT = file.read()
 
 
 class Tally:

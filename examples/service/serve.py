@@ -55,9 +55,9 @@ class Chain:
 class Bank:
     """The payments of this service, by one client of Lynx that its threads take turns with."""
 
-    def __init__(self, port):
+    def __init__(self, folder):
         self.lock = threading.Lock()
-        self.client = lynx.Client(port, SET, client=CLIENT)
+        self.client = lynx.Client(folder, client=CLIENT)
         self.chains = []
         self.balances = {}
         for name in ACCOUNTS:
@@ -220,7 +220,7 @@ def main():
                              stdout=subprocess.PIPE, text=True)
     if not store.stdout.readline().startswith("listening "):
         return store.wait()
-    Handler.bank = Bank(port)
+    Handler.bank = Bank(given.folder)
     web = ThreadingHTTPServer(("127.0.0.1", given.port), Handler)
     Handler.stop = staticmethod(lambda: threading.Thread(target=web.shutdown).start())
     print(f"http://127.0.0.1:{given.port}", flush=True)

@@ -2,7 +2,7 @@
 
     import lynx
 
-    bank = lynx.Client(7000, 'payment.set')
+    bank = lynx.Client('stores')              # the service over the stores of this folder, and the set that it serves
     paid = bank.begin('pay', 30)              # Begun(chain=Chain(0, 1), stamp=2, results=[100], again=False, number=1)
     paid.named['x']                           # 100: results by the names that the set gives them
     done = bank.look(paid.chain, 1, wait=5)   # Found(stamp=3, results=[]), or None after five seconds
@@ -14,16 +14,20 @@ a begin that was lost on its way is asked again under its number by itself. A cl
 keeps what it asks for (`Client(.., client=7)`, `bank.begin('pay', 30, number=12)`): after a restart it asks again under
 the old number and gets the recorded answer, with `again` true.
 
+`lynx.Client(7000, 'payment.set')` asks at a port by a set of its own. A request tells a program by its number, so that
+set is to be the service's, or one that it extends.
+
 A client belongs to one thread at a time. docs/FORMATS.md has the bytes.
 """
+import os
 import secrets
 import socket
 import struct
 import time
 from dataclasses import dataclass, field, replace
 
-__all__ = ['Begun', 'Busy', 'ByeLost', 'Chain', 'Clash', 'Client', 'Found', 'Full', 'Lost', 'LynxError', 'Outside', 'Program',
-           'Refused', 'Stopped', 'Wanting', 'Wrong', 'programs_of']
+__all__ = ['Begun', 'Busy', 'ByeLost', 'Chain', 'Clash', 'Client', 'Found', 'Full', 'Lost', 'LynxError', 'NoService',
+           'OtherSet', 'Outside', 'Program', 'Refused', 'Stopped', 'Wanting', 'Wrong', 'extends', 'programs_of', 'service_of']
 
 MAX_WORD = 2 ** 64 - 1
 MAX_BODY_BYTES = 2048
@@ -173,7 +177,7 @@ def _program_of(number, words):
     """The program of the words of its lines, but for the one that ends it."""
     at = [place for place, line in enumerate(words) if line[0] == 'hop'] + [len(words)]
     first = words[at[0]:at[1]] if len(at) > 1 else []
-    names = tuple(line[1] for line in first if line[0] == 'get' and len(line) > 1)
+    names = tuple(line[1] for line in first if line[0] in ('get', 'let') and len(line) > 1)
     needs = tuple(' '.join(line) for line in first if line[0] == 'need')
     return Program(number, tuple(words[0][2:]), len(at) - 1, names, needs)
 
@@ -191,6 +195,48 @@ def programs_of(text):
         elif lines:
             lines.append(words)
     return programs
+
+
+class NoService(LynxError, ConnectionError):
+    """Nothing in the folder tells of a service: none runs over its stores, or it is about to begin or to end."""
+    reason = 'no-service'
+
+
+class OtherSet(LynxError):
+    """The service serves a set that doesn't extend the client's: the same numbers would ask for other programs."""
+    reason = 'other-set'
+
+
+def service_of(folder):
+    """The port of the service over the stores of the folder, and the text of the set that it serves."""
+    try:
+        with open(os.path.join(folder, 'service'), encoding='ascii') as file:
+            head, line, text = file.read().partition('--\n')
+    except FileNotFoundError:
+        raise NoService(f'no service: {folder}') from None
+    found = dict(each.split(' ', 1) for each in head.splitlines() if ' ' in each)
+    if not line or not found.get('listening', '').startswith('127.0.0.1:'):
+        raise NoService(f'no service: {folder}')
+    return int(found['listening'].split(':')[1]), text
+
+
+def _parts_of(text):
+    """The version and the count of servers of a set's text, and the lines of each of its tables and programs."""
+    parts, head = [], []
+    for line in text.splitlines():
+        if line.startswith(('table ', 'program ')):
+            parts.append([line])
+        else:
+            (parts[-1] if parts else head).append(line)
+    numbers = [int(line.split(' ')[1]) for line in head]
+    return numbers, [part for part in parts if part[0].startswith('table ')], [part for part in parts if part[0].startswith('program ')]
+
+
+def extends(new, old):
+    """Whether the set of the text `new` has all that the one of `old` has, under the same numbers. Neither is judged."""
+    (numbers, tables, programs), (was, old_tables, old_programs) = _parts_of(new), _parts_of(old)
+    return (all(one >= other for one, other in zip(numbers, was)) and tables[:len(old_tables)] == old_tables
+            and programs[:len(old_programs)] == old_programs)
 
 
 class _Body:
@@ -226,23 +272,31 @@ _FAULTS = {1: Clash, 6: Full, 7: Busy, 9: Stopped, 10: Wanting, 11: Outside}
 
 
 class Client:
-    """A client of the service at `port`, over the set whose text is the file `set_path`, or the text `set_text`.
+    """A client of the service over the stores of the folder `where`, by the set that it serves; or, where that is a
+    number, of the service at that port, by the set whose text is the file `set_path`, or the text `set_text`.
 
     `client` is its id, drawn at random where none is given, and `first` the first number that it gives a request by
     itself. A connection that is lost is made again, at most `tries` times for a request, with growing pauses; each wait
-    for the service ends after `timeout` seconds.
+    for the service ends after `timeout` seconds. A service that is begun anew over a folder may have another port, and a
+    set that extends the one before; one of another set is OtherSet.
     """
 
-    def __init__(self, port, set_path=None, *, set_text=None, client=None, first=1, host='127.0.0.1', timeout=30.0, tries=5):
+    def __init__(self, where, set_path=None, *, set_text=None, client=None, first=1, host='127.0.0.1', timeout=30.0, tries=5):
+        self.folder = None if isinstance(where, int) else os.fspath(where)
+        if self.folder is not None:
+            if set_path is not None or set_text is not None:
+                raise TypeError('the set of a folder is that of its service')
+            where, set_text = service_of(self.folder)
         if set_text is None and set_path is not None:
             with open(set_path, encoding='ascii') as file:
                 set_text = file.read()
+        self.set_text = set_text or ''
         self.programs = programs_of(set_text or '')
         self.numbered = {program.number: program for program in self.programs.values()}
         self.owed = []
         self.client = secrets.randbits(64) if client is None else _word(client, 'the client')
         self.next_number = _word(first, 'the first number')
-        self.address = (host, port)
+        self.address = (host, where)
         self.timeout, self.tries = timeout, max(1, tries)
         self.socket = None
 
@@ -393,8 +447,17 @@ class Client:
         self._send(tag, body)
         return self._answer(wanted)
 
+    def _find(self):
+        """Looks again where the service over the folder listens, and whether its set goes on from this client's."""
+        port, text = service_of(self.folder)
+        if text != self.set_text and not extends(text, self.set_text):
+            raise OtherSet()
+        self.address = (self.address[0], port)
+
     def _send(self, tag, body):
         if self.socket is None:
+            if self.folder is not None:
+                self._find()
             self.socket = socket.create_connection(self.address, self.timeout)
             self.socket.setsockopt(socket.IPPROTO_TCP, socket.TCP_NODELAY, 1)
         self.socket.sendall(struct.pack('>BI', tag, len(body)) + body)

@@ -1,0 +1,648 @@
+// Package lynx is a client of a Lynx service, on Go's standard library alone.
+//
+//	bank, err := lynx.Open("stores", nil)           // the service over the stores of this folder, and its set
+//	paid, err := bank.Begin("pay", 30)              // &Begun{Chain: 0:1, Stamp: 2, Results: [100], Again: false, Number: 1}
+//	paid.Named["x"]                                 // 100: results by the names that the set gives them
+//	done, err := bank.Look(paid.Chain, 1, 5*time.Second) // &Found{Stamp: 3, Results: []}, or ErrAbsent after five seconds
+//	all, err := paid.Wait(5 * time.Second)          // the results of all its hops, or ErrAbsent: [[100] []]
+//	err = bank.Shut()                               // the service checks all that it told, and ends
+//
+// A request is known by its client's id and its number: whatever is asked under the same id and number is done once, and
+// a begin that was lost on its way is asked again under its number by itself. A client of your own keeps both where it
+// keeps what it asks for (Options{Client: 7}, bank.BeginNumbered(12, "pay", 30)): after a restart it asks again under the
+// old number and gets the recorded answer, with Again true.
+//
+// lynx.Dial(7000, set, nil) asks at a port by the text of a set of its own. A request tells a program by its number, so
+// that set is to be the service's, or one that it extends.
+//
+// A first hop that refuses is the error *Refused, and every other fault an *Error, which errors.Is tells by its kind:
+//
+//	var refused *lynx.Refused
+//	switch {
+//	case errors.As(err, &refused): // tell the user: refused.Text is the need as the set has it
+//	case errors.Is(err, lynx.ErrBusy), errors.Is(err, lynx.ErrLost): // ask again, under the same number
+//	}
+//
+// A Client belongs to one goroutine at a time. docs/FORMATS.md has the bytes.
+package lynx
+
+import (
+	"crypto/rand"
+	"encoding/binary"
+	"errors"
+	"fmt"
+	"io"
+	"io/fs"
+	"net"
+	"os"
+	"path/filepath"
+	"strconv"
+	"strings"
+	"time"
+)
+
+const (
+	maxBodyBytes = 2048
+
+	tagRequest = 0x01
+	tagLook    = 0x02
+	tagQuit    = 0x03
+	tagShut    = 0x04
+	tagAnswer  = 0x11
+	tagLooked  = 0x12
+	tagBye     = 0x13
+)
+
+// The kinds of faults, for errors.Is.
+var (
+	// ErrClash: this client used this number for another request.
+	ErrClash = errors.New("clash")
+	// ErrWrong: the request doesn't fit its program, or there is no such program. Nothing was done; Reason says why.
+	ErrWrong = errors.New("wrong")
+	// ErrOutside: an argument isn't in its parameter's range. It is ErrWrong too.
+	ErrOutside = errors.New("outside-range")
+	// ErrFull: the server has all the entries that it may have.
+	ErrFull = errors.New("full")
+	// ErrBusy: a chain begun at this server has still to return there. Ask again later, under any number.
+	ErrBusy = errors.New("busy")
+	// ErrStopped: the server's store failed. It answers nothing until the service is started again.
+	ErrStopped = errors.New("stopped")
+	// ErrWanting: the service had no memory for it. Nothing was done.
+	ErrWanting = errors.New("memory")
+	// ErrLost: the connection was lost as often as was tried. Whether the request was done isn't known: ask again under
+	// its number.
+	ErrLost = errors.New("lost")
+	// ErrByeLost: the end was asked for, and the service's bye was lost. It ends, unless what was asked didn't come there:
+	// then it still listens.
+	ErrByeLost = errors.New("bye lost")
+	// ErrNoService: nothing in the folder tells of a service. None runs over its stores, or it is about to begin or to end.
+	ErrNoService = errors.New("no-service")
+	// ErrOtherSet: the service serves a set that doesn't extend the client's. The same numbers would ask for other
+	// programs.
+	ErrOtherSet = errors.New("other-set")
+	// ErrAbsent: the hop isn't done yet.
+	ErrAbsent = errors.New("absent")
+)
+
+// Error tells why a request was not done.
+type Error struct {
+	Reason   string // the word of docs/FORMATS.md
+	Number   uint64 // the request's: what is asked again is asked under it
+	Numbered bool   // whether it had one
+	kind     error
+	cause    error
+}
+
+func fault(kind, cause error) *Error {
+	return &Error{Reason: kind.Error(), kind: kind, cause: cause}
+}
+
+func (e *Error) Error() string {
+	text := "lynx: " + e.Reason
+	if e.cause != nil {
+		text += ": " + e.cause.Error()
+	}
+	return text
+}
+
+// Is tells whether the fault is of this kind.
+func (e *Error) Is(target error) bool {
+	return target == e.kind || target == ErrWrong && e.kind == ErrOutside
+}
+
+// Unwrap gives what the system said, where it said something.
+func (e *Error) Unwrap() error { return e.cause }
+
+// Refused is the answer of a first hop that refuses: this need of it, counted from 0, wasn't met. It is recorded under the
+// request's number, as a begin is.
+type Refused struct {
+	Need   int
+	Stamp  uint64
+	Again  bool
+	Number uint64
+	Text   string // the need as the set has it
+}
+
+func (r *Refused) Error() string { return fmt.Sprintf("lynx: refused: need %d: %s", r.Need, r.Text) }
+
+// Chain is a chain's name: its origin, and its index among the chains that began there.
+type Chain struct {
+	Origin int
+	Index  uint64
+}
+
+func (c Chain) String() string { return fmt.Sprintf("%d:%d", c.Origin, c.Index) }
+
+// ParseChain gives the chain of a text like 0:7.
+func ParseChain(text string) (Chain, error) {
+	origin, index, _ := strings.Cut(text, ":")
+	first, firstFault := strconv.ParseUint(origin, 10, 8)
+	second, secondFault := strconv.ParseUint(index, 10, 64)
+	if firstFault != nil || secondFault != nil {
+		return Chain{}, fmt.Errorf("lynx: not a chain: %q", text)
+	}
+	return Chain{int(first), second}, nil
+}
+
+// Begun says that the chain began, and what its first hop gave: Named has the results by what the set calls them. Again: it
+// had begun before, by this very request.
+type Begun struct {
+	Chain   Chain
+	Stamp   uint64
+	Results []uint64
+	Again   bool
+	Number  uint64
+	Named   map[string]uint64
+	client  *Client
+	hops    int
+}
+
+// Wait gives the results of all hops of the chain, hop 0 first, once the last is done, or ErrAbsent where it isn't in time.
+func (b *Begun) Wait(within time.Duration) ([][]uint64, error) {
+	until := time.Now().Add(within)
+	results := [][]uint64{b.Results}
+	for hop := 1; hop < b.hops; hop++ {
+		found, err := b.client.Look(b.Chain, hop, time.Until(until))
+		if err != nil {
+			return nil, err
+		}
+		results = append(results, found.Results)
+	}
+	return results, nil
+}
+
+// Found says that the hop is done, with these results.
+type Found struct {
+	Stamp   uint64
+	Results []uint64
+}
+
+// Program is a program of a set: its number, its parameters, how many hops it has, and of its first hop the names of its
+// results and the needs.
+type Program struct {
+	Number     int
+	Parameters []string
+	Hops       int
+	Names      []string
+	Needs      []string
+}
+
+func (p *Program) add(words []string) {
+	switch {
+	case words[0] == "hop":
+		p.Hops++
+	case p.Hops == 1 && (words[0] == "get" || words[0] == "let") && len(words) > 1:
+		p.Names = append(p.Names, words[1])
+	case p.Hops == 1 && words[0] == "need":
+		p.Needs = append(p.Needs, strings.Join(words, " "))
+	}
+}
+
+// Programs gives the programs of a set's text, by name. The text is not judged: the service has judged its own.
+func Programs(set string) map[string]Program {
+	programs := map[string]Program{}
+	var name string
+	var program *Program
+	for _, line := range strings.Split(set, "\n") {
+		words := strings.Split(line, " ")
+		switch {
+		case words[0] == "program" && len(words) > 1:
+			name, program = words[1], &Program{Number: len(programs), Parameters: words[2:]}
+		case line == "end" && program != nil:
+			programs[name], program = *program, nil
+		case program != nil:
+			program.add(words)
+		}
+	}
+	return programs
+}
+
+// Service gives the port of the service over the stores of the folder, and the text of the set that it serves.
+func Service(folder string) (port int, set string, err error) {
+	data, err := os.ReadFile(filepath.Join(folder, "service"))
+	if errors.Is(err, fs.ErrNotExist) {
+		return 0, "", fault(ErrNoService, errors.New(folder))
+	} else if err != nil {
+		return 0, "", err
+	}
+	head, set, whole := strings.Cut(string(data), "--\n")
+	for _, line := range strings.Split(head, "\n") {
+		if text, found := cutPrefix(line, "listening 127.0.0.1:"); whole && found {
+			if port, err = strconv.Atoi(text); err == nil {
+				return port, set, nil
+			}
+		}
+	}
+	return 0, "", fault(ErrNoService, errors.New(folder))
+}
+
+func cutPrefix(text, prefix string) (rest string, found bool) {
+	return strings.TrimPrefix(text, prefix), strings.HasPrefix(text, prefix)
+}
+
+// parts are the version and the count of servers of a set's text, and the text of each of its tables and programs.
+type parts struct {
+	numbers          []uint64
+	tables, programs []string
+}
+
+func partsOf(set string) parts {
+	var found parts
+	open := &found.tables
+	for _, line := range strings.SplitAfter(set, "\n") {
+		switch {
+		case strings.HasPrefix(line, "table "):
+			open = &found.tables
+			*open = append(*open, line)
+		case strings.HasPrefix(line, "program "):
+			open = &found.programs
+			*open = append(*open, line)
+		case len(*open) > 0:
+			(*open)[len(*open)-1] += line
+		default:
+			_, digits, _ := strings.Cut(strings.TrimSpace(line), " ")
+			number, _ := strconv.ParseUint(digits, 10, 64)
+			found.numbers = append(found.numbers, number)
+		}
+	}
+	return found
+}
+
+// Extends tells whether the set of the text next has all that the one of old has, under the same numbers. Neither is judged.
+func Extends(next, old string) bool {
+	has, had := partsOf(next), partsOf(old)
+	for place, number := range had.numbers {
+		if place >= len(has.numbers) || has.numbers[place] < number {
+			return false
+		}
+	}
+	return beginsWith(has.tables, had.tables) && beginsWith(has.programs, had.programs)
+}
+
+func beginsWith(all, first []string) bool {
+	if len(all) < len(first) {
+		return false
+	}
+	for place, text := range first {
+		if all[place] != text {
+			return false
+		}
+	}
+	return true
+}
+
+// Options of a client; those that are 0 are as it says here.
+type Options struct {
+	Client  uint64        // its id; drawn at random
+	First   uint64        // the first number that it gives a request by itself; 1
+	Tries   int           // how often a request is asked while connections are lost; 5
+	Timeout time.Duration // how long it waits for the service each time; 30 seconds
+	Host    string        // 127.0.0.1
+}
+
+// Client is a client of a service, made by Open or Dial. A connection that is lost is made again, with growing pauses. A
+// service that is begun anew over a folder may have another port, and a set that extends the one before; one of another
+// set is ErrOtherSet.
+type Client struct {
+	ID       uint64             // its own, as in Options
+	Set      string             // the text of its set
+	Programs map[string]Program // the programs of the set
+	options  Options
+	folder   string
+	port     int
+	next     uint64
+	owed     map[Chain]int // the last hop of each chain that it began, until it has seen that hop
+	stream   net.Conn
+}
+
+// Open gives a client of the service over the stores of a folder, by the set that it serves. It connects with its first
+// request.
+func Open(folder string, options *Options) (*Client, error) {
+	port, set, err := Service(folder)
+	if err != nil {
+		return nil, err
+	}
+	client, err := Dial(port, set, options)
+	if err == nil {
+		client.folder = folder
+	}
+	return client, err
+}
+
+// Dial gives a client of the service at a port, by the text of a set. It connects with its first request.
+func Dial(port int, set string, options *Options) (*Client, error) {
+	chosen := Options{}
+	if options != nil {
+		chosen = *options
+	}
+	if chosen.Client == 0 {
+		var drawn [8]byte
+		if _, err := rand.Read(drawn[:]); err != nil {
+			return nil, err
+		}
+		chosen.Client = binary.BigEndian.Uint64(drawn[:])
+	}
+	if chosen.First == 0 {
+		chosen.First = 1
+	}
+	if chosen.Tries <= 0 {
+		chosen.Tries = 5
+	}
+	if chosen.Timeout == 0 {
+		chosen.Timeout = 30 * time.Second
+	}
+	if chosen.Host == "" {
+		chosen.Host = "127.0.0.1"
+	}
+	return &Client{ID: chosen.Client, Set: set, Programs: Programs(set), options: chosen, port: port,
+		next: chosen.First, owed: map[Chain]int{}}, nil
+}
+
+// Begin begins a chain of the program, under the next number of the client's own.
+func (c *Client) Begin(program string, arguments ...uint64) (*Begun, error) {
+	number := c.next
+	c.next++
+	return c.BeginNumbered(number, program, arguments...)
+}
+
+// BeginNumbered begins a chain of the program, under this number. A first hop that refuses is the error *Refused, every
+// other answer an *Error with the number.
+func (c *Client) BeginNumbered(number uint64, name string, arguments ...uint64) (*Begun, error) {
+	begun, err := c.begin(number, name, arguments)
+	var failed *Error
+	if errors.As(err, &failed) {
+		failed.Number, failed.Numbered = number, true
+	}
+	if err != nil {
+		return nil, err
+	}
+	if begun.hops > 1 {
+		c.owed[begun.Chain] = begun.hops - 1
+	}
+	return begun, nil
+}
+
+func (c *Client) begin(number uint64, name string, arguments []uint64) (begun *Begun, err error) {
+	program, known := c.Programs[name]
+	if !known {
+		return nil, &Error{Reason: "unknown-program", kind: ErrWrong}
+	}
+	if len(arguments) != len(program.Parameters) {
+		return nil, &Error{Reason: "arg-count", kind: ErrWrong}
+	}
+	item := binary.BigEndian.AppendUint64(nil, c.ID)
+	item = binary.BigEndian.AppendUint64(item, number)
+	item = append(item, byte(program.Number), byte(len(arguments)))
+	for _, argument := range arguments {
+		item = binary.BigEndian.AppendUint64(item, argument)
+	}
+	err = c.ask(tagRequest, item, tagAnswer, func(found *body) error {
+		begun, err = c.answerOf(found, number, program)
+		return err
+	})
+	return begun, err
+}
+
+// Look tells what that hop of the chain did, or ErrAbsent where it isn't done yet, also not within the time to wait.
+func (c *Client) Look(chain Chain, hop int, wait time.Duration) (*Found, error) {
+	if chain.Origin < 0 || chain.Origin > 15 || hop < 0 || hop > 255 {
+		return nil, fault(ErrAbsent, nil)
+	}
+	item := append(binary.BigEndian.AppendUint64([]byte{byte(chain.Origin)}, chain.Index), byte(hop))
+	until := time.Now().Add(wait)
+	for pause := time.Millisecond; ; pause = shorter(2*pause, 100*time.Millisecond) {
+		var found *Found
+		err := c.ask(tagLook, item, tagLooked, func(data *body) error {
+			found = foundOf(data)
+			return data.end()
+		})
+		if err != nil {
+			return nil, err
+		}
+		if found != nil {
+			if last, owed := c.owed[chain]; owed && last == hop {
+				delete(c.owed, chain)
+			}
+			return found, nil
+		}
+		left := time.Until(until)
+		if left <= 0 {
+			return nil, fault(ErrAbsent, nil)
+		}
+		time.Sleep(shorter(pause, left))
+	}
+}
+
+// Settle returns once all chains that this client began are done, or ErrAbsent where they aren't in time.
+func (c *Client) Settle(within time.Duration) error {
+	until := time.Now().Add(within)
+	for chain, hop := range c.owed {
+		if _, err := c.Look(chain, hop, time.Until(until)); err != nil {
+			return err
+		}
+	}
+	return nil
+}
+
+// Close leaves. A request begins a new connection.
+func (c *Client) Close() error {
+	if c.stream == nil {
+		return nil
+	}
+	defer c.drop()
+	return c.exchange(tagQuit, nil, tagBye, (*body).end)
+}
+
+// Shut has the service end: it takes no more clients, checks all that it told, and says whether it stood. It gives ErrLost
+// where it couldn't be asked, and ErrByeLost where it was and its bye didn't come.
+func (c *Client) Shut() error {
+	defer c.drop()
+	if err := c.tried(func() error { return c.send(tagShut, nil) }); err != nil {
+		return err
+	}
+	if err := c.answer(tagBye, (*body).end); err != nil {
+		return fault(ErrByeLost, err)
+	}
+	return nil
+}
+
+// body is the body of an item, read from left to right. What is read behind its end is 0, and end tells.
+type body struct {
+	data  []byte
+	short bool
+}
+
+func (b *body) take(count int) []byte {
+	if len(b.data) < count {
+		b.short = true
+		return make([]byte, count)
+	}
+	taken := b.data[:count]
+	b.data = b.data[count:]
+	return taken
+}
+
+func (b *body) number() int { return int(b.take(1)[0]) }
+
+func (b *body) word() uint64 { return binary.BigEndian.Uint64(b.take(8)) }
+
+func (b *body) words() []uint64 {
+	words := make([]uint64, b.number())
+	for place := range words {
+		words[place] = b.word()
+	}
+	return words
+}
+
+func (b *body) end() error {
+	if b.short || len(b.data) > 0 {
+		return errNoAnswer
+	}
+	return nil
+}
+
+// errNoAnswer ends a connection as a fault of the system does.
+var errNoAnswer = errors.New("what came is no answer")
+
+func foundOf(data *body) *Found {
+	if data.number() == 0 {
+		return nil
+	}
+	return &Found{data.word(), data.words()}
+}
+
+var wrong = map[int]string{2: "unknown-program", 3: "wrong-origin", 4: "arg-count", 5: "wrong-shard"}
+
+var kinds = map[int]error{1: ErrClash, 6: ErrFull, 7: ErrBusy, 9: ErrStopped, 10: ErrWanting, 11: ErrOutside}
+
+func (c *Client) answerOf(found *body, number uint64, program Program) (*Begun, error) {
+	answer := found.number()
+	switch {
+	case answer == 0:
+		begun := &Begun{Chain: Chain{found.number(), found.word()}, Stamp: found.word(), Again: found.number() != 0,
+			Results: found.words(), Number: number, Named: map[string]uint64{}, client: c, hops: program.Hops}
+		for place, result := range begun.Results {
+			if place < len(program.Names) {
+				begun.Named[program.Names[place]] = result
+			}
+		}
+		return begun, found.end()
+	case answer == 8:
+		refused := &Refused{Need: found.number(), Stamp: found.word(), Again: found.number() != 0, Number: number}
+		if refused.Need < len(program.Needs) {
+			refused.Text = program.Needs[refused.Need]
+		}
+		return nil, firstOf(found.end(), refused)
+	case wrong[answer] != "":
+		return nil, firstOf(found.end(), &Error{Reason: wrong[answer], kind: ErrWrong})
+	case kinds[answer] != nil:
+		return nil, firstOf(found.end(), fault(kinds[answer], nil))
+	}
+	return nil, firstOf(found.end(), &Error{Reason: "error"})
+}
+
+func firstOf(faults ...error) error {
+	for _, err := range faults {
+		if err != nil {
+			return err
+		}
+	}
+	return nil
+}
+
+// ask asks, over a new connection where the old one is lost: the same request is never done twice.
+func (c *Client) ask(tag byte, item []byte, wanted byte, read func(*body) error) error {
+	return c.tried(func() error { return c.exchange(tag, item, wanted, read) })
+}
+
+// tried does the work, again and again where the connection or the service is gone.
+func (c *Client) tried(work func() error) error {
+	for attempt := 1; ; attempt++ {
+		err := work()
+		var answer *Error
+		var refused *Refused
+		isAnswer := errors.As(err, &answer) && !errors.Is(err, ErrNoService) || errors.As(err, &refused)
+		if err == nil || isAnswer {
+			return err
+		}
+		c.drop()
+		if attempt >= c.options.Tries {
+			if errors.Is(err, ErrNoService) {
+				return err
+			}
+			return fault(ErrLost, err)
+		}
+		time.Sleep(shorter(20*time.Millisecond<<shorter(attempt, 6), time.Second))
+	}
+}
+
+func shorter[T int | time.Duration](one, other T) T {
+	if one < other {
+		return one
+	}
+	return other
+}
+
+func (c *Client) exchange(tag byte, item []byte, wanted byte, read func(*body) error) error {
+	if err := c.send(tag, item); err != nil {
+		return err
+	}
+	return c.answer(wanted, read)
+}
+
+func (c *Client) send(tag byte, item []byte) error {
+	if c.stream == nil {
+		if err := c.connect(); err != nil {
+			return err
+		}
+	}
+	if err := c.stream.SetDeadline(time.Now().Add(c.options.Timeout)); err != nil {
+		return err
+	}
+	frame := binary.BigEndian.AppendUint32([]byte{tag}, uint32(len(item)))
+	_, err := c.stream.Write(append(frame, item...))
+	return err
+}
+
+// connect looks again, where the client goes by a folder, where the service over it listens, and whether its set goes on
+// from this client's.
+func (c *Client) connect() error {
+	if c.folder != "" {
+		port, set, err := Service(c.folder)
+		if err != nil {
+			return err
+		}
+		if set != c.Set && !Extends(set, c.Set) {
+			return fault(ErrOtherSet, nil)
+		}
+		c.port = port
+	}
+	stream, err := net.DialTimeout("tcp", net.JoinHostPort(c.options.Host, strconv.Itoa(c.port)), c.options.Timeout)
+	if err == nil {
+		c.stream = stream
+	}
+	return err
+}
+
+func (c *Client) answer(wanted byte, read func(*body) error) error {
+	var head [5]byte
+	if _, err := io.ReadFull(c.stream, head[:]); err != nil {
+		return err
+	}
+	length := binary.BigEndian.Uint32(head[1:])
+	if head[0] != wanted || length > maxBodyBytes {
+		return errNoAnswer
+	}
+	data := make([]byte, length)
+	if _, err := io.ReadFull(c.stream, data); err != nil {
+		return err
+	}
+	return read(&body{data: data})
+}
+
+func (c *Client) drop() {
+	if c.stream != nil {
+		c.stream.Close()
+		c.stream = nil
+	}
+}

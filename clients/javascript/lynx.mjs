@@ -1,0 +1,556 @@
+/**
+ * A client of a Lynx service, for Node 18 or later, without a package.
+ *
+ *     import { Client } from './lynx.mjs';
+ *
+ *     const bank = await Client.at('stores');           // the service over the stores of this folder, and its set
+ *     const paid = await bank.begin('pay', 30);         // Begun {chain: 0:1, stamp: 2n, results: [100n], again: false, number: 1n}
+ *     paid.named.x;                                     // 100n: results by the names that the set gives them
+ *     await bank.look(paid.chain, 1, { wait: 5 });      // Found {stamp: 3n, results: []}, or null after five seconds
+ *     await paid.wait(5);                               // the results of all its hops, or null: [[100n], []]
+ *     await bank.shut();                                // the service checks all that it told, and ends
+ *
+ * A request is known by its client's id and its number: whatever is asked under the same id and number is done once, and
+ * a begin that was lost on its way is asked again under its number by itself. A client of your own keeps both where it
+ * keeps what it asks for (`Client.at('stores', { client: 7n })`, `bank.begin('pay', 30, { number: 12n })`): after a
+ * restart it asks again under the old number and gets the recorded answer, with `again` true.
+ *
+ * `await Client.connect(7000, { setPath: 'payment.set' })` asks at a port by a set of its own. A request tells a program
+ * by its number, so that set is to be the service's, or one that it extends.
+ *
+ * Clients, numbers, indexes, stamps, arguments and results are BigInts; a whole number below 2^53 may be given for one.
+ * Waits are in seconds. Calls of one client may overlap: they are asked one after the other. docs/FORMATS.md has the bytes.
+ */
+import { randomBytes } from 'node:crypto';
+import { readFile } from 'node:fs/promises';
+import { connect } from 'node:net';
+import { join } from 'node:path';
+import { setTimeout as pause } from 'node:timers/promises';
+
+const MAX_WORD = 2n ** 64n - 1n;
+const MAX_BODY_BYTES = 2048;
+const REQUEST = 0x01, LOOK = 0x02, QUIT = 0x03, SHUT = 0x04, ANSWER = 0x11, LOOKED = 0x12, BYE = 0x13;
+
+/** Why a request was not done. `reason` is the word of docs/FORMATS.md, and `number` the request's, where it had one:
+ * what is asked again is asked under it. */
+export class LynxError extends Error {
+  constructor(reason, text = reason, options = undefined) {
+    super(text, options);
+    this.name = new.target.name;
+    this.reason = reason;
+    this.number = null;
+  }
+}
+
+/** This client used this number for another request. */
+export class Clash extends LynxError {
+  constructor() { super('clash'); }
+}
+
+/** The request doesn't fit its program, or there is no such program: nothing was done. `reason` says why. */
+export class Wrong extends LynxError {}
+
+/** An argument isn't in its parameter's range. */
+export class Outside extends Wrong {
+  constructor() { super('outside-range'); }
+}
+
+/** The server has all the entries that it may have. */
+export class Full extends LynxError {
+  constructor() { super('full'); }
+}
+
+/** A chain begun at this server has still to return there. Ask again later, under any number. */
+export class Busy extends LynxError {
+  constructor() { super('busy'); }
+}
+
+/** The server's store failed: it answers nothing until the service is started again. */
+export class Stopped extends LynxError {
+  constructor() { super('stopped'); }
+}
+
+/** The service had no memory for it. Nothing was done. */
+export class Wanting extends LynxError {
+  constructor() { super('memory'); }
+}
+
+/** The connection was lost as often as was tried. Whether the request was done isn't known: ask again under its
+ * number, which is `number`. */
+export class Lost extends LynxError {
+  constructor(cause) { super('lost', cause.message, { cause }); }
+}
+
+/** The end was asked for, and the service's bye was lost. It ends, unless what was asked didn't come there: then it still
+ * listens. */
+export class ByeLost extends LynxError {
+  constructor(cause) { super('bye lost', `bye lost: ${cause.message}`, { cause }); }
+}
+
+/** Nothing in the folder tells of a service: none runs over its stores, or it is about to begin or to end. */
+export class NoService extends LynxError {
+  constructor(folder) { super('no-service', `no service: ${folder}`); }
+}
+
+/** The service serves a set that doesn't extend the client's: the same numbers would ask for other programs. */
+export class OtherSet extends LynxError {
+  constructor() { super('other-set'); }
+}
+
+/** A connection that is lost, or on which something came that is no answer. */
+class Broken extends Error {}
+
+/** A chain's name: its origin, and its index among the chains that began there. */
+export class Chain {
+  constructor(origin, index) {
+    this.origin = origin;
+    this.index = wordOf(index, 'the index');
+  }
+
+  /** The chain of a text like `0:7`. */
+  static parse(text) {
+    const found = /^([0-9]+):([0-9]+)$/.exec(text);
+    if (!found) throw new TypeError(`not a chain: ${text}`);
+    return new Chain(Number(found[1]), BigInt(found[2]));
+  }
+
+  toString() {
+    return `${this.origin}:${this.index}`;
+  }
+}
+
+/** The chain began, and its first hop gave these results, `named` by what the set calls them. `again`: it had begun
+ * before, by this very request. */
+export class Begun {
+  #client;
+  #hops;
+
+  constructor(chain, stamp, results, again, number, names = [], client = null, hops = 1) {
+    Object.assign(this, { chain, stamp, results, again, number });
+    this.named = Object.fromEntries(names.slice(0, results.length).map((name, place) => [name, results[place]]));
+    this.#client = client;
+    this.#hops = hops;
+  }
+
+  /** The results of all its hops, hop 0 first, once the last is done; null where it isn't within so many seconds. */
+  async wait(seconds = 10) {
+    const until = performance.now() + seconds * 1000;
+    const results = [this.results];
+    for (let hop = 1; hop < this.#hops; hop += 1) {
+      const found = await this.#client.look(this.chain, hop, { wait: (until - performance.now()) / 1000 });
+      if (!found) return null;
+      results.push(found.results);
+    }
+    return results;
+  }
+}
+
+/** The first hop refused: this `need` of it, counted from 0, wasn't met; `text` is how the set has it. It counts as an
+ * answer, not as a fault. */
+export class Refused {
+  constructor(need, stamp, again, number, text = '') {
+    Object.assign(this, { need, stamp, again, number, text });
+  }
+}
+
+/** The hop is done, with these results. */
+export class Found {
+  constructor(stamp, results) {
+    Object.assign(this, { stamp, results });
+  }
+}
+
+/** A program of the lines of its words, but for the one that ends it: its number, its parameters, how many hops it has,
+ * and of its first hop the names of its results and the needs. */
+function programOf(number, lines) {
+  const heads = lines.flatMap(([word], place) => (word === 'hop' ? [place] : []));
+  const first = lines.slice(heads[0], heads[1]);
+  const names = first.filter(([word]) => word === 'get' || word === 'let').map((words) => words[1]);
+  const needs = first.filter(([word]) => word === 'need').map((words) => words.join(' '));
+  return { number, parameters: lines[0].slice(2), hops: heads.length, names, needs };
+}
+
+/** The programs of a set's text, a map by their names. The text is not judged: the service has judged its own. */
+export function programsOf(text) {
+  const programs = new Map();
+  let lines = [];
+  for (const line of text.split('\n')) {
+    const words = line.split(' ');
+    if (words[0] === 'program') {
+      lines = [words];
+    } else if (line === 'end' && lines.length) {
+      programs.set(lines[0][1], programOf(programs.size, lines));
+      lines = [];
+    } else if (lines.length) {
+      lines.push(words);
+    }
+  }
+  return programs;
+}
+
+/** The port of the service over the stores of the folder, and the text of the set that it serves. */
+export async function serviceOf(folder) {
+  const text = await readFile(join(folder, 'service'), 'latin1').catch((fault) => {
+    throw fault.code === 'ENOENT' ? new NoService(folder) : fault;
+  });
+  const end = text.indexOf('--\n');
+  const listening = /^listening 127\.0\.0\.1:([0-9]+)$/m.exec(text.slice(0, Math.max(end, 0)));
+  if (!listening) throw new NoService(folder);
+  return { port: Number(listening[1]), setText: text.slice(end + 3) };
+}
+
+/** The version and the count of servers of a set's text, and the text of each of its tables and programs. */
+function partsOf(text) {
+  const [head, ...parts] = text.split(/^(?=table |program )/m);
+  return {
+    numbers: head.trimEnd().split('\n').map((line) => Number(line.split(' ')[1])),
+    tables: parts.filter((part) => part.startsWith('table ')),
+    programs: parts.filter((part) => part.startsWith('program ')),
+  };
+}
+
+/** Whether the set of the text `next` has all that the one of `old` has, under the same numbers. Neither is judged. */
+export function extendsSet(next, old) {
+  const [has, had] = [partsOf(next), partsOf(old)];
+  return had.numbers.every((number, place) => has.numbers[place] >= number)
+    && had.tables.every((table, place) => has.tables[place] === table)
+    && had.programs.every((program, place) => has.programs[place] === program);
+}
+
+/** A number of 64 bits. */
+function wordOf(value, what) {
+  const word = Number.isSafeInteger(value) ? BigInt(value) : value;
+  if (typeof word !== 'bigint' || word < 0n || word > MAX_WORD) {
+    throw new RangeError(`${what} is no whole number from 0 to 2^64 - 1, or no BigInt: ${String(value)}`);
+  }
+  return word;
+}
+
+/** Numbers of one byte, and BigInts in eight. */
+function bytesOf(...values) {
+  return Buffer.concat(values.map((value) => {
+    if (typeof value === 'number') return Buffer.of(value);
+    const eight = Buffer.alloc(8);
+    eight.writeBigUInt64BE(value);
+    return eight;
+  }));
+}
+
+/** The body of an item, read from left to right. */
+class Body {
+  #data;
+  #at = 0;
+
+  constructor(data) {
+    this.#data = data;
+  }
+
+  #take(count) {
+    if (this.#at + count > this.#data.length) throw new Broken('an answer is cut short');
+    this.#at += count;
+    return this.#at - count;
+  }
+
+  byte() {
+    return this.#data[this.#take(1)];
+  }
+
+  word() {
+    return this.#data.readBigUInt64BE(this.#take(8));
+  }
+
+  words() {
+    return Array.from({ length: this.byte() }, () => this.word());
+  }
+
+  end() {
+    if (this.#at !== this.#data.length) throw new Broken('an answer is too long');
+  }
+}
+
+/** A connection, read by counts of bytes. While nobody reads, it doesn't keep the process from its end. */
+class Line {
+  #socket;
+  #data = Buffer.alloc(0);
+  #wake = () => {};
+  #timeout;
+  lost = null;
+
+  constructor(host, port, timeout) {
+    this.#timeout = timeout * 1000;
+    this.#socket = connect({ host, port, noDelay: true });
+    this.#socket.on('timeout', () => this.#socket.destroy(new Error('the service is silent')));
+    this.#socket.on('error', (fault) => this.#end(fault));
+    this.#socket.on('close', () => this.#end(new Error('the service closed the connection')));
+    this.#socket.on('data', (piece) => {
+      this.#data = Buffer.concat([this.#data, piece]);
+      this.#wake();
+    });
+  }
+
+  #end(cause) {
+    this.lost ??= new Broken(cause.message, { cause });
+    this.#wake();
+  }
+
+  async send(bytes) {
+    await this.#awake(() => new Promise((done, fail) => {
+      this.#socket.write(bytes, (fault) => (fault ? fail(this.lost ?? new Broken(fault.message)) : done()));
+    }));
+  }
+
+  async read(count) {
+    await this.#awake(async () => {
+      while (this.#data.length < count) {
+        if (this.lost) throw this.lost;
+        await new Promise((wake) => { this.#wake = wake; });
+      }
+    });
+    const found = this.#data.subarray(0, count);
+    this.#data = this.#data.subarray(count);
+    return found;
+  }
+
+  async #awake(work) {
+    this.#socket.ref().setTimeout(this.#timeout);
+    try {
+      return await work();
+    } finally {
+      this.#socket.unref().setTimeout(0);
+    }
+  }
+
+  drop() {
+    this.#socket.destroy();
+  }
+}
+
+const WRONG = new Map([[2, 'unknown-program'], [3, 'wrong-origin'], [4, 'arg-count'], [5, 'wrong-shard']]);
+const FAULTS = new Map([[1, Clash], [6, Full], [7, Busy], [9, Stopped], [10, Wanting], [11, Outside]]);
+
+function faultOf(kind) {
+  if (WRONG.has(kind)) return new Wrong(WRONG.get(kind));
+  const Fault = FAULTS.get(kind);
+  return Fault ? new Fault() : new LynxError('error');
+}
+
+/** How long to pause before a request is asked for the so manieth time again. */
+function milliseconds(attempt) {
+  return Math.min(20 * 2 ** Math.min(attempt, 6), 1000);
+}
+
+/**
+ * A client of a service, made by `Client.at` or `Client.connect`. Of their options `client` is its id, drawn at random
+ * where none is given, and `first` the first number that it gives a request by itself. It connects with its first
+ * request. A connection that is lost is made again, at most `tries` times for a request, with growing pauses; each wait
+ * for the service ends after `timeout` seconds. A service that is begun anew over a folder may have another port, and a
+ * set that extends the one before; one of another set is OtherSet.
+ */
+export class Client {
+  #folder;
+  #host;
+  #port;
+  #timeout;
+  #line = null;
+  #last = Promise.resolve();
+  #byNumber;
+
+  /** The chains that this client began and whose last hop it hasn't seen, by their names, with the number of that hop. */
+  owed = new Map();
+
+  /** A client of the service over the stores of a folder, by the set that it serves. */
+  static async at(folder, options = {}) {
+    return new Client({ ...options, ...await serviceOf(folder), folder });
+  }
+
+  /** A client of the service at a port, by the set of the file `setPath` or of the text `setText`. */
+  static async connect(port, { setPath, setText, ...options } = {}) {
+    return new Client({ ...options, port, setText: setText ?? (setPath ? await readFile(setPath, 'latin1') : '') });
+  }
+
+  constructor({ port, setText, folder = null, client = randomBytes(8).readBigUInt64BE(), first = 1n, host = '127.0.0.1',
+    timeout = 30, tries = 5 }) {
+    this.#folder = folder;
+    this.#host = host;
+    this.#port = port;
+    this.#timeout = timeout;
+    this.tries = Math.max(1, tries);
+    this.client = wordOf(client, 'the client');
+    this.nextNumber = wordOf(first, 'the first number');
+    this.setText = setText;
+    this.programs = programsOf(setText);
+    this.#byNumber = [...this.programs.values()];
+  }
+
+  /** Begins a chain of the program, by its name (or its number in the set), and gives Begun or Refused; other answers are
+   * thrown. The last argument may be `{ number }`; without one it draws the next number of its own. */
+  async begin(program, ...args) {
+    const options = (typeof args.at(-1) === 'object' ? args.pop() : null) ?? {};
+    const number = wordOf(options.number ?? this.nextNumber++, 'the number');
+    const values = args.map((value) => wordOf(value, 'an argument'));
+    try {
+      const kind = this.#kindOf(program, values);
+      const body = Buffer.concat([bytesOf(this.client, number, kind, values.length), bytesOf(...values)]);
+      const answer = await this.#alone(async () => this.#ask(REQUEST, body, ANSWER, (found) => this.#answerOf(found, number, kind)));
+      const { hops } = this.#programAt(kind);
+      if (answer instanceof Begun && hops > 1) this.owed.set(String(answer.chain), hops - 1);
+      return answer;
+    } catch (fault) {
+      if (fault instanceof LynxError) fault.number = number;
+      throw fault;
+    }
+  }
+
+  /** What that hop of the chain did: Found, or null where it isn't done yet, also not within `wait` seconds. */
+  async look(chain, hop, { wait = 0 } = {}) {
+    const { origin, index } = typeof chain === 'string' ? Chain.parse(chain) : chain;
+    if (!(origin >= 0 && origin <= 15 && hop >= 0 && hop <= 255)) return null;
+    const body = bytesOf(origin, wordOf(index, 'the index'), hop);
+    const until = performance.now() + wait * 1000;
+    for (let next = 1; ; next = Math.min(next * 2, 100)) {
+      const found = await this.#alone(async () => this.#ask(LOOK, body, LOOKED, foundOf));
+      if (found) {
+        if (this.owed.get(`${origin}:${index}`) === hop) this.owed.delete(`${origin}:${index}`);
+        return found;
+      }
+      const left = until - performance.now();
+      if (left <= 0) return null;
+      await pause(Math.min(next, left));
+    }
+  }
+
+  /** Whether all chains that this client began are done, within so many seconds. */
+  async settle(seconds = 10) {
+    const until = performance.now() + seconds * 1000;
+    for (const [chain, hop] of [...this.owed]) {
+      if (!await this.look(chain, hop, { wait: (until - performance.now()) / 1000 })) return false;
+    }
+    return true;
+  }
+
+  /** Leaves. A request begins a new connection. */
+  async close() {
+    await this.#alone(async () => {
+      if (!this.#line) return;
+      await this.#exchange(QUIT, bytesOf(), BYE, (found) => found.end()).catch(() => {});
+      this.#drop();
+    });
+  }
+
+  /** Has the service end: it takes no more clients, checks all that it told, and says whether it stood. Throws Lost where
+   * it couldn't be asked, and ByeLost where it was and its bye didn't come. */
+  async shut() {
+    await this.#alone(async () => {
+      try {
+        await this.#tried(() => this.#send(SHUT, bytesOf()));
+        await this.#answer(BYE, (found) => found.end());
+      } catch (fault) {
+        throw fault instanceof Broken ? new ByeLost(fault) : fault;
+      } finally {
+        this.#drop();
+      }
+    });
+  }
+
+  /** Does the work once all that was asked before is done. */
+  #alone(work) {
+    const done = this.#last.then(work);
+    this.#last = done.catch(() => {});
+    return done;
+  }
+
+  #kindOf(program, values) {
+    if (typeof program === 'string') {
+      const found = this.programs.get(program);
+      if (!found) throw new Wrong('unknown-program');
+      if (found.parameters.length !== values.length) throw new Wrong('arg-count');
+      return found.number;
+    }
+    if (values.length > 8) throw new Wrong('arg-count');
+    if (!(Number.isInteger(program) && program >= 0 && program <= 63)) throw new Wrong('unknown-program');
+    return program;
+  }
+
+  #programAt(kind) {
+    return this.#byNumber[kind] ?? { hops: 1, names: [], needs: [] };
+  }
+
+  #answerOf(found, number, kind) {
+    const { hops, names, needs } = this.#programAt(kind);
+    const answer = found.byte();
+    if (answer === 0) {
+      const chain = new Chain(found.byte(), found.word());
+      const [stamp, again, results] = [found.word(), found.byte() !== 0, found.words()];
+      found.end();
+      return new Begun(chain, stamp, results, again, number, names, this, hops);
+    }
+    if (answer === 8) {
+      const [need, stamp, again] = [found.byte(), found.word(), found.byte() !== 0];
+      found.end();
+      return new Refused(need, stamp, again, number, needs[need]);
+    }
+    found.end();
+    throw faultOf(answer);
+  }
+
+  /** Asks, over a new connection where the old one is lost: the same request is never done twice. */
+  async #ask(tag, body, wanted, read) {
+    return this.#tried(() => this.#exchange(tag, body, wanted, read));
+  }
+
+  /** Does the work, again and again where the connection or the service is gone. */
+  async #tried(work) {
+    for (let attempt = 1; ; attempt += 1) {
+      try {
+        return await work();
+      } catch (fault) {
+        if (!(fault instanceof Broken || fault instanceof NoService)) throw fault;
+        this.#drop();
+        if (attempt >= this.tries) throw fault instanceof Broken ? new Lost(fault) : fault;
+      }
+      await pause(milliseconds(attempt));
+    }
+  }
+
+  async #exchange(tag, body, wanted, read) {
+    await this.#send(tag, body);
+    return this.#answer(wanted, read);
+  }
+
+  async #send(tag, body) {
+    if (this.#line?.lost) this.#drop();
+    if (!this.#line) {
+      if (this.#folder !== null) await this.#find();
+      this.#line = new Line(this.#host, this.#port, this.#timeout);
+    }
+    const head = Buffer.alloc(5);
+    head.writeUInt8(tag);
+    head.writeUInt32BE(body.length, 1);
+    await this.#line.send(Buffer.concat([head, body]));
+  }
+
+  async #answer(wanted, read) {
+    const head = await this.#line.read(5);
+    const length = head.readUInt32BE(1);
+    if (head[0] !== wanted || length > MAX_BODY_BYTES) throw new Broken('what came is no answer');
+    return read(new Body(await this.#line.read(length)));
+  }
+
+  /** Looks again where the service over the folder listens, and whether its set goes on from this client's. */
+  async #find() {
+    const { port, setText } = await serviceOf(this.#folder);
+    if (setText !== this.setText && !extendsSet(setText, this.setText)) throw new OtherSet();
+    this.#port = port;
+  }
+
+  #drop() {
+    this.#line?.drop();
+    this.#line = null;
+  }
+}
+
+function foundOf(body) {
+  const found = body.byte() ? new Found(body.word(), body.words()) : null;
+  body.end();
+  return found;
+}

@@ -1,0 +1,188 @@
+// What tests/languages asks of clients/go/lynx: lines in, a line out for each.
+//
+//	driver folder FOLDER CLIENT TRIES TIMEOUT
+//	driver port PORT SET CLIENT TRIES TIMEOUT
+package main
+
+import (
+	"bufio"
+	"errors"
+	"fmt"
+	"os"
+	"sort"
+	"strconv"
+	"strings"
+	"time"
+
+	"lynx"
+)
+
+var kinds = []struct {
+	name string
+	kind error
+}{
+	{"Clash", lynx.ErrClash}, {"Outside", lynx.ErrOutside}, {"Wrong", lynx.ErrWrong}, {"Full", lynx.ErrFull},
+	{"Busy", lynx.ErrBusy}, {"Stopped", lynx.ErrStopped}, {"Wanting", lynx.ErrWanting}, {"Lost", lynx.ErrLost},
+	{"ByeLost", lynx.ErrByeLost}, {"NoService", lynx.ErrNoService}, {"OtherSet", lynx.ErrOtherSet},
+}
+
+// list gives what stands for a list, of whatever it is.
+func list(values any) string {
+	text := strings.Trim(fmt.Sprint(values), "[]")
+	if text == "" {
+		return "-"
+	}
+	return text
+}
+
+func named(values map[string]uint64) string {
+	var pairs []string
+	for name, value := range values {
+		pairs = append(pairs, fmt.Sprintf("%s=%d", name, value))
+	}
+	sort.Strings(pairs)
+	return list(pairs)
+}
+
+func toldOf(fault error) string {
+	var refused *lynx.Refused
+	var failed *lynx.Error
+	switch {
+	case errors.As(fault, &refused):
+		return fmt.Sprintf("refused %d stamp %d again %t number %d: %s", refused.Need, refused.Stamp, refused.Again,
+			refused.Number, refused.Text)
+	case errors.Is(fault, lynx.ErrAbsent):
+		return "absent"
+	case !errors.As(fault, &failed):
+		return fault.Error()
+	}
+	number := "-"
+	if failed.Numbered {
+		number = fmt.Sprint(failed.Number)
+	}
+	for _, each := range kinds {
+		if errors.Is(fault, each.kind) {
+			return fmt.Sprintf("fault %s %s %s", each.name, failed.Reason, number)
+		}
+	}
+	return fmt.Sprintf("fault LynxError %s %s", failed.Reason, number)
+}
+
+func number(text string) uint64 {
+	found, err := strconv.ParseUint(text, 10, 64)
+	if err != nil {
+		panic(err)
+	}
+	return found
+}
+
+func numbers(texts []string) (found []uint64) {
+	for _, text := range texts {
+		found = append(found, number(text))
+	}
+	return found
+}
+
+func seconds(text string) time.Duration { return time.Duration(number(text)) * time.Second }
+
+type driver struct {
+	bank  *lynx.Client
+	begun *lynx.Begun
+}
+
+func (d *driver) begin(under, program string, arguments []uint64) (string, error) {
+	var err error
+	if under == "-" {
+		d.begun, err = d.bank.Begin(program, arguments...)
+	} else {
+		d.begun, err = d.bank.BeginNumbered(number(under), program, arguments...)
+	}
+	if err != nil {
+		return "", err
+	}
+	begun := d.begun
+	return fmt.Sprintf("begun %v stamp %d results %s again %t number %d named %s", begun.Chain, begun.Stamp,
+		list(begun.Results), begun.Again, begun.Number, named(begun.Named)), nil
+}
+
+func (d *driver) many(count uint64, program string, arguments []uint64) (string, error) {
+	var all []string
+	for ; count > 0; count-- {
+		begun, err := d.bank.Begin(program, arguments...)
+		if err != nil {
+			return "", err
+		}
+		all = append(all, fmt.Sprintf("%v/%d", begun.Chain, begun.Number))
+	}
+	return list(all), nil
+}
+
+func (d *driver) look(text, hop, wait string) (string, error) {
+	chain, err := lynx.ParseChain(text)
+	if err != nil {
+		return "", err
+	}
+	found, err := d.bank.Look(chain, int(number(hop)), seconds(wait))
+	if err != nil {
+		return "", err
+	}
+	return fmt.Sprintf("found stamp %d results %s", found.Stamp, list(found.Results)), nil
+}
+
+func (d *driver) wait(wait string) (string, error) {
+	hops, err := d.begun.Wait(seconds(wait))
+	var all []string
+	for _, hop := range hops {
+		all = append(all, list(hop))
+	}
+	return "all " + strings.Join(all, " | "), err
+}
+
+func (d *driver) do(line []string) (string, error) {
+	switch line[0] {
+	case "begin":
+		return d.begin(line[1], line[2], numbers(line[3:]))
+	case "many":
+		return d.many(number(line[1]), line[2], numbers(line[3:]))
+	case "look":
+		return d.look(line[1], line[2], line[3])
+	case "wait":
+		return d.wait(line[1])
+	case "settle":
+		return "settled", d.bank.Settle(seconds(line[1]))
+	case "close":
+		return "closed", d.bank.Close()
+	}
+	return "shut", d.bank.Shut()
+}
+
+func (d *driver) open(line []string) (string, error) {
+	chosen := line[len(line)-3:]
+	options := &lynx.Options{Client: number(chosen[0]), Tries: int(number(chosen[1])), Timeout: seconds(chosen[2])}
+	var err error
+	if line[0] == "folder" {
+		d.bank, err = lynx.Open(line[1], options)
+		return "opened", err
+	}
+	set, err := os.ReadFile(line[2])
+	if err != nil {
+		return "", err
+	}
+	d.bank, err = lynx.Dial(int(number(line[1])), string(set), options)
+	return "opened", err
+}
+
+func say(text string, fault error) {
+	if fault != nil {
+		text = toldOf(fault)
+	}
+	fmt.Println(text)
+}
+
+func main() {
+	var it driver
+	say(it.open(os.Args[1:]))
+	for lines := bufio.NewScanner(os.Stdin); lines.Scan(); {
+		say(it.do(strings.Split(lines.Text(), " ")))
+	}
+}

@@ -1,0 +1,69 @@
+// What tests/languages asks of clients/javascript/lynx.mjs: lines in, a line out for each.
+//
+//     driver.mjs folder FOLDER CLIENT TRIES TIMEOUT
+//     driver.mjs port PORT SET CLIENT TRIES TIMEOUT
+import { createInterface } from 'node:readline';
+import * as lynx from '../../clients/javascript/lynx.mjs';
+
+const list = (values) => values.join(' ') || '-';
+let bank, begun;
+
+function toldOf(answer) {
+  const { stamp, again, number } = answer;
+  if (answer instanceof lynx.Refused) return `refused ${answer.need} stamp ${stamp} again ${again} number ${number}: ${answer.text}`;
+  const named = list(Object.entries(answer.named).map(([name, value]) => `${name}=${value}`));
+  return `begun ${answer.chain} stamp ${stamp} results ${list(answer.results)} again ${again} number ${number} named ${named}`;
+}
+
+const verbs = {
+  async begin(number, program, ...args) {
+    const options = number === '-' ? [] : [{ number: BigInt(number) }];
+    begun = await bank.begin(program, ...args.map(BigInt), ...options);
+    return toldOf(begun);
+  },
+  async many(count, program, ...args) {
+    const all = await Promise.all(Array.from({ length: Number(count) }, () => bank.begin(program, ...args.map(BigInt))));
+    return list(all.map(({ chain, number }) => `${chain}/${number}`));
+  },
+  async look(chain, hop, seconds) {
+    const found = await bank.look(chain, Number(hop), { wait: Number(seconds) });
+    return found ? `found stamp ${found.stamp} results ${list(found.results)}` : 'absent';
+  },
+  async wait(seconds) {
+    const results = await begun.wait(Number(seconds));
+    return results ? `all ${results.map(list).join(' | ')}` : 'absent';
+  },
+  async settle(seconds) {
+    return await bank.settle(Number(seconds)) ? 'settled' : 'absent';
+  },
+  async close() {
+    await bank.close();
+    return 'closed';
+  },
+  async shut() {
+    await bank.shut();
+    return 'shut';
+  },
+};
+
+async function told(work) {
+  try {
+    return await work();
+  } catch (fault) {
+    return fault instanceof lynx.LynxError ? `fault ${fault.name} ${fault.reason} ${fault.number ?? '-'}` : `${fault.stack}`;
+  }
+}
+
+const [way, where, ...words] = process.argv.slice(2);
+const [client, tries, timeout] = words.slice(-3);
+const options = { client: BigInt(client), tries: Number(tries), timeout: Number(timeout) };
+const opening = () => (way === 'folder' ? lynx.Client.at(where, options)
+  : lynx.Client.connect(Number(where), { ...options, setPath: words[0] }));
+console.log(await told(async () => {
+  bank = await opening();
+  return 'opened';
+}));
+for await (const line of createInterface({ input: process.stdin })) {
+  const [verb, ...rest] = line.split(' ');
+  console.log(await told(() => verbs[verb](...rest)));
+}

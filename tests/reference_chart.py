@@ -13,15 +13,15 @@ from reference_picture import COLOURS
 STYLE = """<style>
 svg{background:#ffffff;color:#333333;font:11px "DejaVu Sans Mono",Menlo,Consolas,monospace}
 text{fill:currentColor}
-path,polyline,use{fill:none;stroke:currentColor}
+path,use{fill:none;stroke:currentColor}
 marker path{fill:currentColor;stroke:none}
 .column{stroke:#999999;stroke-dasharray:1 4}
 .head{font-weight:bold;text-anchor:middle}
-rect{stroke:#555555}
+.box use,.owed use{fill:inherit;stroke:#555555}
 .box text{fill:#000000}
 .at{text-anchor:end;opacity:0.7}
-.refusal rect,.owed rect{fill:#ffffff}
-.owed rect{stroke:currentColor;stroke-dasharray:5 3}
+.refusal,.owed{fill:#ffffff}
+.owed use{stroke:currentColor;stroke-dasharray:5 3}
 .message{marker-end:url(#tip)}
 .held{stroke-dasharray:6 4}
 .again{stroke-width:0.5}
@@ -29,11 +29,11 @@ rect{stroke:#555555}
 .link path{stroke:#cc0000;stroke-width:2;marker-end:url(#end)}
 #end path,.link text{fill:#cc0000}
 .link text{text-anchor:end;paint-order:stroke;stroke:#ffffff;stroke-width:4px}
-.chain:hover rect,.chain:hover polyline,.chain:hover use{stroke-width:3}
+.chain:hover path,.chain:hover use{stroke-width:3}
 svg:has(.chain:hover) .chain:not(:hover){opacity:0.3}
 @media (prefers-color-scheme:dark){
 svg{background:#1c1c1c;color:#dddddd}
-.owed rect{fill:#1c1c1c}
+.owed{fill:#1c1c1c}
 .link path{stroke:#ff7777}
 #end path,.link text{fill:#ff7777}
 .link text{stroke:#1c1c1c}
@@ -46,6 +46,7 @@ svg{background:#1c1c1c;color:#dddddd}
  markerUnits="userSpaceOnUse" orient="auto"><path d="M0,0L8,4L0,8z"/></marker>
 <path id="right" d="M0,0h20m-5,-5l10,10m0,-10l-10,10"/>
 <path id="left" d="M0,0h-20m-5,-5l10,10m0,-10l-10,10"/>
+<rect id="box" x="-8" y="-15" width="200" height="62"/>
 </defs>
 """
 SAYING = {
@@ -140,17 +141,18 @@ def deed(run, entry):
              "begun": lambda: f"{reference.name(entry['chain'])} begins"}[entry["kind"]]()
     lines = [first, " ".join(map(str, (entry["program"],) + tuple(entry["args"])))]
     if entry["kind"] != "refused":
-        lines.append(f"results {reference.values(entry['results'])}")
-        lines += run.place_lines(entry["chain"])
+        lines.append("".join(run.place_lines(entry["chain"])))
+        lines += [f"results {reference.values(entry['results'])}"] if entry["results"] else []
     return lines
 
 
 def box(kind, server, row, corner, lines):
     """A box of a kind: what stands in its corner, and its lines."""
-    title = escaped("\n".join([corner] + lines))
-    texts = "".join(f'<text x="8" y="{15 + 14 * i}">{fitted(line, 27)}</text>' for i, line in enumerate(lines))
-    return (f'<g class="{kind}" transform="translate({x_of(server)},{y_of(row)})"><title>{title}</title>'
-            f'<rect width="{WIDE}" height="{TALL}"/><text class="at" x="192" y="15">{corner}</text>{texts}</g>\n')
+    title = escaped("".join(line + "\n" for line in lines if line) + corner)
+    at = f'<text class="at" x="184">{corner}</text>' if corner else ""
+    texts = "".join(f'<text y="{14 * i}">{fitted(line, 27)}</text>' for i, line in enumerate(lines) if line)
+    return (f'<g class="{kind}" transform="translate({x_of(server) + 8},{y_of(row) + 15})"><title>{title}</title>'
+            f'<use href="#box"/>{at}{texts}</g>\n')
 
 
 def entry_box(run, entry):
@@ -159,8 +161,8 @@ def entry_box(run, entry):
 
 
 def owed_box(message):
-    lines = [f"{reference.name(message['chain'])} hop {message['hop']}", message["act"]["program"]]
-    return box("owed", message["server"], message["row"], "owed", lines)
+    lines = [f"{reference.name(message['chain'])} owes hop {message['hop']}", message["act"]["program"]]
+    return box("owed", message["server"], message["row"], "", lines)
 
 
 def route(a, r, b, q, shift):
@@ -178,7 +180,7 @@ def route(a, r, b, q, shift):
 
 def arrow(kind, points, title):
     way = "".join(f" {x},{y}" for x, y in points)
-    return f'<polyline class="{kind}" points="{way}">{title}</polyline>\n'
+    return f'<path class="{kind}" d="M{way}">{title}</path>\n'
 
 
 def arrows(run, message):

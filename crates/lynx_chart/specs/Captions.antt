@@ -7,7 +7,7 @@ page_style =
     codes "<style>\n"
     ++ codes "svg{background:#ffffff;color:#333333;font:11px \"DejaVu Sans Mono\",Menlo,Consolas,monospace}\n"
     ++ codes "text{fill:currentColor}\n"
-    ++ codes "path,polyline,use{fill:none;stroke:currentColor}\n"
+    ++ codes "path,use{fill:none;stroke:currentColor}\n"
     ++ codes "marker path{fill:currentColor;stroke:none}\n"
     ++ codes ".column{stroke:#999999;stroke-dasharray:1 4}\n"
     ++ codes ".head{font-weight:bold;text-anchor:middle}\n"
@@ -15,11 +15,11 @@ page_style =
 -- how boxes are drawn
 unfoldable pub box_style : List ℕ
 box_style =
-    codes "rect{stroke:#555555}\n"
+    codes ".box use,.owed use{fill:inherit;stroke:#555555}\n"
     ++ codes ".box text{fill:#000000}\n"
     ++ codes ".at{text-anchor:end;opacity:0.7}\n"
-    ++ codes ".refusal rect,.owed rect{fill:#ffffff}\n"
-    ++ codes ".owed rect{stroke:currentColor;stroke-dasharray:5 3}\n"
+    ++ codes ".refusal,.owed{fill:#ffffff}\n"
+    ++ codes ".owed use{stroke:currentColor;stroke-dasharray:5 3}\n"
 
 -- how lines are drawn
 unfoldable pub line_style : List ℕ
@@ -35,7 +35,7 @@ line_style =
 -- how the chain is drawn at which one points
 unfoldable pub chain_style : List ℕ
 chain_style =
-    codes ".chain:hover rect,.chain:hover polyline,.chain:hover use{stroke-width:3}\n"
+    codes ".chain:hover path,.chain:hover use{stroke-width:3}\n"
     ++ codes "svg:has(.chain:hover) .chain:not(:hover){opacity:0.3}\n"
 
 -- how all is drawn where one prefers it dark
@@ -43,7 +43,7 @@ unfoldable pub dark_style : List ℕ
 dark_style =
     codes "@media (prefers-color-scheme:dark){\n"
     ++ codes "svg{background:#1c1c1c;color:#dddddd}\n"
-    ++ codes ".owed rect{fill:#1c1c1c}\n"
+    ++ codes ".owed{fill:#1c1c1c}\n"
     ++ codes ".link path{stroke:#ff7777}\n"
     ++ codes "#end path,.link text{fill:#ff7777}\n"
     ++ codes ".link text{stroke:#1c1c1c}\n"
@@ -59,11 +59,12 @@ tips =
     ++ codes "<marker id=\"end\" viewBox=\"0 0 8 8\" refX=\"8\" refY=\"4\" markerWidth=\"10\" markerHeight=\"10\"\n"
     ++ codes " markerUnits=\"userSpaceOnUse\" orient=\"auto\"><path d=\"M0,0L8,4L0,8z\"/></marker>\n"
 
--- the crosses of what was lost or dropped
+-- the crosses of what was lost or dropped, and the frame of a box
 unfoldable pub crosses : List ℕ
 crosses =
     codes "<path id=\"right\" d=\"M0,0h20m-5,-5l10,10m0,-10l-10,10\"/>\n"
     ++ codes "<path id=\"left\" d=\"M0,0h-20m-5,-5l10,10m0,-10l-10,10\"/>\n"
+    ++ codes "<rect id=\"box\" x=\"-8\" y=\"-15\" width=\"200\" height=\"62\"/>\n"
     ++ codes "</defs>\n"
 
 -- how a run is explained by an order, in words

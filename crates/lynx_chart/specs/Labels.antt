@@ -25,6 +25,10 @@ chain_in (Hop ran) = Some ran.message.chain
 abbrev pub hop_text : ChainId → ℕ → List ℕ
 hop_text chain hop = chain_text chain ++ codes " hop " ++ decimal hop
 
+-- that it is owed
+abbrev pub owes_text : ChainId → ℕ → List ℕ
+owes_text chain hop = chain_text chain ++ codes " owes hop " ++ decimal hop
+
 -- what the server did
 abbrev pub deed_text : Entry → List ℕ
 deed_text (Begun begun) = chain_text begun.chain ++ codes " begins"
@@ -44,29 +48,33 @@ program_text set (Hop ran) = asked_text set ran.message.program ran.message.args
 abbrev pub stamp_text : Entry → List ℕ
 stamp_text entry = codes "stamp " ++ decimal (stamp_of entry)
 
--- the line of the results, if a hop ran
+-- the line of the results, if a hop ran and has any
 abbrev pub results_text : List ℕ → List ℕ
 results_text results = codes "results " ++ values_text results
 
+abbrev pub results_told : List ℕ → List ℕ
+results_told [] = []
+results_told (first ∷ results) = results_text (first ∷ results)
+
 abbrev pub results_line : Entry → List ℕ
-results_line (Begun begun) = results_text begun.results
+results_line (Begun begun) = results_told begun.results
 results_line (Refused refused) = []
-results_line (Hop ran) = results_text ran.results
+results_line (Hop ran) = results_told ran.results
 
 -- the place of an entry's chain, if it has one
 abbrev pub entry_place : Explained → Entry → Option ℕ
 entry_place explained entry = option_and_then (place_of explained) (chain_in entry)
 
--- what it did, of which program, its results, and the place of its chain: a line each
+-- what it did, of which program, the place of its chain, and its results: a line each
 abbrev pub entry_lines : Set → Explained → Entry → List (List ℕ)
 entry_lines set explained entry =
-    deed_text entry ∷ program_text set entry ∷ results_line entry
-    ∷ place_line (word_of explained) (entry_place explained entry) ∷ []
+    deed_text entry ∷ program_text set entry
+    ∷ place_line (word_of explained) (entry_place explained entry) ∷ results_line entry ∷ []
 
 -- the lines of a label
 abbrev pub lines_of : Label → List (List ℕ)
 lines_of label =
-    label.deed.items ∷ label.program.items ∷ label.results.items ∷ label.place.items ∷ []
+    label.deed.items ∷ label.program.items ∷ label.place.items ∷ label.results.items ∷ []
 
 -- the kind of an entry's box
 abbrev pub kind_of : Entry → List ℕ

@@ -13,7 +13,7 @@ use Rattle.lynx_rules.specs.Deliveries.{same_chain}
 use Rattle.lynx_rules.specs.Messages.{next_message}
 use Rattle.lynx_world.specs.Placed.{Placed}
 use Rattle.lynx_world.specs.Steps.{destination_of}
-use Rattle.lynx_chart.specs.Labels.{hop_text}
+use Rattle.lynx_chart.specs.Labels.{owes_text}
 use Rattle.lynx_chart.specs.Rows.{row_of, spot_at}
 use Rattle.lynx_chart.specs.Shapes.{Shape, Boxed}
 use Rattle.lynx_chart.specs.declared.messages.Sent.{Sent}
@@ -85,5 +85,5 @@ rows_with rows (sent ∷ messages) = rows_with (max rows (sent.to.row + 1)) mess
 -- the box of a hop that is owed
 abbrev pub owed_box : Set → Sent → Shape
 owed_box set sent =
-    Boxed (codes "owed") sent.to (codes "owed")
-    (hop_text sent.chain sent.hop ∷ program_name set sent.program ∷ [] ∷ [] ∷ [])
+    Boxed (codes "owed") sent.to []
+    (owes_text sent.chain sent.hop ∷ program_name set sent.program ∷ [] ∷ [] ∷ [])

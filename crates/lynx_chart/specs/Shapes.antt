@@ -31,13 +31,12 @@ pub data Shape : Type 0 where
 -- a line of what a box tells when one points at it, where there is one
 abbrev pub title_line : List ℕ → List ℕ
 title_line [] = []
-title_line (first ∷ line) = 10 ∷ escaped (first ∷ line)
+title_line (first ∷ line) = escaped (first ∷ line) ++ 10 ∷ []
 
 -- a line in a box, at that height, where there is one
 abbrev pub line_at : ℕ → List ℕ → List ℕ
 line_at height line =
-    codes "<text x=\"8\" y=\"" ++ decimal height ++ codes "\">" ++ fitted 27 line
-    ++ codes "</text>"
+    codes "<text y=\"" ++ decimal height ++ codes "\">" ++ fitted 27 line ++ codes "</text>"
 
 abbrev pub box_line : ℕ → List ℕ → List ℕ
 box_line height [] = []
@@ -52,21 +51,26 @@ box_at kind x y =
     codes "<g class=\"" ++ kind ++ codes "\" transform=\"translate(" ++ decimal x ++ codes ","
     ++ decimal y ++ codes ")\"><title>"
 
+-- at the left end of its first line
 abbrev pub box_start : List ℕ → Spot → List ℕ
-box_start kind spot = box_at kind (left_of spot.column) (top_of spot.row)
+box_start kind spot = box_at kind (left_of spot.column + 8) (top_of spot.row + 15)
 
 abbrev pub box_title : List ℕ → List (List ℕ) → List ℕ
 box_title corner lines =
-    escaped corner ++ flat_map title_line lines
-    ++ codes "</title><rect width=\"200\" height=\"62\"/>"
+    flat_map title_line lines ++ escaped corner ++ codes "</title><use href=\"#box\"/>"
+
+-- what stands in its corner, if anything does
+abbrev pub corner_at : List ℕ → List ℕ
+corner_at corner =
+    codes "<text class=\"at\" x=\"184\">" ++ escaped corner ++ codes "</text>"
 
 abbrev pub box_corner : List ℕ → List ℕ
-box_corner corner =
-    codes "<text class=\"at\" x=\"192\" y=\"15\">" ++ escaped corner ++ codes "</text>"
+box_corner [] = []
+box_corner (first ∷ corner) = corner_at (first ∷ corner)
 
 abbrev pub box_text : List ℕ → Spot → List ℕ → List (List ℕ) → List ℕ
 box_text kind spot corner lines =
-    box_start kind spot ++ box_title corner lines ++ box_corner corner ++ box_lines 15 lines
+    box_start kind spot ++ box_title corner lines ++ box_corner corner ++ box_lines 0 lines
     ++ codes "</g>\n"
 
 -- ---- lines
@@ -87,10 +91,10 @@ head_at server x height =
     ++ codes "\">server " ++ decimal server ++ codes "</text>\n"
 
 abbrev pub arrow_start : List ℕ → List ℕ
-arrow_start kind = codes "<polyline class=\"" ++ kind ++ codes "\" points=\""
+arrow_start kind = codes "<path class=\"" ++ kind ++ codes "\" d=\"M"
 
 abbrev pub arrow_end : List ℕ → List ℕ
-arrow_end told = codes "\"><title>" ++ escaped told ++ codes "</title></polyline>\n"
+arrow_end told = codes "\"><title>" ++ escaped told ++ codes "</title></path>\n"
 
 abbrev pub arrow_text : List ℕ → Spot → Spot → ℕ → List ℕ → List ℕ
 arrow_text kind from to shift told =

@@ -55,10 +55,11 @@ fn put_again(
     ensures { OnOk result (out.new.items ≡ out.old.items ++ drawn (wanted again
         (Arrow (codes "message again") sent.now.from sent.now.to 1 told.now))) }
 {
-    if again {
-        let kind = b"message again".as_slice();
-        return put_arrow(alloc, out, kind, &sent.from, &sent.to, 1, told);
+    if !again {
+        return Ok(());
     }
+    let kind = b"message again".as_slice();
+    put_arrow(alloc, out, kind, &sent.from, &sent.to, 1, told)?;
     Ok(())
 }
 

@@ -2,7 +2,7 @@
 ghost use Rattle.std.specs.Prelude.{◌≡◌, ◌++◌, ◌≤◌, OnOk};
 ghost use Rattle.std.specs.List.{flat_map};
 ghost use Rattle.lynx_chart.specs.Labels.{lines_of};
-ghost use Rattle.lynx_chart.specs.Shapes.{Boxed, box_at, box_corner, box_line, box_lines, box_start, box_title, line_at, shape_text, title_line};
+ghost use Rattle.lynx_chart.specs.Shapes.{Boxed, box_at, box_corner, box_line, box_lines, box_start, box_title, corner_at, line_at, shape_text, title_line};
 
 use crate::labels::Label;
 use crate::spot::{Spot, left_of, top_of};
@@ -26,7 +26,7 @@ fn put_box_start(alloc: Global, out: &mut Vec<u8>, kind: &[u8], spot: &Spot) -> 
     ensures { OnOk result (out.new.items ≡ out.old.items ++ box_start kind.now spot.now) }
 {
     let (x, y) = (left_of(spot.column.number()), top_of(spot.row));
-    put_box_at(alloc, out, kind, x, y)?;
+    put_box_at(alloc, out, kind, x + 8, y + 15)?;
     Ok(())
 }
 
@@ -37,8 +37,9 @@ fn put_title_line(out: &mut Vec<u8>, line: &[u8]) -> Result<(), Memory>
     match line {
         [] => Ok(()),
         [_, ..] => {
+            put_escaped(out, line)?;
             out.push(b'\n')?;
-            put_escaped(out, line)
+            Ok(())
         }
     }
 }
@@ -50,8 +51,8 @@ fn put_title_lines(out: &mut Vec<u8>, label: &Label) -> Result<(), Memory>
 {
     put_title_line(out, label.deed.as_slice())?;
     put_title_line(out, label.program.as_slice())?;
-    put_title_line(out, label.results.as_slice())?;
     put_title_line(out, label.place.as_slice())?;
+    put_title_line(out, label.results.as_slice())?;
     Ok(())
 }
 
@@ -60,27 +61,37 @@ fn put_title(out: &mut Vec<u8>, label: &Label) -> Result<(), Memory>
     ensures { OnOk result (out.new.items ≡ out.old.items
         ++ box_title label.now.corner.items (lines_of label.now)) }
 {
-    put_escaped(out, label.corner.as_slice())?;
     put_title_lines(out, label)?;
-    out.extend_from_slice(b"</title><rect width=\"200\" height=\"62\"/>".as_slice())?;
+    put_escaped(out, label.corner.as_slice())?;
+    out.extend_from_slice(b"</title><use href=\"#box\"/>".as_slice())?;
     Ok(())
 }
 
-/// Writes what stands in the corner of a box.
-fn put_corner(out: &mut Vec<u8>, corner: &[u8]) -> Result<(), Memory>
-    ensures { OnOk result (out.new.items ≡ out.old.items ++ box_corner corner.now) }
+/// Writes a text into the corner of a box.
+fn put_corner_at(out: &mut Vec<u8>, corner: &[u8]) -> Result<(), Memory>
+    ensures { OnOk result (out.new.items ≡ out.old.items ++ corner_at corner.now) }
 {
-    out.extend_from_slice(b"<text class=\"at\" x=\"192\" y=\"15\">".as_slice())?;
+    out.extend_from_slice(b"<text class=\"at\" x=\"184\">".as_slice())?;
     put_escaped(out, corner)?;
     out.extend_from_slice(b"</text>".as_slice())?;
     Ok(())
+}
+
+/// Writes what stands in the corner of a box, if anything does.
+fn put_corner(out: &mut Vec<u8>, corner: &[u8]) -> Result<(), Memory>
+    ensures { OnOk result (out.new.items ≡ out.old.items ++ box_corner corner.now) }
+{
+    match corner {
+        [] => Ok(()),
+        [_, ..] => put_corner_at(out, corner),
+    }
 }
 
 /// Writes a line in a box, at that height.
 fn put_line_at(alloc: Global, out: &mut Vec<u8>, height: u8, line: &[u8]) -> Result<(), Memory>
     ensures { OnOk result (out.new.items ≡ out.old.items ++ line_at height line.now) }
 {
-    let start = format!(in alloc; "<text x=\"8\" y=\"{height}\">")?;
+    let start = format!(in alloc; "<text y=\"{height}\">")?;
     out.extend_from_slice(start.as_bytes())?;
     put_fitted(out, 27, line)?;
     out.extend_from_slice(b"</text>".as_slice())?;
@@ -99,12 +110,12 @@ fn put_box_line(alloc: Global, out: &mut Vec<u8>, height: u8, line: &[u8]) -> Re
 
 /// Writes the lines in a box.
 fn put_box_lines(alloc: Global, out: &mut Vec<u8>, label: &Label) -> Result<(), Memory>
-    ensures { OnOk result (out.new.items ≡ out.old.items ++ box_lines 15 (lines_of label.now)) }
+    ensures { OnOk result (out.new.items ≡ out.old.items ++ box_lines 0 (lines_of label.now)) }
 {
-    put_box_line(alloc, out, 15, label.deed.as_slice())?;
-    put_box_line(alloc, out, 29, label.program.as_slice())?;
-    put_box_line(alloc, out, 43, label.results.as_slice())?;
-    put_box_line(alloc, out, 57, label.place.as_slice())?;
+    put_box_line(alloc, out, 0, label.deed.as_slice())?;
+    put_box_line(alloc, out, 14, label.program.as_slice())?;
+    put_box_line(alloc, out, 28, label.place.as_slice())?;
+    put_box_line(alloc, out, 42, label.results.as_slice())?;
     Ok(())
 }
 

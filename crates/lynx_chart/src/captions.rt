@@ -13,7 +13,7 @@ pub(crate) fn page_style() -> &'static [u8]
     b"<style>\n\
       svg{background:#ffffff;color:#333333;font:11px \"DejaVu Sans Mono\",Menlo,Consolas,monospace}\n\
       text{fill:currentColor}\n\
-      path,polyline,use{fill:none;stroke:currentColor}\n\
+      path,use{fill:none;stroke:currentColor}\n\
       marker path{fill:currentColor;stroke:none}\n\
       .column{stroke:#999999;stroke-dasharray:1 4}\n\
       .head{font-weight:bold;text-anchor:middle}\n"
@@ -24,11 +24,11 @@ pub(crate) fn page_style() -> &'static [u8]
 pub(crate) fn box_style() -> &'static [u8]
     ensures { result.now ≡ box_style }
 {
-    b"rect{stroke:#555555}\n\
+    b".box use,.owed use{fill:inherit;stroke:#555555}\n\
       .box text{fill:#000000}\n\
       .at{text-anchor:end;opacity:0.7}\n\
-      .refusal rect,.owed rect{fill:#ffffff}\n\
-      .owed rect{stroke:currentColor;stroke-dasharray:5 3}\n"
+      .refusal,.owed{fill:#ffffff}\n\
+      .owed use{stroke:currentColor;stroke-dasharray:5 3}\n"
 }
 
 /// How lines are drawn.
@@ -50,7 +50,7 @@ pub(crate) fn line_style() -> &'static [u8]
 pub(crate) fn chain_style() -> &'static [u8]
     ensures { result.now ≡ chain_style }
 {
-    b".chain:hover rect,.chain:hover polyline,.chain:hover use{stroke-width:3}\n\
+    b".chain:hover path,.chain:hover use{stroke-width:3}\n\
       svg:has(.chain:hover) .chain:not(:hover){opacity:0.3}\n"
 }
 
@@ -61,7 +61,7 @@ pub(crate) fn dark_style() -> &'static [u8]
 {
     b"@media (prefers-color-scheme:dark){\n\
       svg{background:#1c1c1c;color:#dddddd}\n\
-      .owed rect{fill:#1c1c1c}\n\
+      .owed{fill:#1c1c1c}\n\
       .link path{stroke:#ff7777}\n\
       #end path,.link text{fill:#ff7777}\n\
       .link text{stroke:#1c1c1c}\n\
@@ -81,13 +81,14 @@ pub(crate) fn tips() -> &'static [u8]
       \x20markerUnits=\"userSpaceOnUse\" orient=\"auto\"><path d=\"M0,0L8,4L0,8z\"/></marker>\n"
 }
 
-/// The crosses of what was lost or dropped.
+/// The crosses of what was lost or dropped, and the frame of a box.
 #[tactic(auto, unfolding(crate::specs::Captions::crosses))]
 pub(crate) fn crosses() -> &'static [u8]
     ensures { result.now ≡ crosses }
 {
     b"<path id=\"right\" d=\"M0,0h20m-5,-5l10,10m0,-10l-10,10\"/>\n\
       <path id=\"left\" d=\"M0,0h-20m-5,-5l10,10m0,-10l-10,10\"/>\n\
+      <rect id=\"box\" x=\"-8\" y=\"-15\" width=\"200\" height=\"62\"/>\n\
       </defs>\n"
 }
 

@@ -2,7 +2,7 @@
 ghost use Rattle.std.specs.Prelude.{◌≡◌, ◌<◌, ◌++◌, [], ◌∷◌, IfOk, IfSome, OnOk, codes, option_copied};
 ghost use Rattle.lynx_set.specs.Lookups.{program_name};
 ghost use Rattle.lynx_chart.specs.Places.{place_line, word_of};
-ghost use Rattle.lynx_chart.specs.Labels.{asked_text, chain_in, deed_text, entry_lines, entry_place, hop_text, kind_of, lines_of, program_text, results_line, results_text, stamp_text};
+ghost use Rattle.lynx_chart.specs.Labels.{asked_text, chain_in, deed_text, entry_lines, entry_place, hop_text, kind_of, lines_of, owes_text, program_text, results_line, results_text, results_told, stamp_text};
 
 use crate::places::{place_of, put_place_line, word_of};
 use lynx_entry::Entry;
@@ -119,26 +119,36 @@ fn put_results(alloc: Global, out: &mut Vec<u8>, values: &[u64]) -> Result<(), M
     Ok(())
 }
 
-/// Writes the line of the results, if a hop ran.
+/// Writes the line of these results, if there are any.
+fn put_results_told(alloc: Global, out: &mut Vec<u8>, values: &[u64]) -> Result<(), Memory>
+    ensures { OnOk result (out.new.items ≡ out.old.items ++ results_told values.now) }
+{
+    match values {
+        [] => Ok(()),
+        [_, ..] => put_results(alloc, out, values),
+    }
+}
+
+/// Writes the line of the results, if a hop ran and has any.
 fn put_results_line(alloc: Global, out: &mut Vec<u8>, entry: &Entry) -> Result<(), Memory>
     ensures { OnOk result (out.new.items ≡ out.old.items ++ results_line entry.now) }
 {
     match entry {
-        Entry::Begun(begun) => put_results(alloc, out, begun.results.as_slice()),
+        Entry::Begun(begun) => put_results_told(alloc, out, begun.results.as_slice()),
         Entry::Refused(_) => Ok(()),
-        Entry::Hop(ran) => put_results(alloc, out, ran.results.as_slice()),
+        Entry::Hop(ran) => put_results_told(alloc, out, ran.results.as_slice()),
     }
 }
 
-/// What stands in a box: in its corner, and a line each below one another, of which the last may
-/// have no bytes.
+/// What stands in a box: in its corner, and a line each below one another. The corner, and the last
+/// lines, may have no bytes.
 #[derive(Debug, Drop)]
 pub(crate) struct Label {
     pub corner: Vec<u8>,
     pub deed: Vec<u8>,
     pub program: Vec<u8>,
-    pub results: Vec<u8>,
     pub place: Vec<u8>,
+    pub results: Vec<u8>,
 }
 
 /// When the server did it.
@@ -189,6 +199,14 @@ fn place_text(alloc: Global, explained: &Explained, entry: &Entry) -> Result<Vec
     Ok(text)
 }
 
+/// That a hop of a chain is owed.
+pub(crate) fn owes_text(alloc: Global, chain: &ChainId, hop: u8) -> Result<Vec<u8>, Memory>
+    ensures { IfOk result (λ text. text.items ≡ owes_text chain.now hop) }
+{
+    let text = format!(in alloc; "{chain} owes hop {hop}")?;
+    Ok(text.into_bytes())
+}
+
 /// What stands in an entry's box.
 pub(crate) fn label_of(
     alloc: Global,
@@ -204,8 +222,8 @@ pub(crate) fn label_of(
         corner: stamp_text(alloc, entry)?,
         deed: deed_text(alloc, entry)?,
         program: program_text(alloc, set, entry)?,
-        results: results_line(alloc, entry)?,
         place: place_text(alloc, explained, entry)?,
+        results: results_line(alloc, entry)?,
     })
 }
 

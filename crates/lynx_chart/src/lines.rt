@@ -106,9 +106,9 @@ pub(crate) fn put_closes(out: &mut Vec<u8>) -> Result<(), Memory>
 fn put_arrow_start(out: &mut Vec<u8>, kind: &[u8]) -> Result<(), Memory>
     ensures { OnOk result (out.new.items ≡ out.old.items ++ arrow_start kind.now) }
 {
-    out.extend_from_slice(b"<polyline class=\"".as_slice())?;
+    out.extend_from_slice(b"<path class=\"".as_slice())?;
     out.extend_from_slice(kind)?;
-    out.extend_from_slice(b"\" points=\"".as_slice())?;
+    out.extend_from_slice(b"\" d=\"M".as_slice())?;
     Ok(())
 }
 
@@ -118,7 +118,7 @@ fn put_arrow_end(out: &mut Vec<u8>, told: &[u8]) -> Result<(), Memory>
 {
     out.extend_from_slice(b"\"><title>".as_slice())?;
     put_escaped(out, told)?;
-    out.extend_from_slice(b"</title></polyline>\n".as_slice())?;
+    out.extend_from_slice(b"</title></path>\n".as_slice())?;
     Ok(())
 }
 

@@ -2,12 +2,12 @@
 ghost use Rattle.std.specs.Prelude.{◌≡◌, ◌≤◌, ◌<◌, ◌+◌, ◌++◌, [], ◌∷◌, IfOk, OnOk, codes, drop, length, slice_get};
 ghost use Rattle.std.specs.Option.{option_and_then};
 ghost use Rattle.lynx_set.specs.Lookups.{program_name};
-ghost use Rattle.lynx_chart.specs.Labels.{hop_text, lines_of};
+ghost use Rattle.lynx_chart.specs.Labels.{lines_of, owes_text};
 ghost use Rattle.lynx_chart.specs.Messages.{hop_row, is_owed_at, is_run, owed_box, owed_row, ran_in, rows_with, run_at, sent_as, sent_by, sent_in, sent_to};
 ghost use Rattle.lynx_chart.specs.Shapes.{shape_text};
 
 use crate::boxes::put_box;
-use crate::labels::{Label, put_hop};
+use crate::labels::{Label, owes_text};
 use crate::listed::listed_at;
 use crate::rows::{as_row, row_behind, row_of, spot_at};
 use crate::spot::Spot;
@@ -203,19 +203,17 @@ pub(crate) fn rows_with(rows: u32, messages: &[Sent]) -> Result<u32, Memory>
 
 /// What stands in the box of a hop that is owed.
 fn owed_label(alloc: Global, set: &ChainSet, sent: &Sent) -> Result<Label, Memory>
-    ensures corner { IfOk result (λ label. label.corner.items ≡ codes "owed") }
+    ensures corner { IfOk result (λ label. label.corner.items ≡ []) }
     ensures lines { IfOk result (λ label. lines_of label
-        ≡ hop_text sent.now.chain sent.now.hop ∷ program_name set.now sent.now.program
+        ≡ owes_text sent.now.chain sent.now.hop ∷ program_name set.now sent.now.program
         ∷ [] ∷ [] ∷ []) }
 {
-    let mut deed = Vec::new(alloc);
-    put_hop(alloc, &mut deed, &sent.chain, sent.hop)?;
     Ok(Label {
-        corner: Vec::from_slice(alloc, b"owed".as_slice())?,
-        deed,
+        corner: Vec::new(alloc),
+        deed: owes_text(alloc, &sent.chain, sent.hop)?,
         program: Vec::from_slice(alloc, set.program_name(sent.program))?,
-        results: Vec::new(alloc),
         place: Vec::new(alloc),
+        results: Vec::new(alloc),
     })
 }
 

@@ -12,7 +12,7 @@ returns c =
     let start : List ℕ = box_start c.args.kind.now c.args.spot.now in
     let title : List ℕ = box_title label.corner.items (lines_of label) in
     let corner : List ℕ = box_corner label.corner.items in
-    let lines : List ℕ = box_lines 15 (lines_of label) in
+    let lines : List ℕ = box_lines 0 (lines_of label) in
     two_written out c.put_box_lines.new.out.items c.extend_from_slice.new.self.items (start ++ title ++ corner ++ lines) (codes "</g>\n")
     (four_written out c.put_box_start.new.out.items c.put_title.new.out.items c.put_corner.new.out.items c.put_box_lines.new.out.items start title corner lines
     c.in_ok-put_box_start.ensures c.in_ok-put_title.ensures

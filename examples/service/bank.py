@@ -14,6 +14,11 @@ TOP = os.path.dirname(os.path.dirname(HERE))
 sys.path.insert(0, os.path.join(TOP, "clients", "python"))
 import lynx  # noqa: E402
 
+LIBC = ctypes.CDLL(None)
+
+# What prctl calls the signal that a process gets when the thread that began it ends.
+PARENT_DEATH_SIGNAL = 1
+
 # Accounts below 1000 are at server 0, those below 2000 at server 1, the others at server 2.
 ACCOUNTS = {"ada": 0, "cyd": 1, "bob": 1000, "dan": 1001, "eve": 2000, "fay": 2001}
 
@@ -51,7 +56,7 @@ class Store:
             found.bind(("127.0.0.1", 0))
             port = found.getsockname()[1]
         self.process = subprocess.Popen([*self.words, str(port)], stdin=subprocess.DEVNULL, stdout=subprocess.PIPE, text=True,
-                                        start_new_session=True, preexec_fn=lambda: ctypes.CDLL(None).prctl(1, signal.SIGKILL))
+                                        start_new_session=True, preexec_fn=lambda: LIBC.prctl(PARENT_DEATH_SIGNAL, signal.SIGKILL))
         if not self.process.stdout.readline().startswith("listening "):
             sys.exit(self.process.wait())
         self.starts += 1

@@ -53,9 +53,10 @@ box_head set boxes edges leader programs =
     box_start ++ program_name set leader ++ label_start ++ box_label set boxes edges leader programs
     ++ codes "\";\n"
 
--- the programs of a box, each once
+-- the programs of a box, each once: none stands in the way, since programs of other origins meet
+-- none of them
 abbrev pub boxed_programs : Set → List ℕ → List ℕ
-boxed_programs set programs = flat_map (λ program. cluster_text set program false) programs
+boxed_programs set programs = flat_map (λ program. cluster_text set false program false) programs
 
 -- where the last hop of a program is drawn
 abbrev pub last_spot : Set → ℕ → Spot

@@ -26,6 +26,21 @@ unfoldable pub legend_text : List ℕ
 legend_text =
     codes "Solid arrows lead to the next hop. Dashed lines join hops that may conflict, in the tables named.\\lWhere two chains of one program may conflict, it is drawn again. Each server has its colour.\\l\";\n"
 
+-- what is said of one that offends where what stands in the way is drawn alone
+unfoldable pub late_text : List ℕ
+late_text =
+    codes "  label=\"offending: the programs with thick frames stand in the way, since those of other servers meet two hops of theirs.\\l"
+
+-- how a program is drawn that stands in the way
+unfoldable pub thick_frame : List ℕ
+thick_frame =
+    codes "    penwidth=3;\n"
+
+-- what is said of it below its name
+unfoldable pub late_label : List ℕ
+late_label =
+    codes "\\lmeets other servers by two hops\\l"
+
 -- how conflicts are drawn
 unfoldable pub conflict_style : List ℕ
 conflict_style =

@@ -6,7 +6,9 @@ pub mod Colours
 pub mod Nodes
 pub mod Clusters
 pub mod Boxes
+pub mod Late
 pub mod Programs
 pub mod Lines
 pub mod Picture
 pub mod Shown
+pub mod Parts

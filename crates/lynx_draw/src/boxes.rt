@@ -151,7 +151,7 @@ fn put_head(
     Ok(())
 }
 
-/// Writes the programs of a box, each once.
+/// Writes the programs of a box, each once: programs of one origin meet none of others.
 fn put_programs(
     alloc: Global,
     out: &mut Vec<u8>,
@@ -161,7 +161,7 @@ fn put_programs(
     ensures { OnOk result (out.new.items ≡ out.old.items ++ boxed_programs set.now programs.now) }
 {
     for program in programs {
-        put_cluster(alloc, out, set, *program, false)?;
+        put_cluster(alloc, out, set, false, *program, false)?;
     }
     Ok(())
 }

@@ -1,7 +1,7 @@
 //! The texts of a picture that are the same in each.
 
 ghost use Rattle.std.specs.Prelude.{◌≡◌};
-ghost use Rattle.lynx_draw.specs.Captions.{accepted_text, begin_words, box_start, conflict_style, excused_style, excused_text, head_text, label_start, legend_text, offending_text, pair_words, unseen_end, walk_style};
+ghost use Rattle.lynx_draw.specs.Captions.{accepted_text, begin_words, box_start, conflict_style, excused_style, excused_text, head_text, label_start, late_label, late_text, legend_text, offending_text, pair_words, thick_frame, unseen_end, walk_style};
 
 /// How all of it is drawn.
 #[tactic(auto, unfolding(crate::specs::Captions::head_text))]
@@ -41,6 +41,30 @@ pub(crate) fn legend_text() -> &'static [u8]
     ensures { result.now ≡ legend_text }
 {
     b"Solid arrows lead to the next hop. Dashed lines join hops that may conflict, in the tables named.\\lWhere two chains of one program may conflict, it is drawn again. Each server has its colour.\\l\";\n"
+}
+
+/// What is said of one that offends where what stands in the way is drawn alone.
+#[tactic(auto, unfolding(crate::specs::Captions::late_text))]
+pub(crate) fn late_text() -> &'static [u8]
+    ensures { result.now ≡ late_text }
+{
+    b"  label=\"offending: the programs with thick frames stand in the way, since those of other servers meet two hops of theirs.\\l"
+}
+
+/// How a program is drawn that stands in the way.
+#[tactic(auto, unfolding(crate::specs::Captions::thick_frame))]
+pub(crate) fn thick_frame() -> &'static [u8]
+    ensures { result.now ≡ thick_frame }
+{
+    b"    penwidth=3;\n"
+}
+
+/// What is said of it below its name.
+#[tactic(auto, unfolding(crate::specs::Captions::late_label))]
+pub(crate) fn late_label() -> &'static [u8]
+    ensures { result.now ≡ late_label }
+{
+    b"\\lmeets other servers by two hops\\l"
 }
 
 /// How conflicts are drawn.

@@ -3,8 +3,9 @@
 ghost use Rattle.std.specs.Prelude.{◌≡◌, ◌≤◌, ◌++◌, OnOk, length};
 ghost use Rattle.lynx_names.specs.declared.limits.TheConstants.{MAX_PARAMETERS};
 ghost use Rattle.lynx_set.specs.Lookups.{program_name, ranges_of};
-ghost use Rattle.lynx_draw.specs.Clusters.{cluster_label, cluster_name, cluster_text, first_label, parameters_of, parameters_text, range_text, second_label};
+ghost use Rattle.lynx_draw.specs.Clusters.{cluster_label, cluster_name, cluster_text, first_label, frame_text, label_text, late_words, parameters_of, parameters_text, range_text, second_label};
 
+use crate::captions::{late_label, thick_frame};
 use crate::nodes::put_hops;
 use lynx_graph::program_of;
 use lynx_lex::Name;
@@ -68,18 +69,40 @@ fn put_program_name(out: &mut Vec<u8>, set: &ChainSet, program: ProgramId) -> Re
     Ok(())
 }
 
+/// Writes a thick frame round a program that stands in the way.
+fn put_frame(out: &mut Vec<u8>, late: bool) -> Result<(), Memory>
+    ensures { OnOk result (out.new.items ≡ out.old.items ++ frame_text late) }
+{
+    if late {
+        out.extend_from_slice(thick_frame())?;
+    }
+    Ok(())
+}
+
+/// Writes below its name why it does.
+fn put_late_words(out: &mut Vec<u8>, late: bool) -> Result<(), Memory>
+    ensures { OnOk result (out.new.items ≡ out.old.items ++ late_words late) }
+{
+    if late {
+        out.extend_from_slice(late_label())?;
+    }
+    Ok(())
+}
+
 /// Writes what stands over a program: its name and its parameters.
 fn put_first_label(
     alloc: Global,
     out: &mut Vec<u8>,
     set: &ChainSet,
+    late: bool,
     program: ProgramId,
 ) -> Result<(), Memory>
-    ensures { OnOk result (out.new.items ≡ out.old.items ++ first_label set.now program) }
+    ensures { OnOk result (out.new.items ≡ out.old.items ++ first_label set.now late program) }
 {
     out.extend_from_slice(b"    label=\"".as_slice())?;
     put_program_name(out, set, program)?;
     put_parameters(alloc, out, set, program)?;
+    put_late_words(out, late)?;
     out.extend_from_slice(b"\";\n".as_slice())?;
     Ok(())
 }
@@ -94,20 +117,38 @@ fn put_second_label(out: &mut Vec<u8>, set: &ChainSet, program: ProgramId) -> Re
     Ok(())
 }
 
+/// Writes how a program stands out, and what stands over it.
 fn put_cluster_label(
     alloc: Global,
     out: &mut Vec<u8>,
     set: &ChainSet,
+    late: bool,
     program: ProgramId,
     again: bool,
 ) -> Result<(), Memory>
     ensures { OnOk result (out.new.items ≡ out.old.items
-        ++ cluster_label set.now program again) }
+        ++ cluster_label set.now late program again) }
+{
+    put_frame(out, late)?;
+    put_label(alloc, out, set, late, program, again)
+}
+
+/// Writes what stands over a program, or over the program drawn again.
+fn put_label(
+    alloc: Global,
+    out: &mut Vec<u8>,
+    set: &ChainSet,
+    late: bool,
+    program: ProgramId,
+    again: bool,
+) -> Result<(), Memory>
+    ensures { OnOk result (out.new.items ≡ out.old.items
+        ++ label_text set.now late program again) }
 {
     if again {
         put_second_label(out, set, program)
     } else {
-        put_first_label(alloc, out, set, program)
+        put_first_label(alloc, out, set, late, program)
     }
 }
 
@@ -130,19 +171,20 @@ fn put_cluster_name(
     Ok(())
 }
 
-/// Writes a program, or the program drawn again.
+/// Writes a program, or the program drawn again, where it stands in the way or doesn't.
 pub(crate) fn put_cluster(
     alloc: Global,
     out: &mut Vec<u8>,
     set: &ChainSet,
+    late: bool,
     program: ProgramId,
     again: bool,
 ) -> Result<(), Memory>
     ensures { OnOk result (out.new.items ≡ out.old.items
-        ++ cluster_text set.now program again) }
+        ++ cluster_text set.now late program again) }
 {
     put_cluster_name(out, set, program, again)?;
-    put_cluster_label(alloc, out, set, program, again)?;
+    put_cluster_label(alloc, out, set, late, program, again)?;
     put_hops(alloc, out, set, program, again)?;
     out.extend_from_slice(b"  }\n".as_slice())?;
     Ok(())

@@ -1,31 +1,28 @@
 //! The whole picture.
 
 ghost use Rattle.std.specs.Prelude.{◌≡◌, ◌++◌, IfOk, OnOk};
-ghost use Rattle.lynx_graph.specs.Edges.{edges_of};
-ghost use Rattle.lynx_graph.specs.Together.{AreLed};
-ghost use Rattle.lynx_draw.specs.Boxes.{boxes_of};
 ghost use Rattle.lynx_draw.specs.Lines.{conflict_lines};
-ghost use Rattle.lynx_draw.specs.Picture.{IsPicture, caption, picture_with, steps_in, style_of};
+ghost use Rattle.lynx_draw.specs.Picture.{IsPicture, caption, picture_with, style_of, verdict_text};
 ghost use Rattle.lynx_draw.specs.Programs.{programs_text};
-ghost use Rattle.lynx_draw.specs.Shown.{shown_edges, shown_programs};
+ghost use Rattle.lynx_draw.specs.Shown.{shown_edges};
 
-use crate::boxes::{Boxes, boxes_of};
 use crate::captions::{
-    accepted_text, conflict_style, excused_style, excused_text, head_text, legend_text,
+    accepted_text, conflict_style, excused_style, excused_text, head_text, late_text, legend_text,
     offending_text, walk_style,
 };
 use crate::lines::{put_conflicts, put_steps};
+use crate::parts::{Parts, parts_of};
 use crate::programs::put_programs;
-use crate::shown::{Extent, shown_edges, shown_programs, walk_in};
-use crate::steps::{Step, steps_of};
+use crate::shown::{Extent, shown_edges};
 use lynx_check::Verdict;
-use lynx_graph::{Edge, conflict_edges, members_of};
-use lynx_names::{Items, Memory};
+use lynx_graph::{Edge, conflict_edges};
+use lynx_names::Memory;
 use lynx_set::ChainSet;
 use std::alloc::Global;
 
-fn caption(verdict: &Verdict) -> &'static [u8]
-    ensures { result.now ≡ caption verdict.now }
+/// What is said where the walk is drawn.
+fn verdict_text(verdict: &Verdict) -> &'static [u8]
+    ensures { result.now ≡ verdict_text verdict.now }
 {
     match verdict {
         Verdict::Accepted(accepted) => match accepted.excused() {
@@ -33,6 +30,16 @@ fn caption(verdict: &Verdict) -> &'static [u8]
             None => accepted_text(),
         },
         Verdict::Offending(_, _) => offending_text(),
+    }
+}
+
+fn caption(shown: Extent, verdict: &Verdict) -> &'static [u8]
+    ensures { result.now ≡ caption shown verdict.now }
+{
+    match (shown, verdict) {
+        (Extent::Late, Verdict::Accepted(_)) => accepted_text(),
+        (Extent::Late, Verdict::Offending(_, _)) => late_text(),
+        (Extent::All | Extent::Walk, _) => verdict_text(verdict),
     }
 }
 
@@ -48,29 +55,19 @@ fn style_of(verdict: &Verdict) -> &'static [u8]
     }
 }
 
-/// The steps of the closed walk that offends, excused or not; none where no walk does.
-fn steps_in(alloc: Global, edges: &[Edge], verdict: &Verdict) -> Result<Items<Step>, Memory>
-    ensures { IfOk result (λ steps. steps ≡ steps_in edges.now verdict.now) }
-{
-    steps_of(alloc, edges, walk_in(verdict))
-}
-
 /// Writes the programs that are drawn.
 fn put_shown_programs(
     alloc: Global,
     out: &mut Vec<u8>,
     set: &ChainSet,
-    verdict: &Verdict,
-    boxes: &Boxes,
-    shown: Extent,
     edges: &[Edge],
+    parts: &Parts,
 ) -> Result<(), Memory>
-    ensures { OnOk result
-        (out.new.items ≡ out.old.items ++ programs_text set.now boxes.now edges.now
-        (shown_programs shown set.now verdict.now)) }
+    ensures { OnOk result (out.new.items ≡ out.old.items
+        ++ programs_text set.now parts.now.boxes parts.now.late edges.now parts.now.programs) }
 {
-    let programs = shown_programs(alloc, set, verdict, shown)?;
-    put_programs(alloc, out, set, boxes, edges, programs.as_slice())
+    let programs = parts.programs.as_slice();
+    put_programs(alloc, out, set, &parts.boxes, &parts.late, edges, programs)
 }
 
 /// Writes the conflicts that are drawn.
@@ -78,27 +75,15 @@ fn put_shown_conflicts(
     alloc: Global,
     out: &mut Vec<u8>,
     set: &ChainSet,
-    verdict: &Verdict,
-    boxes: &Boxes,
-    shown: Extent,
     edges: &[Edge],
-    steps: &[Step],
+    parts: &Parts,
 ) -> Result<(), Memory>
-    ensures { OnOk result (out.new.items ≡ out.old.items ++ conflict_lines set.now steps.now
-        (shown_edges shown verdict.now boxes.now edges.now)) }
+    ensures { OnOk result (out.new.items ≡ out.old.items
+        ++ conflict_lines set.now parts.now.steps
+        (shown_edges parts.now.programs parts.now.boxes edges.now)) }
 {
-    let drawn = shown_edges(alloc, edges, verdict, boxes, shown)?;
-    put_conflicts(alloc, out, set, drawn.as_slice(), steps)
-}
-
-/// The boxes of a set of which these hops may conflict.
-fn boxes_in(alloc: Global, set: &ChainSet, edges: &[Edge]) -> Result<Boxes, Memory>
-    requires { edges.now ≡ edges_of set.now }
-    ensures { IfOk result (λ boxes. (boxes ≡ boxes_of set.now boxes.members)
-        × AreLed set.now boxes.members) }
-{
-    let members = members_of(alloc, set, edges)?;
-    boxes_of(alloc, set, Items::from_vec(members))
+    let drawn = shown_edges(alloc, edges, &parts.boxes, parts.programs.as_slice())?;
+    put_conflicts(alloc, out, set, drawn.as_slice(), parts.steps.as_slice())
 }
 
 /// The picture of a set and of the verdict on it, as a text that Graphviz's `dot` reads, with the
@@ -114,34 +99,32 @@ pub fn draw(
 {
     let all_edges = conflict_edges(alloc, set)?;
     let edges = all_edges.as_slice();
-    let boxes = boxes_in(alloc, set, edges)?;
-    let steps = steps_in(alloc, edges, verdict)?;
-    let text = draw_with(alloc, set, verdict, shown, edges, &boxes, steps.as_slice())?;
+    let parts = parts_of(alloc, set, edges, verdict, shown)?;
+    let text = draw_with(alloc, set, verdict, shown, edges, &parts)?;
     Ok(text)
 }
 
-/// The picture with these boxes and steps.
+/// The picture by these parts.
 fn draw_with(
     alloc: Global,
     set: &ChainSet,
     verdict: &Verdict,
     shown: Extent,
     edges: &[Edge],
-    boxes: &Boxes,
-    steps: &[Step],
+    parts: &Parts,
 ) -> Result<Vec<u8>, Memory>
     ensures { IfOk result (λ text. text.items
-        ≡ picture_with shown set.now verdict.now boxes.now edges.now steps.now) }
+        ≡ picture_with shown set.now verdict.now edges.now parts.now) }
 {
     let mut out = Vec::new(alloc);
     out.extend_from_slice(head_text())?;
-    out.extend_from_slice(caption(verdict))?;
+    out.extend_from_slice(caption(shown, verdict))?;
     out.extend_from_slice(legend_text())?;
-    put_shown_programs(alloc, &mut out, set, verdict, boxes, shown, edges)?;
+    put_shown_programs(alloc, &mut out, set, edges, parts)?;
     out.extend_from_slice(conflict_style())?;
-    put_shown_conflicts(alloc, &mut out, set, verdict, boxes, shown, edges, steps)?;
+    put_shown_conflicts(alloc, &mut out, set, edges, parts)?;
     out.extend_from_slice(style_of(verdict))?;
-    put_steps(alloc, &mut out, set, steps)?;
+    put_steps(alloc, &mut out, set, parts.steps.as_slice())?;
     out.extend_from_slice(b"}\n".as_slice())?;
     Ok(out)
 }

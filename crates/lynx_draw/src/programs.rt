@@ -6,6 +6,7 @@ ghost use Rattle.lynx_draw.specs.Programs.{drawn_text, program_text, programs_te
 
 use crate::boxes::{Boxes, is_boxed, put_box};
 use crate::clusters::put_cluster;
+use crate::late::{LateBlocks, is_late};
 use crate::spot::is_drawn_twice;
 use lynx_graph::{Edge, leader_of};
 use lynx_names::{Memory, ProgramId};
@@ -17,15 +18,17 @@ fn put_program(
     alloc: Global,
     out: &mut Vec<u8>,
     set: &ChainSet,
+    late: &LateBlocks,
     edges: &[Edge],
     program: ProgramId,
 ) -> Result<(), Memory>
     ensures { OnOk result (out.new.items ≡ out.old.items
-        ++ program_text set.now edges.now program) }
+        ++ program_text set.now late.now edges.now program) }
 {
-    put_cluster(alloc, out, set, program, false)?;
+    let own = is_late(late, program);
+    put_cluster(alloc, out, set, own, program, false)?;
     if is_drawn_twice(edges, program) {
-        put_cluster(alloc, out, set, program, true)?;
+        put_cluster(alloc, out, set, own, program, true)?;
     }
     Ok(())
 }
@@ -37,14 +40,15 @@ fn put_drawn(
     out: &mut Vec<u8>,
     set: &ChainSet,
     boxes: &Boxes,
+    late: &LateBlocks,
     edges: &[Edge],
     program: ProgramId,
 ) -> Result<(), Memory>
     ensures { OnOk result (out.new.items ≡ out.old.items
-        ++ drawn_text set.now boxes.now edges.now program) }
+        ++ drawn_text set.now boxes.now late.now edges.now program) }
 {
     if !is_boxed(boxes, program) {
-        put_program(alloc, out, set, edges, program)
+        put_program(alloc, out, set, late, edges, program)
     } else if leader_of(boxes.members.as_slice(), program) == program {
         put_box(alloc, out, set, boxes, edges, program)
     } else {
@@ -58,14 +62,15 @@ pub(crate) fn put_programs(
     out: &mut Vec<u8>,
     set: &ChainSet,
     boxes: &Boxes,
+    late: &LateBlocks,
     edges: &[Edge],
     programs: &[ProgramId],
 ) -> Result<(), Memory>
     ensures { OnOk result (out.new.items ≡ out.old.items
-        ++ programs_text set.now boxes.now edges.now programs.now) }
+        ++ programs_text set.now boxes.now late.now edges.now programs.now) }
 {
     for program in programs {
-        put_drawn(alloc, out, set, boxes, edges, *program)?;
+        put_drawn(alloc, out, set, boxes, late, edges, *program)?;
     }
     Ok(())
 }

@@ -96,9 +96,9 @@ fn the_largest_set_is_drawn_in_a_box(rt: HostRuntime) {
 }
 
 /// 511 hops at server 0 make 511 * 512 / 2 pairs, and the one at server 1 conflicts with itself; of
-/// the picture's lines 8 are no edges, and each of the 64 programs, drawn twice, has 3 lines, 8
-/// nodes and 7 arrows.
+/// the picture's lines 8 are no edges, and each of the 64 programs, all of which stand in the way
+/// and are drawn twice, has 4 lines, 8 nodes and 7 arrows.
 #[test]
 fn a_set_of_two_origins_is_drawn_whole(rt: HostRuntime) {
-    assert!(rt; counts_of_two_origins(rt.alloc()) == Ok((130_817, 130_817 + 8 + 64 * 2 * 18)));
+    assert!(rt; counts_of_two_origins(rt.alloc()) == Ok((130_817, 130_817 + 8 + 64 * 2 * 19)));
 }

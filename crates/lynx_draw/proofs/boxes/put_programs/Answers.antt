@@ -6,7 +6,7 @@ use Rattle.lynx_draw.proofs.boxes.put_programs.Goals as goal
 
 pub loop-program-preserved : goal.loop-program-preserved
 loop-program-preserved c =
-    let text = λ (program : ℕ). cluster_text c.args.set.now program false in
+    let text = λ (program : ℕ). cluster_text c.args.set.now false program false in
     let programs = c.args.programs.now in
     let place = c.loop-program.program-index in
     let program = c.program-item.result in

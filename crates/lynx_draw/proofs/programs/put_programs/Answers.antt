@@ -6,7 +6,7 @@ use Rattle.lynx_draw.proofs.programs.put_programs.Goals as goal
 
 pub loop-program-preserved : goal.loop-program-preserved
 loop-program-preserved c =
-    let text = drawn_text c.args.set.now c.args.boxes.now c.args.edges.now in
+    let text = drawn_text c.args.set.now c.args.boxes.now c.args.late.now c.args.edges.now in
     let programs = c.args.programs.now in
     let place = c.loop-program.program-index in
     let program = c.program-item.result in

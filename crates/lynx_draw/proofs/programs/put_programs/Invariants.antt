@@ -5,4 +5,4 @@ use Rattle.lynx_draw.proofs.programs.put_programs.Given as goal
 -- what is written and what is left are the whole
 abbrev pub invariant-loop-program : goal.invariant-loop-program
 invariant-loop-program l =
-    l.out.items ++ programs_text l.set l.boxes l.edges (drop l.program-index l.programs) ≡ l.fn.out.items ++ programs_text l.set l.boxes l.edges l.programs
+    l.out.items ++ programs_text l.set l.boxes l.late l.edges (drop l.program-index l.programs) ≡ l.fn.out.items ++ programs_text l.set l.boxes l.late l.edges l.programs

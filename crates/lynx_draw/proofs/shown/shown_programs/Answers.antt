@@ -6,7 +6,7 @@ use Rattle.lynx_draw.proofs.shown.shown_programs.Goals.{then-shows+in_ok-push, e
 
 pub loop-number-preserved : goal.loop-number-preserved
 loop-number-preserved c =
-    let p = shows c.args.shown c.args.verdict.now in
+    let p = shows c.args.shown c.args.verdict.now c.args.late.now in
     let so_far = c.loop-number.invariant in
     let at = c.program_of-program.ensures in
     elim c.if-shows.branch [

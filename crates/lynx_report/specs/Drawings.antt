@@ -1,5 +1,5 @@
 -- What the picture of a set is, as it is written.
-use Rattle.std.specs.Prelude.{◌≡◌, ◌≢◌, ◌⊎◌, ℕ, Bool, Option, List, if◌then◌else◌}
+use Rattle.std.specs.Prelude.{◌≡◌, ◌≢◌, ◌⊎◌, ℕ, Option, List}
 use Rattle.lynx_check.specs.declared.verdict.Verdict.{Verdict}
 use Rattle.lynx_check.specs.declared.verdict.Verdict.TheVariants.{Accepted as AcceptedVerdict, Offending as OffendingVerdict}
 use Rattle.lynx_check.specs.Reasons.{reason_of}
@@ -9,7 +9,6 @@ use Rattle.lynx_set.specs.Set.{Set}
 use Rattle.lynx_set.specs.Text.{text_of}
 use Rattle.lynx_draw.specs.Picture.{IsPicture}
 use Rattle.lynx_draw.specs.declared.shown.Extent.{Extent}
-use Rattle.lynx_draw.specs.declared.shown.Extent.TheVariants.{All, Walk}
 use Rattle.lynx_report.specs.declared.run.RunFault.{RunFault}
 use Rattle.lynx_report.specs.declared.run.RunFault.TheVariants.{Set as SetFault, Script as ScriptFault, Write, Memory}
 use Rattle.lynx_report.specs.declared.verdict.Finding.{Finding}
@@ -24,22 +23,20 @@ abbrev pub finding_of : Verdict → Finding
 finding_of (AcceptedVerdict own) = Accepted (reason_of own.excused)
 finding_of (OffendingVerdict walk blocks) = Offending
 
--- the programs of the walk alone are shown, or all
-abbrev pub shown_by : Bool → Extent
-shown_by walk = if walk then Walk else All
-
--- the picture shows the set and a verdict on it, and the finding is the verdict's
-abbrev pub IsDrawing : Bool → Set → Finding → List ℕ → Type 0
-IsDrawing walk chains finding picture =
+-- the picture shows the set and a verdict on it, with the programs that are asked for (all, those
+-- of the walk, or those in the way and what they meet), and the finding is the verdict's
+abbrev pub IsDrawing : Extent → Set → Finding → List ℕ → Type 0
+IsDrawing shown chains finding picture =
     (verdict : Verdict) × Judges chains verdict × (finding ≡ finding_of verdict)
-    × IsPicture (shown_by walk) chains verdict picture
+    × IsPicture shown chains verdict picture
 
 -- what is found of a set text, and its picture
-pub record Draws (walk : Bool) (text : List ℕ) (finding : Finding) (picture : List ℕ) : Type 0 where
+pub record Draws (shown : Extent) (text : List ℕ) (finding : Finding) (picture : List ℕ) : Type
+    0 where
   pub chains : Set
   pub is_set : IsSet chains
   pub spelled : text ≡ text_of chains
-  pub drawing : IsDrawing walk chains finding picture
+  pub drawing : IsDrawing shown chains finding picture
 
 -- why no picture comes: a faulty text, and want of memory, are told before anything is written, and
 -- a text's fault is never want of memory
@@ -50,8 +47,8 @@ NoPictureFor set unwritten Write = Unit {0}
 NoPictureFor set unwritten Memory = unwritten
 
 -- Where a fault stops a drawing, nothing is written, or a beginning of the picture.
-abbrev pub BeginsPicture : Bool → List ℕ → Option (List ℕ) → Option (List ℕ) → Type 0
-BeginsPicture walk set old new =
+abbrev pub BeginsPicture : Extent → List ℕ → Option (List ℕ) → Option (List ℕ) → Type 0
+BeginsPicture shown set old new =
     Keeps old new
-    ⊎ ((finding : Finding) × (picture : List ℕ) × Draws walk set finding picture
+    ⊎ ((finding : Finding) × (picture : List ℕ) × Draws shown set finding picture
     × AppendsPart old new picture)

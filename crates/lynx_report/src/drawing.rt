@@ -24,9 +24,9 @@ pub fn draw_text<W: Write>(
     writer: &mut W,
 ) -> Result<Finding, RunFault>
     ensures ok { IfOk result (λ finding. (picture : List ℕ)
-        × Draws options.walk set.now finding picture
+        × Draws options.shown set.now finding picture
         × Appends (W.contents writer.old) (W.contents writer.new) picture) }
-    ensures part { OnErr result (BeginsPicture options.walk set.now (W.contents writer.old)
+    ensures part { OnErr result (BeginsPicture options.shown set.now (W.contents writer.old)
         (W.contents writer.new)) }
     ensures err { IfErr result (λ fault. NoPictureFor set.now (Keeps (W.contents writer.old)
         (W.contents writer.new)) fault) }
@@ -43,10 +43,10 @@ fn drawing_of(
     set: &ChainSet,
     options: DrawOptions,
 ) -> Result<(Finding, Vec<u8>), Memory>
-    ensures { IfOk result (λ drawn. IsDrawing options.walk set.now drawn.0 drawn.1.items) }
+    ensures { IfOk result (λ drawn. IsDrawing options.shown set.now drawn.0 drawn.1.items) }
 {
     let verdict = check(alloc, set)?;
-    let picture = draw(alloc, set, &verdict, options.shown())?;
+    let picture = draw(alloc, set, &verdict, options.shown)?;
     Ok((finding_of(&verdict), picture))
 }
 

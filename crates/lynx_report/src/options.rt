@@ -1,7 +1,6 @@
 //! What is written behind the last line of a run, and behind a verdict.
 ghost use Rattle.std.specs.Prelude.{◌≡◌, ℕ, List, IfErr, OnErr, OnOk};
 ghost use Rattle.std.specs.Io.KnownBytes.{Appends};
-ghost use Rattle.lynx_report.specs.Drawings.{shown_by};
 ghost use Rattle.lynx_report.specs.Options.{RestPrints, WritesRest};
 ghost use Rattle.lynx_report.specs.Runs.{IsLate};
 
@@ -31,17 +30,7 @@ pub struct CheckOptions {
 /// Which programs of a set are drawn, all of them by default.
 #[derive(Clone, Copy, Debug, Default, PartialEq, Eq)]
 pub struct DrawOptions {
-    /// The programs of the closed walk alone that offends, excused or not.
-    pub walk: bool,
-}
-
-impl DrawOptions {
-    /// Which programs are drawn.
-    pub(crate) fn shown(self) -> Extent
-        ensures { result ≡ shown_by self.walk }
-    {
-        if self.walk { Extent::Walk } else { Extent::All }
-    }
+    pub shown: Extent,
 }
 
 /// Writes what is asked for behind the last line of a run.

@@ -1,0 +1,26 @@
+//! Steps that are left.
+
+/// How many steps may still be taken.
+#[derive(Clone, Copy, Debug)]
+pub(crate) struct Budget {
+    left: u64,
+}
+
+impl Budget {
+    pub(crate) fn new(steps: u64) -> Budget {
+        Budget { left: steps }
+    }
+
+    /// Takes so many steps, or all that are left.
+    pub(crate) fn take(&mut self, steps: u64) {
+        self.left = self.left.saturating_sub(steps);
+    }
+
+    pub(crate) fn left(&self) -> u64 {
+        self.left
+    }
+
+    pub(crate) fn is_spent(&self) -> bool {
+        self.left == 0
+    }
+}

@@ -11,7 +11,7 @@ pub enum SampleFault {
     #[error("{0}")]
     Run(RunFault),
     /// A cycle was asked for, and no run that was tried ended with one.
-    #[error("no run of 1000 ended with a cycle")]
+    #[error("no run was found that ends with a cycle")]
     NoCycle,
     /// A script has at most 65,536 bytes.
     #[error("the script would be over 65536 bytes")]

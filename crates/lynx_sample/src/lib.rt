@@ -1,5 +1,5 @@
-//! Random scripts: events over a set, drawn by a seed, in a text that is judged before it is
-//! written.
+//! Random scripts: events over a set, drawn by a seed or made by a search for a cycle, in a text
+//! that is judged before it is written.
 #![tactic(auto)]
 
 pub use fault::SampleFault;

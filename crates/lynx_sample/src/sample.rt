@@ -1,7 +1,9 @@
 //! A random script for a set text.
-ghost use Rattle.std.specs.Prelude.{ℕ, List, OnOk, OnErr, IfOk, IfErr};
+ghost use Rattle.std.specs.Prelude.{ℕ, List, true, IsTrue, OnOk, OnErr, IfOk, IfErr, IfSome};
 ghost use Rattle.std.specs.Io.KnownBytes.{Appends, Keeps};
 ghost use Rattle.std.specs.String.{string_bytes};
+ghost use Rattle.lynx_check.specs.Verdicts.{Judges};
+ghost use Rattle.lynx_graph.specs.Acceptance.{IsAccepted};
 ghost use Rattle.lynx_sample.specs.Samples.{BeginsSample, IsSample, IsSampleOver, NoSampleFor};
 ghost use Rattle.lynx_sample.specs.inner.Found.{NotFoundFor};
 
@@ -9,6 +11,9 @@ use crate::choices::Choices;
 use crate::drawn::drawn_script;
 use crate::fault::SampleFault;
 use crate::judged::is_sample;
+use crate::script::script_text;
+use lynx_check::{Verdict, check};
+use lynx_cycles::made_events;
 use lynx_report::{read_set, write_bytes};
 use lynx_set::ChainSet;
 use std::alloc::Global;
@@ -26,6 +31,9 @@ pub struct SampleOptions {
     pub begins: u8,
     /// Whether the run is to end with a cycle.
     pub cycle: bool,
+    /// How many steps a cycle is searched by before random runs are tried: 200,000 take a second at
+    /// most. Of use with `cycle` alone.
+    pub effort: u64,
 }
 
 /// Writes a random script over the set that a text spells: begins that pass their checks, and among
@@ -33,6 +41,10 @@ pub struct SampleOptions {
 /// Where of [`TRIES`] runs none comes to its end, and no cycle is asked for, it is the script
 /// without events. All of the text is made and judged before any of it is written. A try takes
 /// about the time of two runs of its script.
+///
+/// Where a cycle is asked for, the set is judged first: of an accepted one no script is sought.
+/// Else such a script is made, by a search for a circle of chains, with so many begins as it takes;
+/// and where that finds none, random ones are tried.
 pub fn sample_text<W: Write>(
     alloc: Global,
     set: &[u8],
@@ -52,8 +64,57 @@ pub fn sample_text<W: Write>(
     Ok(())
 }
 
-/// The first script of those that are drawn whose run ends as it is asked for.
+/// A script whose run ends as it is asked for: where a cycle is, that which is made.
 fn sample_over(alloc: Global, set: &ChainSet, options: SampleOptions) -> Result<String, SampleFault>
+    ensures ok { IfOk result (λ script. IsSampleOver options.cycle set.now (string_bytes script)) }
+    ensures err { IfErr result (NotFoundFor options.cycle) }
+{
+    if !options.cycle {
+        return random_sample(alloc, set, options);
+    }
+    if is_accepted(set, &check(alloc, set)?) {
+        return Err(SampleFault::NoCycle);
+    }
+    match made_sample(alloc, set, options.effort)? {
+        Some(script) => Ok(script),
+        None => random_sample(alloc, set, options),
+    }
+}
+
+/// Whether the verdict on this very set is that it is accepted: then no run ends with a cycle.
+fn is_accepted(set: &ChainSet, verdict: &Verdict) -> bool
+    requires { Judges set.now verdict.now }
+    ensures { IsTrue result → IsAccepted set.now }
+{
+    match verdict {
+        Verdict::Accepted(_) => true,
+        Verdict::Offending(_, _) => false,
+    }
+}
+
+/// The script that the search makes, where its run ends with a cycle. None where it makes none.
+fn made_sample(alloc: Global, set: &ChainSet, effort: u64) -> Result<Option<String>, SampleFault>
+    ensures ok { IfOk result (λ found. IfSome found (λ script.
+        IsSampleOver true set.now (string_bytes script))) }
+    ensures err { IfErr result (NotFoundFor true) }
+{
+    let Some(events) = made_events(alloc, set, effort)? else {
+        return Ok(None);
+    };
+    let script = script_text(alloc, set, events.as_slice())?;
+    if is_sample(alloc, set, script.as_bytes(), true)? {
+        Ok(Some(script))
+    } else {
+        Ok(None)
+    }
+}
+
+/// The first script of those that are drawn whose run ends as it is asked for.
+fn random_sample(
+    alloc: Global,
+    set: &ChainSet,
+    options: SampleOptions,
+) -> Result<String, SampleFault>
     ensures ok { IfOk result (λ script. IsSampleOver options.cycle set.now (string_bytes script)) }
     ensures err { IfErr result (NotFoundFor options.cycle) }
 {

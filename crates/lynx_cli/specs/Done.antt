@@ -33,13 +33,13 @@ pub record HasChecked (options : CheckOptions) (text : List ℕ) (old new : Opti
   pub written : Appends old new printed
   pub status_is : status ≡ status_of_finding finding
 
--- the picture of the text's set is written, of all its programs or of those of the walk alone, and
--- the status is that of the verdict drawn in it
+-- the picture of the text's set is written, of the programs that are asked for, and the status is
+-- that of the verdict drawn in it
 pub record HasDrawn (options : DrawOptions) (text : List ℕ) (old new : Option (List ℕ))
     (status : ℕ) : Type 0 where
   pub finding : Finding
   pub picture : List ℕ
-  pub draws : Draws options.walk text finding picture
+  pub draws : Draws options.shown text finding picture
   pub written : Appends old new picture
   pub status_is : status ≡ status_of_finding finding
 

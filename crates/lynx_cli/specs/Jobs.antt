@@ -6,7 +6,9 @@ use Rattle.lynx_cli.specs.declared.job.Job.TheVariants.{Ask, AskFolder, Audit, C
 use Rattle.lynx_cli.specs.declared.job.RunFlags.{RunFlags}
 use Rattle.lynx_cli.specs.declared.job.SampleFlags.{SampleFlags}
 use Rattle.lynx_cli.specs.declared.job.CommandFault.{CommandFault}
-use Rattle.lynx_cli.specs.declared.job.CommandFault.TheVariants.{NoScript, ScriptTooMany, StoresOfInput, WalkOfRun, NoCommand, NotUtf8}
+use Rattle.lynx_cli.specs.declared.job.CommandFault.TheVariants.{NoScript, ScriptTooMany, StoresOfInput, WalkOfRun, LateOfRun, WalkAndLate, NoCommand, NotUtf8}
+use Rattle.lynx_draw.specs.declared.shown.Extent.{Extent}
+use Rattle.lynx_draw.specs.declared.shown.Extent.TheVariants.{All, Walk, Late}
 
 -- a run without flags
 abbrev pub no_flags : RunFlags
@@ -30,18 +32,29 @@ RunsAs set script folder flags (Err StoresOfInput) =
     (set ≡ codes "-") × (script ≡ None) × IsSome folder
 RunsAs set script folder flags other = ⊥
 
--- a set alone is drawn, and with a script a run, which has no walk
-abbrev pub DrawsAs : List ℕ → Option (List ℕ) → Bool → Result Job CommandFault → Type 0
-DrawsAs set script walk (Ok (Draw own asked)) = (own.now ≡ set) × (script ≡ None) × (asked ≡ walk)
-DrawsAs set script walk (Ok (Chart own other)) =
-    (own.now ≡ set) × (script ≡ Some other.now) × (walk ≡ false)
-DrawsAs set script walk (Err WalkOfRun) = IsSome script × (walk ≡ true)
-DrawsAs set script walk other = ⊥
+-- the programs of the walk are drawn, or those that stand in the way and what they meet, or all
+abbrev pub ShowsAs : Bool → Bool → Result Extent CommandFault → Type 0
+ShowsAs walk late (Ok All) = (walk ≡ false) × (late ≡ false)
+ShowsAs walk late (Ok Walk) = (walk ≡ true) × (late ≡ false)
+ShowsAs walk late (Ok Late) = (walk ≡ false) × (late ≡ true)
+ShowsAs walk late (Err WalkAndLate) = (walk ≡ true) × (late ≡ true)
+ShowsAs walk late (Err other) = ⊥
+
+-- a set alone is drawn, and with a script a run, which has no walk and no blocks in its way
+abbrev pub DrawsAs : List ℕ → Option (List ℕ) → Bool → Bool → Result Job CommandFault → Type 0
+DrawsAs set script walk late (Ok (Draw own shown)) =
+    (own.now ≡ set) × (script ≡ None) × ShowsAs walk late (Ok shown)
+DrawsAs set script walk late (Ok (Chart own other)) =
+    (own.now ≡ set) × (script ≡ Some other.now) × (walk ≡ false) × (late ≡ false)
+DrawsAs set script walk late (Err WalkOfRun) = IsSome script × (walk ≡ true)
+DrawsAs set script walk late (Err LateOfRun) = IsSome script × (late ≡ true)
+DrawsAs set script walk late (Err WalkAndLate) = (script ≡ None) × (walk ≡ true) × (late ≡ true)
+DrawsAs set script walk late other = ⊥
 
 -- the command that asks for a job; standard input is asked for by no command at all, or by `run`
 abbrev pub AskedBy : Option (List ℕ) → Result Job CommandFault → Type 0
 AskedBy command (Ok (Check set why)) = command ≡ Some (codes "check")
-AskedBy command (Ok (Draw set walk)) = command ≡ Some (codes "draw")
+AskedBy command (Ok (Draw set shown)) = command ≡ Some (codes "draw")
 AskedBy command (Ok (Chart set script)) = command ≡ Some (codes "draw")
 AskedBy command (Ok (Sample set flags)) = command ≡ Some (codes "sample")
 AskedBy command (Ok (Show store)) = command ≡ Some (codes "show")
@@ -59,6 +72,8 @@ AskedBy command (Err NoScript) = command ≡ Some (codes "run")
 AskedBy command (Err ScriptTooMany) = command ≡ Some (codes "run")
 AskedBy command (Err StoresOfInput) = command ≡ Some (codes "run")
 AskedBy command (Err WalkOfRun) = command ≡ Some (codes "draw")
+AskedBy command (Err LateOfRun) = command ≡ Some (codes "draw")
+AskedBy command (Err WalkAndLate) = command ≡ Some (codes "draw")
 AskedBy command (Err NoCommand) =
     (command ≢ None) × (command ≢ Some (codes "check")) × (command ≢ Some (codes "draw"))
     × (command ≢ Some (codes "run")) × (command ≢ Some (codes "show"))
@@ -83,11 +98,13 @@ pub record AreFlags (rows : List Row) (flags : RunFlags) : Type 0 where
   pub checked : IsFlag (codes "checked") rows flags.checked
   pub owed : IsFlag (codes "owed") rows flags.owed
 
--- what a random script is to be was found so: seed 0 and 8 begins where the words don't say
+-- what a random script is to be was found so: seed 0, 8 begins and 200,000 steps of effort where
+-- the words don't say
 pub record AreSampleFlags (rows : List Row) (flags : SampleFlags) : Type 0 where
   pub cycle : IsFlag (codes "cycle") rows flags.cycle
   pub seed : one_of (codes "seed") rows ≡ None → flags.seed ≡ 0
   pub begins : one_of (codes "begins") rows ≡ None → flags.begins ≡ 8
+  pub effort : one_of (codes "effort") rows ≡ None → flags.effort ≡ 200000
 
 -- a run of the files and the folder that were found, with the flags that were
 pub record RunsFound (rows : List Row) (job : Result Job CommandFault) : Type 0 where
@@ -99,15 +116,17 @@ pub record RunsFound (rows : List Row) (job : Result Job CommandFault) : Type 0 
 -- a picture of the files that were found
 pub record DrawsFound (rows : List Row) (job : Result Job CommandFault) : Type 0 where
   pub walk : Bool
-  pub is_flag : IsFlag (codes "walk") rows walk
-  pub draws : DrawsAs (text_at (codes "SET") rows) (first_of (codes "SCRIPT") rows) walk job
+  pub is_walk : IsFlag (codes "walk") rows walk
+  pub late : Bool
+  pub is_late : IsFlag (codes "late") rows late
+  pub draws : DrawsAs (text_at (codes "SET") rows) (first_of (codes "SCRIPT") rows) walk late job
 
 -- What was found behind a command is what the job is done with. Of the numbers of ports, seeds and
 -- begins it is told only what they are where none was found.
 abbrev pub TakesFound : List Row → Result Job CommandFault → Type 0
 TakesFound rows (Ok (Check set why)) =
     (set.now ≡ text_at (codes "SET") rows) × IsFlag (codes "why") rows why
-TakesFound rows (Ok (Draw set walk)) = DrawsFound rows (Ok (Draw set walk))
+TakesFound rows (Ok (Draw set shown)) = DrawsFound rows (Ok (Draw set shown))
 TakesFound rows (Ok (Chart set script)) = DrawsFound rows (Ok (Chart set script))
 TakesFound rows (Ok (Sample set flags)) =
     (set.now ≡ text_at (codes "SET") rows) × AreSampleFlags rows flags
@@ -131,6 +150,8 @@ TakesFound rows (Err NoScript) = RunsFound rows (Err NoScript)
 TakesFound rows (Err ScriptTooMany) = RunsFound rows (Err ScriptTooMany)
 TakesFound rows (Err StoresOfInput) = RunsFound rows (Err StoresOfInput)
 TakesFound rows (Err WalkOfRun) = DrawsFound rows (Err WalkOfRun)
+TakesFound rows (Err LateOfRun) = DrawsFound rows (Err LateOfRun)
+TakesFound rows (Err WalkAndLate) = DrawsFound rows (Err WalkAndLate)
 TakesFound rows (Err NoCommand) = Unit {0}
 TakesFound rows (Err NotUtf8) = ⊥
 

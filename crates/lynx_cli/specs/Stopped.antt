@@ -113,7 +113,7 @@ pub record StopsDrawing (options : DrawOptions) (text : List ℕ) (old new : Opt
   pub found : RunFault
   pub told : fault ≡ run_fault found
   pub why : NoPictureFor text (Keeps old new) found
-  pub part : BeginsPicture options.walk text old new
+  pub part : BeginsPicture options.shown text old new
 
 -- a drawing of a run: one of the texts is faulty, or memory is wanting, and nothing is written; or
 -- the writer fails, and nothing is written or a beginning of the chart

@@ -1,7 +1,8 @@
 //! What the words of the command line ask for.
 ghost use Rattle.std.specs.Prelude.{option_map};
-ghost use Rattle.lynx_cli.specs.Jobs.{DrawsAs, RunsAs};
+ghost use Rattle.lynx_cli.specs.Jobs.{DrawsAs, RunsAs, ShowsAs};
 
+use lynx_draw::Extent;
 use thiserror::Error;
 
 /// What a run does besides, none of it by default.
@@ -28,6 +29,8 @@ pub struct SampleFlags {
     pub begins: u8,
     /// Its run ends with a cycle.
     pub cycle: bool,
+    /// How many steps a cycle is searched by before random scripts are tried.
+    pub effort: u64,
 }
 
 /// What the words ask for, with files as they were named.
@@ -38,10 +41,10 @@ pub enum Job<'a> {
         set: &'a str,
         why: bool,
     },
-    /// Draw the set of a file, with the verdict on it, or the programs alone by which it offends.
+    /// Draw the set of a file, with the verdict on it, or some of its programs alone.
     Draw {
         set: &'a str,
-        walk: bool,
+        shown: Extent,
     },
     /// Draw a run of the script of the second file over the set of the first.
     Chart {
@@ -122,6 +125,12 @@ pub enum CommandFault {
     /// The programs of a walk are those of a set, and not of a run.
     #[error("--walk draws no run")]
     WalkOfRun,
+    /// So are those of blocks that stand in the way.
+    #[error("--late draws no run")]
+    LateOfRun,
+    /// Of a set the ones are drawn or the others.
+    #[error("--walk or --late, not both")]
+    WalkAndLate,
     /// The first word is a command that the program hasn't. The parser refuses it first.
     #[error("no such command")]
     NoCommand,
@@ -159,17 +168,34 @@ pub(crate) fn job_of_run<'a>(
     }
 }
 
+/// Which programs of a set are drawn.
+fn extent_of(walk: bool, late: bool) -> Result<Extent, CommandFault>
+    ensures { ShowsAs walk late result }
+{
+    match (walk, late) {
+        (false, false) => Ok(Extent::All),
+        (true, false) => Ok(Extent::Walk),
+        (false, true) => Ok(Extent::Late),
+        (true, true) => Err(CommandFault::WalkAndLate),
+    }
+}
+
 /// What `draw` and its words ask for: the picture of a set, or with a script that of a run.
 pub(crate) fn job_of_draw<'a>(
     set: &'a str,
     script: Option<&'a str>,
     walk: bool,
+    late: bool,
 ) -> Result<Job<'a>, CommandFault>
-    ensures { DrawsAs set.now (option_map (λ own. own.now) script.entry) walk result }
+    ensures { DrawsAs set.now (option_map (λ own. own.now) script.entry) walk late result }
 {
     match script {
-        None => Ok(Job::Draw { set, walk }),
+        None => match extent_of(walk, late) {
+            Ok(shown) => Ok(Job::Draw { set, shown }),
+            Err(fault) => Err(fault),
+        },
         Some(_) if walk => Err(CommandFault::WalkOfRun),
+        Some(_) if late => Err(CommandFault::LateOfRun),
         Some(script) => Ok(Job::Chart { set, script }),
     }
 }

@@ -15,6 +15,7 @@ use crate::stored::{StoresIn, rerun_script};
 use crate::storing::{show_file, upgrade_file};
 use crate::texts::{chart_script, check_set, draw_set, run_input, run_script, sample_set};
 use lynx_cluster::Host;
+use lynx_draw::Extent;
 use lynx_keep::Keeper;
 use lynx_report::{CheckOptions, DrawOptions};
 use lynx_service::Service;
@@ -40,7 +41,7 @@ pub fn do_job<
     };
     let done = match job {
         Job::Check { set, why } => check_file(host, set, why, hints, &mut writer),
-        Job::Draw { set, walk } => draw_file(host, set, walk, hints, &mut writer),
+        Job::Draw { set, shown } => draw_file(host, set, shown, hints, &mut writer),
         Job::Chart { set, script } => chart_files(host, set, script, hints, &mut writer),
         Job::Sample { set, flags } => sample_file(host, set, flags, hints, &mut writer),
         Job::Run { set, script, flags } => run_files(host, set, script, flags, hints, &mut writer),
@@ -103,13 +104,13 @@ fn check_file<'a, R: Files + AllocGlobal, W: Write>(
 fn draw_file<'a, R: Files + AllocGlobal, W: Write>(
     rt: &R,
     set: &'a str,
-    walk: bool,
+    shown: Extent,
     hints: &mut Hints,
     writer: &mut W,
 ) -> Result<u8, Fault<'a>> {
     let read = text_of(rt, set)?;
     let text = read.as_slice();
-    let done = draw_set(rt.alloc(), text, DrawOptions { walk }, writer);
+    let done = draw_set(rt.alloc(), text, DrawOptions { shown }, writer);
     hints.note_set(rt.alloc(), Named::new(set, text), &done);
     done
 }

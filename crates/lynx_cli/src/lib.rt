@@ -14,6 +14,7 @@ pub use texts::{chart_script, check_set, draw_set, run_input, run_script, sample
 mod asking;
 mod auditing;
 mod causes;
+mod draw_words;
 mod extending;
 pub mod fault;
 mod foreign;
@@ -24,6 +25,7 @@ pub mod jobs;
 pub mod laws;
 pub mod parser;
 mod reading;
+mod sample_words;
 mod serving;
 pub mod shown;
 pub mod source;

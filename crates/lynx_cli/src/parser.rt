@@ -3,9 +3,9 @@ ghost use Rattle.std.specs.Prelude.{◌≡◌, Ok, None, Some, codes, option_map
 ghost use Rattle.clap.specs.Words.{first_of, found_of, rows_of, subcommand_name_of, subcommand_rows_of};
 ghost use Rattle.lynx_cli.specs.Jobs.{AreFlags, AreSampleFlags, AskedBy, IsFlag, TakesFound, TakesWords, no_flags, text_at};
 
-use crate::job::{
-    CommandFault, INPUT, Job, NO_FLAGS, RunFlags, SampleFlags, job_of_draw, job_of_run,
-};
+use crate::draw_words::{draw_command, job_of_drawing};
+use crate::job::{CommandFault, INPUT, Job, NO_FLAGS, RunFlags, SampleFlags, job_of_run};
+use crate::sample_words::{BEGINS, CYCLE, EFFORT, SEED, sample_command};
 use clap::{Arg, ArgAction, ArgMatches, Command, value_parser};
 use std::alloc::{AllocError, Global};
 
@@ -15,16 +15,13 @@ const STATUSES_AND_FAULTS: &str =
     "Statuses:\n  0  done: the set is accepted, an order explains the run\n  1  the set offends, or the run ends with a cycle\n  2  faulty words or a faulty text\n  3  out of memory\n  4  a file, a store, a socket or a thread fails, or the audit at the end of a service\n\nA faulty text is told with its line and one of these words: too-long, bad-version, bad-line,\nbad-name, bad-number, repeated, unknown, need-not-first, limit-passed, literal-elsewhere,\nshard-gap, shard-overlap, shard-server. With --hints, and on a terminal, the place is shown.";
 
 /// The script of a run or of the picture of one.
-const SCRIPT: &str = "SCRIPT";
+pub(crate) const SCRIPT: &str = "SCRIPT";
 
 /// The option of each command that reads a text.
 const HINTS: &str = "hints";
 
 /// The option of a check.
 const WHY: &str = "why";
-
-/// The option of a picture.
-const WALK: &str = "walk";
 
 /// The options of a run.
 const CHECKED: &str = "checked";
@@ -33,30 +30,26 @@ const OWED: &str = "owed";
 
 const STORES: &str = "stores";
 
-/// The options of a random script.
-const SEED: &str = "seed";
-
-const BEGINS: &str = "begins";
-
-const CYCLE: &str = "cycle";
-
 /// Chains that begin in a random script, where the words don't say how many.
 const USUAL_BEGINS: u8 = 8;
 
+/// Steps by which a cycle is searched, where the words don't say how many.
+const USUAL_EFFORT: u64 = 200_000;
+
 /// The set of a command that reads files alone.
-fn set_file<'a>(alloc: Global) -> Arg<'a> {
+pub(crate) fn set_file<'a>(alloc: Global) -> Arg<'a> {
     Arg::new(alloc, "SET")
         .required(true)
         .help("The file of the set's text; - is a file of that name")
 }
 
 /// The script of a command that may have one.
-fn script_file<'a>(alloc: Global) -> Arg<'a> {
+pub(crate) fn script_file<'a>(alloc: Global) -> Arg<'a> {
     Arg::new(alloc, SCRIPT).help("The file of the script; - is a file of that name")
 }
 
 /// An option without a value.
-fn flag<'a>(alloc: Global, name: &'a str, help: &'a str) -> Arg<'a> {
+pub(crate) fn flag<'a>(alloc: Global, name: &'a str, help: &'a str) -> Arg<'a> {
     Arg::new(alloc, name)
         .long(name)
         .action(ArgAction::SetTrue)
@@ -64,7 +57,7 @@ fn flag<'a>(alloc: Global, name: &'a str, help: &'a str) -> Arg<'a> {
 }
 
 /// The option by which faults tell the place in a text, or the cause.
-fn hints_flag<'a>(alloc: Global) -> Arg<'a> {
+pub(crate) fn hints_flag<'a>(alloc: Global) -> Arg<'a> {
     flag(
         alloc,
         HINTS,
@@ -87,58 +80,13 @@ fn check_command<'a>(alloc: Global) -> Result<Command<'a>, AllocError> {
         .arg(hints_flag(alloc))
 }
 
-fn draw_command<'a>(alloc: Global) -> Result<Command<'a>, AllocError> {
-    Command::new(alloc, "draw")
-        .about(
-            "Draw a set of chain programs as a text for Graphviz, or a run of a script as an SVG",
-        )
-        .after_help(
-            "Of a set: dashed lines join hops that may conflict, red steps are those by which the set offends.\nStatus 0 where the set is accepted, 1 where it offends: it is drawn all the same.\nOf a run: each server's entries stand in a column, arrows are messages, red lines lead around a cycle.\nStatus 0 where an order explains the run, 1 where it ends with a cycle. The set isn't checked.\nExamples: lynx draw payment.set | dot -Tsvg > payment.svg\n          lynx draw payment.set payment.script > run.svg",
-        )
-        .arg(set_file(alloc))?
-        .arg(script_file(alloc))?
-        .arg(flag(
-            alloc,
-            WALK,
-            "Draw the programs of the walk alone by which the set offends, or would if it weren't excused",
-        ))?
-        .arg(hints_flag(alloc))
-}
-
 /// An option with a number.
-fn number<'a>(alloc: Global, name: &'a str, help: &'a str) -> Arg<'a> {
+pub(crate) fn number<'a>(alloc: Global, name: &'a str, help: &'a str) -> Arg<'a> {
     Arg::new(alloc, name)
         .long(name)
         .value_name("N")
         .action(ArgAction::Set)
         .help(help)
-}
-
-fn sample_command<'a>(alloc: Global) -> Result<Command<'a>, AllocError> {
-    Command::new(alloc, "sample")
-        .about("Print a random script for a set of chain programs")
-        .after_help(
-            "Chains begin, and messages are delivered, repeated, held up, lost and woken in some order, and servers opened\nagain; in the end no hop is owed. The same words give the same script.\nStatus 0, or 1 where --cycle finds none.\nExample: lynx sample payment.set --cycle | lynx run payment.set /dev/stdin",
-        )
-        .arg(set_file(alloc))?
-        .arg(number(
-            alloc,
-            SEED,
-            "What the choices are drawn from, 0 if left out",
-        )
-        .value_parser(value_parser!(u64)))?
-        .arg(number(
-            alloc,
-            BEGINS,
-            "Chains that begin at most, 1 to 100, 8 if left out",
-        )
-        .value_parser(value_parser!(u8).range(1..=100)))?
-        .arg(flag(
-            alloc,
-            CYCLE,
-            "Look for a script whose run ends with a cycle, among 1,000",
-        ))?
-        .arg(hints_flag(alloc))
 }
 
 /// The folder of a run over stores.
@@ -375,14 +323,14 @@ fn port_of(words: &ArgMatches<'_>) -> u16 {
 
 /// The text that was found under a name, standard input where none was. The parser lets no words
 /// through that lack one which is asked for here.
-fn text_at<'a>(words: &ArgMatches<'a>, name: &str) -> &'a str
+pub(crate) fn text_at<'a>(words: &ArgMatches<'a>, name: &str) -> &'a str
     ensures { result.now ≡ text_at name.now (rows_of (found_of words.now)) }
 {
     words.get_str(name).unwrap_or(INPUT)
 }
 
 /// A text that may have been found under a name.
-fn found_at<'a>(words: &ArgMatches<'a>, name: &str) -> Option<&'a str>
+pub(crate) fn found_at<'a>(words: &ArgMatches<'a>, name: &str) -> Option<&'a str>
     ensures { option_map (λ own. own.now) result
         ≡ first_of name.now (rows_of (found_of words.now)) }
 {
@@ -390,7 +338,7 @@ fn found_at<'a>(words: &ArgMatches<'a>, name: &str) -> Option<&'a str>
 }
 
 /// Whether a flag is given.
-fn flag_at(words: &ArgMatches<'_>, name: &str) -> bool
+pub(crate) fn flag_at(words: &ArgMatches<'_>, name: &str) -> bool
     ensures { IsFlag name.now (rows_of (found_of words.now)) result }
 {
     words.get_flag(name)
@@ -429,6 +377,7 @@ fn sample_flags_of(words: &ArgMatches<'_>) -> SampleFlags
         seed: words.get_one(SEED).unwrap_or(0),
         begins: words.get_one(BEGINS).unwrap_or(USUAL_BEGINS),
         cycle: flag_at(words, CYCLE),
+        effort: words.get_one(EFFORT).unwrap_or(USUAL_EFFORT),
     }
 }
 
@@ -451,7 +400,7 @@ fn job_of_command<'a>(name: &str, words: &ArgMatches<'a>) -> Result<Job<'a>, Com
             set,
             why: flag_at(words, WHY),
         }),
-        "draw" => job_of_draw(set, found_at(words, SCRIPT), flag_at(words, WALK)),
+        "draw" => job_of_drawing(words),
         "sample" => Ok(Job::Sample {
             set,
             flags: sample_flags_of(words),

@@ -118,6 +118,7 @@ pub fn sample_set<'a, W: Write>(
         seed: flags.seed,
         begins: flags.begins,
         cycle: flags.cycle,
+        effort: flags.effort,
     };
     match sample_text(alloc, text, options, writer) {
         Ok(()) => Ok(DONE),

@@ -3,6 +3,7 @@ use lynx_cli::{
     CommandFault, Job, RunFlags, SampleFlags, check_set, command, draw_set, job_of, run_input,
     run_script,
 };
+use lynx_draw::Extent;
 use lynx_fixtures::rows::PAYMENT;
 use lynx_fixtures::texts::{CROSSING, PAY_AND_NOTE};
 use lynx_report::{CheckOptions, DrawOptions};
@@ -114,11 +115,12 @@ fn words_ask_for_jobs(rt: HostRuntime) -> Result<(), Fail> {
     ] {
         assert!(rt; ask_for(rt.alloc(), words, Job::Check { set: "a", why })?);
     }
-    for (words, walk) in [
-        (["lynx", "draw", "a"].as_slice(), false),
-        (["lynx", "draw", "a", "--walk"].as_slice(), true),
+    for (words, shown) in [
+        (["lynx", "draw", "a"].as_slice(), Extent::All),
+        (["lynx", "draw", "a", "--walk"].as_slice(), Extent::Walk),
+        (["lynx", "draw", "--late", "a"].as_slice(), Extent::Late),
     ] {
-        assert!(rt; ask_for(rt.alloc(), words, Job::Draw { set: "a", walk })?);
+        assert!(rt; ask_for(rt.alloc(), words, Job::Draw { set: "a", shown })?);
     }
     let chart = Job::Chart {
         set: "a",
@@ -150,6 +152,7 @@ const USUAL: SampleFlags = SampleFlags {
     seed: 0,
     begins: 8,
     cycle: false,
+    effort: 200_000,
 };
 
 #[test]
@@ -163,6 +166,11 @@ fn a_random_script_is_asked_for_by_its_words(rt: HostRuntime) -> Result<(), Fail
         cycle: true,
         ..USUAL
     };
+    let thorough = SampleFlags {
+        cycle: true,
+        effort: 1_000_000,
+        ..USUAL
+    };
     for (words, flags) in [
         (["lynx", "sample", "a"].as_slice(), USUAL),
         (
@@ -172,6 +180,10 @@ fn a_random_script_is_asked_for_by_its_words(rt: HostRuntime) -> Result<(), Fail
         (
             ["lynx", "sample", "--begins", "100", "a", "--cycle"].as_slice(),
             long,
+        ),
+        (
+            ["lynx", "sample", "--cycle", "--effort", "1000000", "a"].as_slice(),
+            thorough,
         ),
     ] {
         assert!(rt; ask_for(rt.alloc(), words, Job::Sample { set: "a", flags })?);

@@ -10,5 +10,6 @@ returns c =
     record {
       cycle = c.flag_at.ensures;
       seed = λ none. c.unwrap_or.ensures ∙ ap (λ (o : Option ℕ). unwrap_or o 0) (c.get_one.ensures.none (one_text-rows found (codes "seed") ∙ none));
+      effort = λ none. c.unwrap_or-3.ensures ∙ ap (λ (o : Option ℕ). unwrap_or o 200000) (c.get_one-3.ensures.none (one_text-rows found (codes "effort") ∙ none));
       begins = λ none. c.unwrap_or-2.ensures ∙ ap (λ (o : Option ℕ). unwrap_or o 8) (c.get_one-2.ensures.none (one_text-rows found (codes "begins") ∙ none));
     }

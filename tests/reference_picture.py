@@ -1,14 +1,15 @@
 #!/usr/bin/env python3
-"""tests/reference_picture.py [--walk] SET: the picture of the set text in a file, or of the programs of its walk alone, by a
-plain reading of docs/FORMATS.md that was written apart from the program; the verdict on the set is that of
-tests/reference.py. What it prints for a set is what a case of `lynx draw` expects, and tests/random compares the program
-with it."""
+"""tests/reference_picture.py [--walk | --late] SET: the picture of the set text in a file, or of the programs of its walk alone,
+or of those that stand in its way and what they meet, by a plain reading of docs/FORMATS.md that was written apart from the
+program; the verdict on the set is that of tests/reference.py. What it prints for a set is what a case of `lynx draw` expects,
+and tests/random compares the program with it."""
 import os
 import sys
 
 sys.path.insert(0, os.path.dirname(os.path.abspath(__file__)))
 sys.dont_write_bytecode = True
 import reference
+from reference_late import abroad, late_blocks
 
 COLOURS = ["#99ddff", "#eedd88", "#bbcc33", "#ffaabb", "#77aadd", "#ee8866", "#44bb99", "#dddddd",
            "#cceeff", "#eeeebb", "#ccddaa", "#ffcccc", "#bbccee", "#e8cdef", "#aaaa00", "#ffffff"]
@@ -21,6 +22,7 @@ ACCEPTED = "accepted\\l"
 EXCUSED = "accepted by blocks: the orange steps lead all the way round, but no chains run so: between chains of other " \
     "origins each block goes forward alone.\\l"
 OFFENDING = "offending: by the red steps in their order, each chain may come before the next, all the way round.\\l"
+LATE = "offending: the programs with thick frames stand in the way, since those of other servers meet two hops of theirs.\\l"
 LEGEND = ("Solid arrows lead to the next hop. Dashed lines join hops that may conflict, in the tables named.\\l"
           "Where two chains of one program may conflict, it is drawn again. Each server has its colour.\\l")
 CONFLICTS = "  edge [style=dashed, dir=none];\n"
@@ -115,11 +117,14 @@ def node(place, again):
     return f'"{place[0]} {place[1]}{" again" if again else ""}"'
 
 
-def cluster(chains, program, again):
-    """A program, or the program drawn again."""
-    label = f'style="dashed,rounded"; label="{program} (again)"' if again else \
-        f'label="{" ".join([program] + [parameter(chains, program, name) for name in chains.programs[program]["parameters"]])}"'
-    lines = [f'  subgraph "cluster {program}{" again" if again else ""}" {{', f"    {label};"]
+def cluster(chains, program, again, late=()):
+    """A program, or the program drawn again; those in the way, which are late, with a thick frame."""
+    words = " ".join([program] + [parameter(chains, program, name) for name in chains.programs[program]["parameters"]])
+    why = "\\lmeets other servers by two hops\\l" if program in late else ""
+    label = f'style="dashed,rounded"; label="{program} (again)"' if again else f'label="{words}{why}"'
+    lines = [f'  subgraph "cluster {program}{" again" if again else ""}" {{']
+    lines += ["    penwidth=3;"] if program in late else []
+    lines.append(f"    {label};")
     for hop, (server, actions) in enumerate(chains.hops(program)):
         words = "".join(" ".join(action) + "\\l" for action in actions)
         lines.append(f'    {node((program, hop), again)} [label="hop {hop} at server {server}\\n{words}", '
@@ -152,14 +157,24 @@ def step_line(chains, number, step):
     return f'  {node(*source)} -> {node(*target)} [label="{words}];'
 
 
-def picture(text, of_walk=False):
-    """What `lynx draw` prints of a set text without fault, and its status; with --walk, of the programs of the walk alone."""
+def in_the_way(chains, status):
+    """The programs of the late blocks of an offending set, and those that they meet at their ends."""
+    reach = abroad(chains)
+    ends = {end for block in late_blocks(chains, reach) for end in block} if status else set()
+    return {end[0] for end in ends}, {other[0] for end in ends for other in reach[end]}
+
+
+def picture(text, extent=None):
+    """What `lynx draw` prints of a set text without fault, and its status; with --walk, of the programs of the walk alone, with
+    --late, of those in the way and what they meet, without the walk."""
     chains, (verdict, status) = reference.Set(text), reference.check(text)
     edges = conflicts(chains)
     drawn_twice = {left[0] for left, right in edges if left[0] == right[0]}
-    walk = reference.least_walk(chains) or []
+    walk = [] if extent == "--late" else reference.least_walk(chains) or []
     walked = steps(walk, drawn_twice)
-    shown = [program for program in chains.programs if not of_walk or program in {left[0] for left, _ in walk}]
+    late, met = in_the_way(chains, status)
+    wanted = {None: set(chains.programs), "--walk": {left[0] for left, _ in walk}, "--late": late | met}[extent]
+    shown = [program for program in chains.programs if program in wanted]
     large = boxes(chains, edges)
     boxed = {program for group in large.values() for program in group}
     lines = []
@@ -167,7 +182,8 @@ def picture(text, of_walk=False):
         if program in large:
             lines += box(chains, large[program], edges)
         elif program not in boxed:
-            lines += cluster(chains, program, False) + (cluster(chains, program, True) if program in drawn_twice else [])
+            for again in (False, True) if program in drawn_twice else (False,):
+                lines += cluster(chains, program, again, late)
     dashed = []
     for left, right in edges:
         if not {left[0], right[0]} <= set(shown) or left[0] in boxed:
@@ -179,10 +195,12 @@ def picture(text, of_walk=False):
     coloured = [step_line(chains, number, step) for number, step in enumerate(walked, 1)]
     put = lambda some: "".join(line + "\n" for line in some)
     caption, style = LOOKS[verdict.splitlines()[0]]
+    if extent == "--late":
+        caption = LATE if status else ACCEPTED
     label = f'  label="{caption}{LEGEND}";\n'
     return HEAD + label + put(lines) + CONFLICTS + put(dashed) + style + put(coloured) + "}\n", status
 
 
 if __name__ == "__main__":
     with open(sys.argv[-1], encoding="ascii") as file:
-        sys.stdout.write(picture(file.read(), "--walk" in sys.argv[1:-1])[0])
+        sys.stdout.write(picture(file.read(), sys.argv[1] if sys.argv[2:] else None)[0])

@@ -19,6 +19,7 @@ sys.path.insert(0, os.path.dirname(os.path.abspath(__file__)))
 sys.dont_write_bytecode = True
 import reference
 import reference_picture
+from reference_late import abroad, late_blocks
 
 ACTIONS = ("get", "set", "add", "sub", "max", "let", "need")
 # how many sets without some of their programs are looked at, at most, and how many pairs of hops that may conflict in all
@@ -65,27 +66,6 @@ def reason(chains, edges, group, otherwise):
     if all(sum(place[0] == program for place in met) < 2 for program in group):
         return "one-hop"
     return otherwise
-
-
-def abroad(chains):
-    """For each hop that may conflict with hops of programs of another origin those hops, all in the order of the set."""
-    every = reference.places(chains)
-    met = {place: [other for other in every if reference.meet(chains, place, other)] for place in every}
-    return {place: others for place, others in met.items() if others}
-
-
-def late_blocks(chains, reach):
-    """The blocks that aren't forward, and that are entered and left by hops that reach abroad, as pairs of these hops: by the
-    hop entered, those of one chain first, then those of two chains of different programs."""
-    found = []
-    for entered in reach:
-        server = chains.hops(entered[0])[entered[1]][0]
-        found += [(entered, left) for left in reach if left[0] == entered[0] and left[1] < entered[1]]
-        for left in reach:
-            been = [other for other, _ in chains.hops(left[0])[:left[1] + 1]]
-            if left[0] != entered[0] and chains.origin(left[0]) == chains.origin(entered[0]) and server not in been:
-                found.append((entered, left))
-    return found
 
 
 def late_lines(chains, lines):

@@ -3,6 +3,7 @@ pub mod Answers
 pub mod Clusters
 pub mod Calls
 pub mod Looks
+pub mod Glances
 pub mod Starting
 pub mod Closing
 pub mod inner

@@ -178,6 +178,7 @@ impl<K: Keeper, G: Gate> Front<K, G> {
         ensures { AnswersBegin self.now.set session.old request result session.new }
     {
         let server = self.home_of(&request);
+        let program = request.program;
         let Some(post) = self.posts.as_slice().get(server.index()) else {
             return Answer::Stopped;
         };
@@ -188,6 +189,7 @@ impl<K: Keeper, G: Gate> Front<K, G> {
         } else {
             Answer::Stopped
         };
+        self.gate.answered(server, program, &answer);
         drop(state);
         self.gate.leave(server, Passage::Begin);
         answer
@@ -195,7 +197,7 @@ impl<K: Keeper, G: Gate> Front<K, G> {
 
     /// The program of the chain, by its entry at its origin, whose lock is taken and given back.
     /// None where it hasn't begun.
-    fn program_of<R: Wait>(&self, rt: &R, chain: &ChainId) -> Option<ProgramId> {
+    pub fn program_of<R: Wait>(&self, rt: &R, chain: &ChainId) -> Option<ProgramId> {
         let state = self.posts.as_slice().get(chain.origin.index())?.lock(rt);
         if !is_of(&state, &self.set, chain.origin) {
             return None;

@@ -1,5 +1,6 @@
-//! Gates: what is told of each step, on both sides of its lock.
-use lynx_names::ServerId;
+//! Gates: what is told of each step, on both sides of its lock, and of what came of it.
+use lynx_entry::{Answer, Delivered};
+use lynx_names::{ProgramId, ServerId};
 
 /// What a step on the state behind a server's lock does there.
 #[derive(Clone, Copy, Debug, PartialEq, Eq)]
@@ -18,6 +19,14 @@ pub trait Gate {
 
     /// The step was made. It is called after that server's lock was given back.
     fn leave(&self, server: ServerId, passage: Passage);
+
+    /// A begin of that program was answered so, whatever was kept of it. It is called with that
+    /// server's lock taken.
+    fn answered(&self, _server: ServerId, _program: ProgramId, _answer: &Answer) {}
+
+    /// A message was delivered, or a held one woken, and came to that. It is called with that
+    /// server's lock taken.
+    fn delivered(&self, _server: ServerId, _delivered: &Delivered) {}
 }
 
 /// Lets every step pass, and does nothing.

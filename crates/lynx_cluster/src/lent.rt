@@ -90,8 +90,9 @@ fn note_done(
 
 /// Wakes one held message of the server, if any may be woken. False where there is none whose turn
 /// it is, or it can't be woken now.
-fn wake_next<K: Keeper>(
+fn wake_next<K: Keeper, G: Gate>(
     alloc: Global,
+    gate: &G,
     state: &mut Server<K>,
     may_wake: bool,
     served: &mut Served,
@@ -105,6 +106,7 @@ fn wake_next<K: Keeper>(
     let Some(woken) = state.wake(alloc) else {
         return false;
     };
+    gate.delivered(state.server(), &woken.delivered);
     let (chain, hop) = (woken.chain, woken.hop);
     let to = sender_of(state, &chain, hop);
     note_done(served, to, chain, hop, &woken.delivered);
@@ -139,8 +141,9 @@ fn acknowledge<K: Keeper>(
 }
 
 /// Delivers a message that came from that server. Whether its hop was done.
-fn deliver_one<K: Keeper>(
+fn deliver_one<K: Keeper, G: Gate>(
     alloc: Global,
+    gate: &G,
     state: &mut Server<K>,
     from: ServerId,
     message: Message,
@@ -152,12 +155,14 @@ fn deliver_one<K: Keeper>(
 {
     let (chain, hop) = (message.chain, message.hop);
     let delivered = state.deliver(alloc, message);
+    gate.delivered(state.server(), &delivered);
     note_done(served, Some(from), chain, hop, &delivered)
 }
 
 /// Does what a parcel asks. Whether a hop was done, for which a held message may wait.
-fn serve_one<K: Keeper>(
+fn serve_one<K: Keeper, G: Gate>(
     alloc: Global,
+    gate: &G,
     state: &mut Server<K>,
     arrived: Arrived,
     served: &mut Served,
@@ -168,7 +173,7 @@ fn serve_one<K: Keeper>(
 {
     let from = arrived.from;
     match arrived.parcel {
-        Parcel::Message(message) => deliver_one(alloc, state, from, message, served),
+        Parcel::Message(message) => deliver_one(alloc, gate, state, from, message, served),
         Parcel::Done { chain, hop } => {
             acknowledge(state, from, &chain, hop, served);
             false
@@ -195,8 +200,9 @@ fn is_long<R: Clock>(rt: &R, since: &Option<Instant>, is_awaited: bool) -> bool 
 /// One step: a held message whose turn it may be is woken before another parcel is taken, since a
 /// message for which there is no room to be held is dropped. None where there is no step to make,
 /// else whether a held message may be woken then.
-fn step<K: Keeper>(
+fn step<K: Keeper, G: Gate>(
     alloc: Global,
+    gate: &G,
     state: &mut Server<K>,
     inbox: &mut VecDeque<Arrived>,
     may_wake: bool,
@@ -205,11 +211,11 @@ fn step<K: Keeper>(
     ensures done { TellsDone state.old.history served.old.receipts.items state.new.history
         served.new.receipts.items }
 {
-    if wake_next(alloc, state, may_wake, served) {
+    if wake_next(alloc, gate, state, may_wake, served) {
         return Some(true);
     }
     let arrived = inbox.pop_front()?;
-    Some(serve_one(alloc, state, arrived, served))
+    Some(serve_one(alloc, gate, state, arrived, served))
 }
 
 /// Some parcel brings a message.
@@ -364,7 +370,7 @@ impl<K: Keeper, G: Gate> Lent<K, G> {
         let since = Instant::now(rt).ok();
         let mut may_wake = true;
         for _ in 0..MOST_STEPS {
-            let Some(is_done) = step(alloc, state, inbox, may_wake, served) else {
+            let Some(is_done) = step(alloc, &*self.gate, state, inbox, may_wake, served) else {
                 break;
             };
             may_wake = is_done;

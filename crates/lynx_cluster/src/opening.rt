@@ -88,6 +88,13 @@ impl<K: Keeper + Drop> Opened<K> {
         Ok(Opened { set, servers })
     }
 
+    /// The servers, in order.
+    pub fn servers(&self) -> &[Server<K>]
+        ensures { result.now ≡ self.now.servers.items }
+    {
+        self.servers.as_slice()
+    }
+
     /// Whether the servers fit together: each later hop ran on a message that an entry of another
     /// of them sends. Those that one cluster left always do; where one is missing, or is an older
     /// copy, the first entry whose message nobody sends is told, by server and place. One look-up

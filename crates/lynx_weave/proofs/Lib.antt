@@ -14,3 +14,5 @@ pub mod Weavings
 pub mod Counting
 pub mod Loadings
 pub mod Parted
+pub mod Fronts
+pub mod Taking

@@ -55,7 +55,7 @@ put_other (first ∷ xs) (suc i) (suc j) y differs = put_other xs i j y (λ same
 -- ---- the least of all that is left
 
 -- the entry comes before, or is, each one that is left of any server
-least_of_all : (set : Set) (histories : List History) (places : List ℕ) (number : ℕ) (least : IsLeastNext histories places number) → AreLawful set histories →
+pub least_of_all : (set : Set) (histories : List History) (places : List ℕ) (number : ℕ) (least : IsLeastNext histories places number) → AreLawful set histories →
     (server : ℕ) (history : History) (place i : ℕ) (entry : Entry) → slice_get histories server ≡ Some history → slice_get places server ≡ Some place →
     place ≤ i → slice_get history i ≡ Some entry →
     (stamp_of least.entry < stamp_of entry) ⊎ ((stamp_of least.entry ≡ stamp_of entry) × (number ≤ server))
@@ -153,13 +153,13 @@ in_order-push list last in_order above place later one other below first second 
     ]
 
 -- the history of a server with one more entry
-taken-push : (number : ℕ) (list : List Placed) (entry : Entry) →
+pub taken-push : (number : ℕ) (list : List Placed) (entry : Entry) →
     history_of number (list ++ record { server = number; entry = entry } ∷ []) ≡ history_of number list ++ entry ∷ []
 taken-push number list entry =
     history_of-push number list (record { server = number; entry = entry })
     ∙ ap (λ b. history_of number list ++ cond b (entry ∷ []) []) (eq-eqb number number refl)
 
-elsewhere-push : (number other : ℕ) (list : List Placed) (entry : Entry) → nat_eq number other ≡ false →
+pub elsewhere-push : (number other : ℕ) (list : List Placed) (entry : Entry) → nat_eq number other ≡ false →
     history_of other (list ++ record { server = number; entry = entry } ∷ []) ≡ history_of other list
 elsewhere-push number other list entry away =
     history_of-push other list (record { server = number; entry = entry })

@@ -1,6 +1,7 @@
 pub mod Told
 pub mod Lists
 pub mod Weaving
+pub mod Cuts
 pub mod Since
 pub mod Rebuilt
 pub mod Gathering

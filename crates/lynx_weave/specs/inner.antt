@@ -3,3 +3,4 @@ pub mod Judging
 pub mod Loading
 pub mod Orders
 pub mod Rebuilt
+pub mod Taken

@@ -4,6 +4,7 @@
 #![tactic(auto)]
 
 pub use counts::ServerCounts;
+pub use cutting::cut;
 pub use fault::WeaveFault;
 pub use gather_fault::GatherFault;
 pub use gathering::gather;
@@ -13,6 +14,7 @@ pub use weaving::{Woven, weave, weave_since};
 
 mod agreeing;
 pub mod counts;
+pub mod cutting;
 pub mod fault;
 pub mod gather_fault;
 pub mod gathering;

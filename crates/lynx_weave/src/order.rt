@@ -45,7 +45,7 @@ fn with_next(
 
 /// The server whose next entry has the least stamp, the first of those that have it; as many
 /// entries of each are through. None where all are.
-fn least_next(servers: &[Server<MemoryKeeper>], places: &[usize]) -> Option<usize>
+pub(crate) fn least_next(servers: &[Server<MemoryKeeper>], places: &[usize]) -> Option<usize>
     requires { length places.now ≡ length servers.now }
     ensures { IsNextAt (histories_of servers.now) places.now result }
 {

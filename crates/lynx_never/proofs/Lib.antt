@@ -1,0 +1,5 @@
+pub mod Below
+pub mod Starts
+pub mod Least
+pub mod Numbers
+pub mod Firsts

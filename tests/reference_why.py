@@ -124,6 +124,37 @@ def without_lines(text, chains, edges):
     return []
 
 
+RELATIONS = {"<": int.__lt__, "<=": int.__le__, "=": int.__eq__, "!=": int.__ne__, ">=": int.__ge__, ">": int.__gt__}
+
+
+def within(pieces, others):
+    """The numbers that lie in both, as intervals."""
+    return [(max(low, other), min(high, end)) for low, high in pieces for other, end in others if max(low, other) <= min(high, end)]
+
+
+def never_at(chains, program):
+    """The hop and the action, counted within it, by which a program can't begin: the first for whose key no argument is
+    left by the shards of the hops so far, or a need between two numbers that doesn't hold. None where there is none."""
+    left = {name: [chains.range(program, name)] for name in chains.programs[program]["parameters"]}
+    for hop, (server, actions) in enumerate(chains.hops(program)):
+        for place, words in enumerate(actions):
+            if words[0] == "need" and words[1].isdigit() and words[3].isdigit():
+                if not RELATIONS[words[2]](int(words[1]), int(words[3])):
+                    return hop, place
+            if words[0] in ("get", "set", "add", "sub", "max"):
+                table, key = (words[2], words[3]) if words[0] == "get" else (words[1], words[2])
+                if key in left:
+                    left[key] = within(left[key], [(low, high) for low, high, keeper in chains.tables[table] if keeper == server])
+                    if not left[key]:
+                        return hop, place
+    return None
+
+
+def never_lines(chains, lines):
+    found = [(program, never_at(chains, program)) for program in chains.programs]
+    return [f"never {program} line {lines[program, at[0]] + 1 + at[1]}" for program, at in found if at]
+
+
 def why(text):
     """What `lynx check SET --why` prints of a set text without fault, and its status."""
     chains, (verdict, status) = reference.Set(text), reference.check(text)
@@ -135,6 +166,7 @@ def why(text):
     for program in chains.programs:
         if chains.origin(program) in [server for server, _ in chains.hops(program)[1:]]:
             printed.append(f"busy {program} {chains.origin(program)}")
+    printed += never_lines(chains, lines)
     if not otherwise:
         printed += late_lines(chains, lines) + mixed_lines(chains, edges) + without_lines(text, chains, edges)
     return verdict + "".join(line + "\n" for line in printed), status

@@ -1,17 +1,17 @@
 -- How many lines the parts of a set have, and that each hop stands on its line.
 use Rattle.std.proofs.Common.{◌≡◌, ℕ, ◌+◌, ◌<◌, ◌≤◌, List, [], ◌∷◌, ◌++◌, map, length, take, drop, get_or, Some, None, ⊎_elim, zero, suc, refl, sym, ap, subst, ◌∙◌, arith}
-use Rattle.std.specs.Prelude.{codes, Option, option_map, slice_get, sum_by}
+use Rattle.std.specs.Prelude.{codes, Option, option_map, slice_get, sum_by, unwrap_or}
 use Rattle.std.specs.List.{range_with_len}
 use Rattle.std.specs.Option.{option_map_or}
 use Rattle.std.proofs.lemmas.Bool.{cases_lt}
 use Rattle.std.proofs.lemmas.List.{length-append, length-map}
 use Rattle.std.proofs.lemmas.List.Sums.{sum_by-cons, sum_by-take-le}
 use Rattle.lynx_shards.specs.declared.shard.Shard.{Shard}
-use Rattle.lynx_names.specs.declared.limits.TheConstants.{MAX_TEXT_BYTES}
+use Rattle.lynx_names.specs.declared.limits.TheConstants.{MAX_ACTIONS, MAX_TEXT_BYTES}
 use Rattle.lynx_lex.specs.Lines.{joined, line}
 use Rattle.lynx_set.specs.Rules.{IsSet}
 use Rattle.lynx_set.specs.Set.{Set}
-use Rattle.lynx_set.specs.Lookups.{program_at}
+use Rattle.lynx_set.specs.Lookups.{actions_at, hop_at, program_at}
 use Rattle.lynx_set.specs.declared.action.Action.{Action}
 use Rattle.lynx_set.specs.declared.program.Hop.{Hop}
 use Rattle.lynx_set.specs.declared.program.Program.{Program}
@@ -165,6 +165,22 @@ lines_to_hop-le set place = by (program_at set place.program)
     by : (known : Option Program) → option_map_or (λ (program : Program). count_to_hop program place.hop) known 0 ≤ option_map_or (λ (program : Program). lines_of_program program) known 0
     by None = omega arith
     by (Some program) = let some = sum_by-take-le lines_of_hop program.hops place.hop in omega (arith, some)
+
+-- so the line of a hop fits any word
+pub line_of-le : (set : Set) → IsSet set → (place : Place) → line_of set place ≤ 3 + MAX_TEXT_BYTES
+line_of-le set is_set place =
+    let is = line_of-is set place in
+    let few = few_lines set is_set place.program in
+    let own = lines_to_hop-le set place in
+    omega (arith, is, few, own)
+
+-- and a hop has few lines behind its own
+pub actions_few : (set : Set) (program hop : ℕ) → length (actions_at set program hop) ≤ MAX_ACTIONS
+actions_few set program hop = by (hop_at set program hop)
+  where
+    by : (known : Option Hop) → length (unwrap_or (option_map (λ (found : Hop). found.actions) known) []) ≤ MAX_ACTIONS
+    by None = omega arith
+    by (Some found) = found.few_actions
 
 -- ---- counting on
 

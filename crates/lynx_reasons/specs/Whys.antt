@@ -12,6 +12,7 @@ use Rattle.lynx_reasons.specs.Groups.{group_lines}
 use Rattle.lynx_reasons.specs.Late.{late_lines}
 use Rattle.lynx_reasons.specs.Meets.{meet_lines}
 use Rattle.lynx_reasons.specs.Mixed.{mixed_lines}
+use Rattle.lynx_reasons.specs.Never.{never_lines}
 use Rattle.lynx_graph.specs.Together.{AreLed}
 
 -- the groups of an accepted set, each led by the least of its programs; an offending set has none
@@ -29,10 +30,12 @@ AreOffenceLines set (Offending walk blocks) lines =
     (members : List Member) × (blame : List ℕ) × AreLed set members × AreBlameLines set blame
     × (lines ≡ late_lines set ++ mixed_lines set (edges_of set) members ++ blame)
 
--- the hops that meet, the groups, the programs that return, and what stands in the way
+-- the hops that meet, the groups, the programs that return, those that can never begin, and what
+-- stands in the way
 pub record IsWhy (set : Set) (verdict : Verdict) (printed : List ℕ) : Type 0 where
   pub groups : List ℕ
   pub right : AreGroupLines set verdict groups
   pub offence : List ℕ
   pub named : AreOffenceLines set verdict offence
-  pub whole : printed ≡ meet_lines set (edges_of set) ++ groups ++ busy_lines set ++ offence
+  pub whole : printed
+      ≡ meet_lines set (edges_of set) ++ groups ++ busy_lines set ++ never_lines set ++ offence

@@ -1,8 +1,10 @@
 //! What a verdict on a set rests on, by lines: the hops that meet, the groups of programs, the
-//! programs that keep their first server busy, and what stands in the way of an offending set.
+//! programs that keep their first server busy, those that can never begin, and what stands in the
+//! way of an offending set.
 #![tactic(auto)]
 
 pub use lines::why;
+pub use mending::mends;
 
 mod blame;
 mod busy;
@@ -14,7 +16,9 @@ mod late;
 pub mod laws;
 pub mod lines;
 mod meets;
+pub mod mending;
 mod mixed;
+mod never;
 mod search;
 mod sift;
 mod without;

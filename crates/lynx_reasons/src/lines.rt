@@ -12,6 +12,7 @@ use crate::groups::put_group_lines;
 use crate::late::put_late_lines;
 use crate::meets::put_meet_lines;
 use crate::mixed::put_mixed_lines;
+use crate::never::put_never_lines;
 use lynx_check::Verdict;
 use lynx_graph::{Edge, conflict_edges, members_of};
 use lynx_names::Memory;
@@ -20,11 +21,12 @@ use std::alloc::Global;
 
 /// Why the verdict on this very set is what it is, by lines: a line for each two hops that may
 /// conflict; for an accepted set a line for each group of programs, with the reason why no walk
-/// through the group offends; a line for each program that returns to the server where it begins;
-/// and for an offending set the blocks that are late, with the hops of other origins that they
-/// meet, the groups of programs through which a closed walk may offend, and the programs to blame:
-/// the fewest, up to three, without which it is accepted. For them at most 2,500 sets are looked
-/// at, and fewer where there are many edges. Memory is answered where a growth was refused.
+/// through the group offends; a line for each program that returns to the server where it begins,
+/// and for each that can never begin; and for an offending set the blocks that are late, with the
+/// hops of other origins that they meet, the groups of programs through which a closed walk may
+/// offend, and the programs to blame: the fewest, up to three, without which it is accepted. For
+/// them at most 2,500 sets are looked at, and fewer where there are many edges. Memory is answered
+/// where a growth was refused.
 pub fn why(alloc: Global, set: &ChainSet, verdict: &Verdict) -> Result<Vec<u8>, Memory>
     requires text { IsSet set.now }
     requires judged { Judges set.now verdict.now }
@@ -36,6 +38,7 @@ pub fn why(alloc: Global, set: &ChainSet, verdict: &Verdict) -> Result<Vec<u8>, 
     put_meet_lines(alloc, &mut out, set, edges)?;
     put_groups(alloc, &mut out, set, edges, verdict)?;
     put_busy_lines(alloc, &mut out, set)?;
+    put_never_lines(alloc, &mut out, set)?;
     put_offence(alloc, &mut out, set, edges, verdict)?;
     Ok(out)
 }

@@ -1,0 +1,17 @@
+pub mod Asking
+pub mod Begins
+pub mod Chains
+pub mod Commits
+pub mod Counts
+pub mod Deliveries
+pub mod Desks
+pub mod Families
+pub mod Figures
+pub mod Health
+pub mod Histograms
+pub mod Hosts
+pub mod Metrics
+pub mod Questions
+pub mod Replies
+pub mod SetHash
+pub mod Watching

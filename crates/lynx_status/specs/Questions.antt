@@ -1,0 +1,31 @@
+-- What of a request says what it asks for.
+use Rattle.std.specs.Prelude.{ℕ, List, [], ◌∷◌, codes, ◌||◌, is_some, Option, Some, None, if◌then◌else◌}
+use Rattle.http.specs.declared.request.Request.{Request}
+use Rattle.http.specs.Request.{head_of}
+use Rattle.http_header.specs.FieldValue.{FieldValue}
+use Rattle.http_header.specs.HeaderMap.{Entries, get_all}
+use Rattle.http_uri.specs.declared.uri.Uri.{Uri}
+use Rattle.http_uri.specs.Uri.{uri_authority, uri_path, uri_query}
+
+-- the bytes of the one value
+abbrev pub only_one : List FieldValue → Option (List ℕ)
+only_one [] = None
+only_one (value ∷ []) = Some value.bytes
+only_one (value ∷ other ∷ values) = None
+
+-- the value of the one field Host
+abbrev pub host_in : Entries FieldValue → Option (List ℕ)
+host_in headers = only_one (get_all headers (codes "host"))
+
+-- the path, nothing where the target names a host or has a query
+abbrev pub target_in : Uri → List ℕ
+target_in uri = if is_some (uri_authority uri) || is_some (uri_query uri) then [] else uri_path uri
+
+abbrev pub method_of : Request (List ℕ) → List ℕ
+method_of request = (head_of request).method
+
+abbrev pub host_of : Request (List ℕ) → Option (List ℕ)
+host_of request = host_in (head_of request).headers
+
+abbrev pub target_of : Request (List ℕ) → List ℕ
+target_of request = target_in (head_of request).uri

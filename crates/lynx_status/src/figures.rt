@@ -1,0 +1,51 @@
+//! The figures of a service.
+ghost use Rattle.std.specs.Prelude.{◌≡◌};
+ghost use Rattle.lynx_status.specs.Figures.{all_run};
+
+use crate::begins::Begins;
+use crate::commits::CommitTimes;
+use crate::deliveries::Deliveries;
+use lynx_names::{ServerId, Stamp};
+
+/// What a service has done since it was opened, and how it is.
+#[derive(Debug, Drop)]
+pub struct Figures {
+    /// Those of each server of its set, in order.
+    pub servers: Vec<ServerFigures>,
+    /// Connections of clients that are open.
+    pub connections: u64,
+    /// Sessions that were made.
+    pub sessions: u64,
+    /// Bytes of the answers that clients were told.
+    pub told_bytes: u64,
+    /// Seconds since it listens.
+    pub uptime_seconds: u64,
+}
+
+/// What one server has done since it was opened, and how it is.
+#[derive(Clone, Copy, Debug, PartialEq, Eq)]
+pub struct ServerFigures {
+    pub server: ServerId,
+    /// Whether it answers: it isn't stopped.
+    pub is_running: bool,
+    /// Entries of its history, those of earlier services too.
+    pub entries: u64,
+    /// The stamp of its last entry.
+    pub clock: Stamp,
+    /// Messages that it holds.
+    pub held: u64,
+    /// Hops of begun chains that are owed to it: those that it hasn't run.
+    pub owed: u64,
+    pub begins: Begins,
+    pub deliveries: Deliveries,
+    pub commits: CommitTimes,
+}
+
+impl Figures {
+    /// Whether no server is stopped.
+    pub fn all_run(&self) -> bool
+        ensures { result ≡ all_run self.now.servers.items }
+    {
+        self.servers.iter().all(|server| server.is_running)
+    }
+}

@@ -1,0 +1,44 @@
+//! What a running service tells of itself over HTTP/1.1: how it is, its figures for Prometheus, a
+//! page for people, its set, and how far a chain has come. Whoever knows the figures is a
+//! [`Watched`]; sockets, threads and clocks are its business and the caller's.
+#![tactic(auto)]
+
+pub use asking::{Asked, Refusal, asked_for};
+pub use begins::Begins;
+pub use chain::{ChainFigures, HopFigures, RanHop, chain_json};
+pub use commits::CommitTimes;
+pub use deliveries::Deliveries;
+pub use desk::StatusDesk;
+pub use figures::{Figures, ServerFigures};
+pub use hashing::set_hash;
+pub use health::health_text;
+pub use metrics::metrics_text;
+pub use page::page_text;
+pub use recent::{RecentEntry, RecentKind};
+pub use watched::Watched;
+
+mod answering;
+pub mod asking;
+pub mod begins;
+pub mod chain;
+mod chart;
+pub mod commits;
+pub mod deliveries;
+pub mod desk;
+pub mod figures;
+mod gauges;
+pub mod hashing;
+pub mod health;
+mod hosts;
+pub mod metrics;
+mod outcomes;
+pub mod page;
+mod paths;
+mod question;
+pub mod recent;
+mod reply;
+mod script;
+mod style;
+mod tables;
+mod timing;
+pub mod watched;

@@ -1,0 +1,43 @@
+//! What a request of HTTP asks for.
+ghost use Rattle.std.specs.Prelude.{◌≡◌};
+ghost use Rattle.std.specs.Option.{option_copied};
+ghost use Rattle.lynx_status.specs.Asking.{IsAsked};
+ghost use Rattle.lynx_status.specs.Questions.{host_in, host_of, method_of, target_in, target_of};
+
+use crate::asking::{Asked, Refusal, asked_for};
+use bytes::Bytes;
+use http::{HeaderMap, Request, Uri, header};
+
+/// The value of the one field Host. None where there is none, or more than one: of these only a
+/// request at HTTP/1.0 that has none comes here, since `http1` refuses the others.
+fn host_in(headers: &HeaderMap) -> Option<&[u8]>
+    ensures { option_copied result ≡ host_in headers.now }
+{
+    let mut hosts = headers.get_all(header::HOST).iter();
+    let host = hosts.next()?;
+    match hosts.next() {
+        Some(_) => None,
+        None => Some(host.as_bytes()),
+    }
+}
+
+/// The path of a target, nothing where the target names a host or has a query.
+fn target_in(uri: &Uri) -> &str
+    ensures { result.now ≡ target_in uri.now }
+{
+    if uri.authority().is_some() || uri.query().is_some() {
+        ""
+    } else {
+        uri.path()
+    }
+}
+
+/// What a request asks for.
+pub(crate) fn question_of(request: &Request<Bytes>) -> Result<Asked, Refusal>
+    ensures { IsAsked (method_of request.now) (host_of request.now) (target_of request.now)
+        result }
+{
+    let method = request.method().as_str().as_bytes();
+    let path = target_in(request.uri()).as_bytes();
+    asked_for(method, host_in(request.headers()), path)
+}

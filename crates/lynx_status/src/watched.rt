@@ -1,0 +1,37 @@
+//! Who knows what a status tells.
+use crate::chain::ChainFigures;
+use crate::figures::Figures;
+use crate::recent::RecentEntry;
+use lynx_names::{ChainId, Memory};
+
+/// A service that is looked at: what it says of itself, at the moment at which it is asked.
+pub trait Watched {
+    ghost use Rattle.std.specs.Prelude.{◌≡◌, ℕ, List, IfOk};
+    ghost use Rattle.lynx_status.specs.Watching.{Finds, Tells};
+
+    // Which figures it may tell, and what it may find of a chain, each from one state of it to the
+    // next; and the text of its set.
+    ghost tells: { Tells Self };
+
+    ghost finds: { Finds Self };
+
+    ghost set_of: { Self → List ℕ };
+
+    /// The figures of the service and of each of its servers.
+    fn figures(&mut self) -> Result<Figures, Memory>
+        ensures { IfOk result (λ figures. tells self.old figures self.new) };
+
+    /// How far a chain has come, None where there is no such chain.
+    fn chain(&mut self, chain: ChainId) -> Result<Option<ChainFigures>, Memory>
+        ensures { IfOk result (λ found. finds self.old chain found self.new) };
+
+    /// The last entries of all servers, stamps rising: a hundred say.
+    fn recent(&mut self) -> Result<Vec<RecentEntry>, Memory>;
+
+    /// The text of the set.
+    fn set_text(&self) -> &[u8]
+        ensures { result.now ≡ set_of self.now };
+
+    /// Whether the service is to end, so that connections are closed.
+    fn is_ending(&self) -> bool;
+}

@@ -35,15 +35,15 @@ fn no_memory() -> io::Error {
 }
 
 impl<'a> Board<'a> {
-    /// Tells clients that the service listens there: the file is made under another name, and
-    /// renamed when it is whole. One that is there is written over: a service that was killed left
-    /// it.
-    pub fn put_up(&self, address: SocketAddr) -> io::Result<()> {
+    /// Tells clients that the service listens there, and where it tells its status, if it does:
+    /// the file is made under another name, and renamed when it is whole. One that is there is
+    /// written over: a service that was killed left it.
+    pub fn put_up(&self, address: SocketAddr, status: Option<SocketAddr>) -> io::Result<()> {
         let alloc = self.rt.alloc();
         let folder = self.folder;
         let notice = Notice {
             port: address.port(),
-            status: None,
+            status: status.map(|address| address.port()),
             set: self.set,
         };
         let Ok(text) = notice_text(alloc, notice) else {

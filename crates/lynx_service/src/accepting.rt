@@ -1,61 +1,121 @@
-//! Accepting clients, so many at a time.
+//! Accepting clients, so many at a time, and beside them those that watch.
 ghost use Rattle.std.specs.Thread.{IsSend, IsSync};
 
 use crate::hall::Hall;
 use crate::limits::RETRY_MILLIS;
-use crate::talking::talk;
-use lynx_cluster::{Front, Gate, Session};
+use crate::log::Log;
+use crate::status::Status;
+use crate::talking::{knock, talk};
+use crate::tally::Tally;
+use crate::watching::{WatchPort, watch_all};
+use lynx_cluster::{Front, Session};
 use lynx_keep::Keeper;
 use lynx_notice::Board;
 use std::alloc::Global;
 use std::net::{Net, SocketAddr, TcpListener, TcpStream};
 use std::sync::Wait;
-use std::thread;
 use std::thread::Threads;
 use std::time::{Clock, Duration};
+use std::{io, thread};
+
+/// Where a service listens.
+#[derive(Drop)]
+pub(crate) struct Ports {
+    /// To clients.
+    pub(crate) listener: TcpListener,
+    pub(crate) address: SocketAddr,
+    /// To whoever watches it, if it is to be watched.
+    pub(crate) watch: Option<WatchPort>,
+}
+
+impl Ports {
+    /// Where the status is told, if it is.
+    pub(crate) fn watch_address(&self) -> Option<SocketAddr> {
+        self.watch.as_ref().map(|watch| watch.address)
+    }
+}
+
+/// The stream of a client that came, if it is let in.
+fn let_in<R: Wait + Clock>(
+    rt: &R,
+    hall: &Hall,
+    log: Log,
+    came: io::Result<TcpStream>,
+) -> Option<TcpStream> {
+    let Ok(stream) = came else {
+        thread::sleep(rt, Duration::from_millis(RETRY_MILLIS));
+        return None;
+    };
+    if !hall.enter(rt) {
+        log.refused(hall.clients(rt));
+        return None;
+    }
+    Some(stream)
+}
+
+/// Nobody is let in any more, nor told that there is a service; whoever accepts those that watch is
+/// knocked at until it sees so.
+fn close_doors<R: Wait + Clock + Net<Listener = TcpListener, Stream = TcpStream>>(
+    rt: &R,
+    hall: &Hall,
+    board: &Board<'_>,
+    watched_at: Option<SocketAddr>,
+) {
+    board.take_down();
+    hall.door().close();
+    if let Some(address) = watched_at {
+        knock(rt, hall.watch_door(), address);
+    }
+}
 
 /// Serves clients at the listener until one asks for the end and all have gone, and gives their
 /// sessions back. Each has a thread of its own. One for which there is no thread is hung up on, and
-/// so is each beyond [`MAX_CLIENTS`](crate::limits::MAX_CLIENTS). Once the end is asked for, the
-/// board's notice is taken down.
+/// so is each beyond [`MAX_CLIENTS`](crate::limits::MAX_CLIENTS). Beside them those are answered
+/// that watch. Once the end is asked for, the board's notice is taken down.
 pub(crate) fn serve_clients<
-    R: Threads + Wait + Clock + Sync + Net<Listener = TcpListener, Stream = TcpStream>,
+    'x,
+    R: Threads + Wait + Clock + Copy + Sync + Net<Listener = TcpListener, Stream = TcpStream>,
     K: Keeper + Send + Drop,
-    G: Gate + Send + Sync + Drop,
 >(
-    rt: &R,
+    rt: &'x R,
     alloc: Global,
-    front: &Front<K, G>,
-    listener: &TcpListener,
-    port: SocketAddr,
-    board: &Board<'_>,
-) -> Vec<Session> {
+    front: &'x Front<K, Tally<R>>,
+    ports: &Ports,
+    board: &Board<'x>,
+    log: Log,
+) -> Vec<Session>
+where
+    R: Send,
+{
     let shared = Hall::new(alloc);
     let hall = &shared;
+    let port = ports.address;
+    let status = Status::new(rt, alloc, front, hall, board.set);
     thread::scope(
         thread::scope_env(),
         rt,
         |scope| -> ()
-            requires { IsSync R.row × IsSend K.row × IsSend G.row × IsSync G.row }
+            requires { IsSync R.row × IsSend R.row × IsSend K.row }
         {
-            for stream in listener.incoming() {
+            let mut watched_at = None;
+            if let Some(watch) = &ports.watch {
+                let shared = status.share();
+                let started = scope.spawn(move || watch_all(rt, alloc, shared, watch));
+                watched_at = started.is_ok().then_some(watch.address);
+            }
+            for came in ports.listener.incoming() {
                 if hall.ending().is_asked() {
                     break;
                 }
-                let Ok(stream) = stream else {
-                    thread::sleep(rt, Duration::from_millis(RETRY_MILLIS));
+                let Some(stream) = let_in(rt, hall, log, came) else {
                     continue;
                 };
-                if !hall.enter(rt) {
-                    continue;
-                }
-                let started = scope.spawn(move || talk(rt, alloc, front, stream, hall, port));
+                let started = scope.spawn(move || talk(rt, alloc, front, stream, hall, port, log));
                 if started.is_err() {
                     hall.leave(rt, None);
                 }
             }
-            board.take_down();
-            hall.close();
+            close_doors(rt, hall, board, watched_at);
         },
     );
     shared.into_sessions()

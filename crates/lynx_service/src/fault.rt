@@ -62,6 +62,9 @@ pub enum ServeFault {
     /// The port can't be listened at.
     #[error("cannot listen")]
     Listen,
+    /// The port at which the status is to be told can't be listened at.
+    #[error("cannot listen for the status")]
+    ListenStatus,
     /// The file by which clients find the service can't be made in its folder.
     #[error("cannot write the file service")]
     Board,

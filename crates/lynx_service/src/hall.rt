@@ -1,10 +1,11 @@
-//! Who is in: the clients whose connections are open, and the sessions that wait for the next.
+//! Who is in: the clients whose connections are open, the sessions that wait for the next, and
+//! those that watch the service.
 use crate::ending::Ending;
-use crate::limits::MAX_CLIENTS;
+use crate::limits::{MAX_CLIENTS, MAX_WATCHERS};
 use lynx_cluster::{Front, Gate, Session};
 use lynx_keep::Keeper;
 use std::alloc::Global;
-use std::sync::atomic::{AtomicBool, Ordering};
+use std::sync::atomic::{AtomicBool, AtomicU64, Ordering};
 use std::sync::{Mutex, Wait};
 
 /// The clients of a service.
@@ -16,6 +17,31 @@ struct Clients {
     sessions: Vec<Session>,
 }
 
+/// Whether those who come to a port are still let in.
+#[derive(Drop)]
+pub(crate) struct Door {
+    is_closed: AtomicBool,
+}
+
+impl Door {
+    /// It is open.
+    fn new() -> Door {
+        Door {
+            is_closed: AtomicBool::new(false),
+        }
+    }
+
+    /// Nobody is let in any more.
+    pub(crate) fn close(&self) {
+        self.is_closed.store(true, Ordering::SeqCst);
+    }
+
+    /// Whether nobody is let in any more.
+    pub(crate) fn is_closed(&self) -> bool {
+        self.is_closed.load(Ordering::SeqCst)
+    }
+}
+
 /// What the threads of a service share. A connection that ends leaves its session to the next one,
 /// with all that it was told, so that a service makes no more of them than it has clients at a
 /// time.
@@ -23,7 +49,18 @@ struct Clients {
 pub(crate) struct Hall {
     clients: Mutex<Clients>,
     ending: Ending,
-    is_closed: AtomicBool,
+    /// That of clients.
+    door: Door,
+    /// That of those who watch.
+    watch_door: Door,
+    /// Sessions that were made.
+    made: AtomicU64,
+    /// Bytes that clients were told.
+    told: AtomicU64,
+    /// .. and those who watch.
+    shown: AtomicU64,
+    /// How many connections watch.
+    watchers: AtomicU64,
 }
 
 impl Hall {
@@ -35,7 +72,12 @@ impl Hall {
                 sessions: Vec::new(alloc),
             }),
             ending: Ending::new(),
-            is_closed: AtomicBool::new(false),
+            door: Door::new(),
+            watch_door: Door::new(),
+            made: AtomicU64::new(0),
+            told: AtomicU64::new(0),
+            shown: AtomicU64::new(0),
+            watchers: AtomicU64::new(0),
         }
     }
 
@@ -44,14 +86,14 @@ impl Hall {
         &self.ending
     }
 
-    /// Nobody is let in any more.
-    pub(crate) fn close(&self) {
-        self.is_closed.store(true, Ordering::SeqCst);
+    /// The door of clients.
+    pub(crate) fn door(&self) -> &Door {
+        &self.door
     }
 
-    /// Whether nobody is let in any more.
-    pub(crate) fn is_closed(&self) -> bool {
-        self.is_closed.load(Ordering::SeqCst)
+    /// The door of those who watch.
+    pub(crate) fn watch_door(&self) -> &Door {
+        &self.watch_door
     }
 
     /// Lets one more client in, with room for its session when it goes. False where as many are in
@@ -76,7 +118,13 @@ impl Hall {
         let left = self.clients.lock(rt).sessions.pop();
         match left {
             Some(session) => Some(session),
-            None => front.session(rt, alloc),
+            None => {
+                let made = front.session(rt, alloc);
+                if made.is_some() {
+                    self.made.fetch_add(1, Ordering::SeqCst);
+                }
+                made
+            }
         }
     }
 
@@ -87,6 +135,45 @@ impl Hall {
         if let Some(session) = session {
             let _ = clients.sessions.push(session);
         }
+    }
+
+    /// How many clients are in.
+    pub(crate) fn clients<R: Wait>(&self, rt: &R) -> u64 {
+        self.clients.lock(rt).count
+    }
+
+    /// How many sessions were made.
+    pub(crate) fn sessions(&self) -> u64 {
+        self.made.load(Ordering::SeqCst)
+    }
+
+    /// How many bytes clients were told.
+    pub(crate) fn told(&self) -> &AtomicU64 {
+        &self.told
+    }
+
+    /// The same, as a number.
+    pub(crate) fn told_bytes(&self) -> u64 {
+        self.told.load(Ordering::SeqCst)
+    }
+
+    /// How many bytes those were told that watch, which is no figure of the service.
+    pub(crate) fn shown(&self) -> &AtomicU64 {
+        &self.shown
+    }
+
+    /// Lets one more watch. False where as many do as may.
+    pub(crate) fn watch(&self) -> bool {
+        if self.watchers.fetch_add(1, Ordering::SeqCst) < MAX_WATCHERS {
+            return true;
+        }
+        self.unwatch();
+        false
+    }
+
+    /// One who watched goes.
+    pub(crate) fn unwatch(&self) {
+        self.watchers.fetch_sub(1, Ordering::SeqCst);
     }
 
     /// The sessions of all that were in.

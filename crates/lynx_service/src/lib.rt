@@ -8,10 +8,12 @@ pub use desk::ClientDesk;
 pub use ending::Ending;
 pub use fault::{CloseWord, Damage, ServeFault, StoreWord};
 pub use limits::{
-    MAX_CLIENTS, MAX_CLOSING_SECONDS, MAX_IDLE_SECONDS, MAX_SHUT_SECONDS, MAX_WRITE_SECONDS,
+    MAX_CLIENTS, MAX_CLOSING_SECONDS, MAX_IDLE_SECONDS, MAX_SHUT_SECONDS, MAX_WATCH_SECONDS,
+    MAX_WATCHERS, MAX_WRITE_SECONDS,
 };
+pub use log::Log;
 pub use progress::Progress;
-pub use service::{Service, serve_stores};
+pub use service::{Service, StatusPort, serve_stores};
 
 mod accepting;
 pub mod closing;
@@ -20,8 +22,12 @@ pub mod ending;
 pub mod fault;
 mod hall;
 pub mod limits;
+pub mod log;
 mod opening;
 mod patience;
 pub mod progress;
 pub mod service;
+mod status;
 mod talking;
+mod tally;
+mod watching;

@@ -16,6 +16,13 @@ pub const MAX_CLOSING_SECONDS: u64 = 10;
 /// Seconds for which a client may leave answers untaken, from the first byte on that doesn't go.
 pub const MAX_WRITE_SECONDS: u64 = 10;
 
+/// Connections that watch the status of a service at a time, at most. A further one is closed
+/// unread.
+pub const MAX_WATCHERS: u64 = 8;
+
+/// Seconds after which a connection that watches is read no more: whoever goes on connects again.
+pub const MAX_WATCH_SECONDS: u64 = 20;
+
 /// Milliseconds after which a read or a write that waits looks whether it has to end.
 pub(crate) const TICK_MILLIS: u64 = 250;
 

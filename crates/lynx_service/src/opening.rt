@@ -1,6 +1,9 @@
 //! Opening the stores and the port.
+use crate::accepting::Ports;
 use crate::fault::ServeFault;
 use crate::progress::Progress;
+use crate::service::{Service, StatusPort};
+use crate::watching::WatchPort;
 use lynx_keep::Keeper;
 use lynx_names::ServerId;
 use lynx_set::ChainSet;
@@ -8,8 +11,8 @@ use lynx_store::StoreFault;
 use lynx_store_files::Stores;
 use std::alloc::Global;
 use std::net::{Ipv4Addr, Net, SocketAddr, TcpListener, TcpStream};
-use std::thread;
 use std::thread::Threads;
+use std::{io, thread};
 
 /// Threads that open stores, at most: as many as a set has servers.
 const OPENERS: usize = 16;
@@ -126,17 +129,48 @@ pub(crate) fn keepers<K: Drop, S: Stores<K>>(
     Ok(keepers)
 }
 
-/// Listens at the port of this machine itself, and gives the address, in which a port 0 is one that
-/// was free.
-pub(crate) fn listen<R: Net<Listener = TcpListener, Stream = TcpStream>>(
+/// Listens to clients, and to those who watch where the service is to be watched.
+pub(crate) fn listen_at_all<R: Net<Listener = TcpListener, Stream = TcpStream>>(
     rt: &R,
-    port: u16,
-) -> Result<(TcpListener, SocketAddr), ServeFault> {
-    let Ok(listener) = TcpListener::bind(rt, (Ipv4Addr::LOCALHOST, port)) else {
+    service: Service<'_>,
+) -> Result<Ports, ServeFault> {
+    let Ok((listener, address)) = listen(rt, service.port) else {
         return Err(ServeFault::Listen);
     };
-    match listener.local_addr() {
-        Ok(address) => Ok((listener, address)),
-        Err(_) => Err(ServeFault::Listen),
-    }
+    let watch = match service.status {
+        Some(status) => Some(listen_to_watchers(rt, status)?),
+        None => None,
+    };
+    Ok(Ports {
+        listener,
+        address,
+        watch,
+    })
+}
+
+/// Listens to those who watch.
+fn listen_to_watchers<R: Net<Listener = TcpListener, Stream = TcpStream>>(
+    rt: &R,
+    status: StatusPort,
+) -> Result<WatchPort, ServeFault> {
+    let Ok((listener, address)) = listen(rt, status.port) else {
+        return Err(ServeFault::ListenStatus);
+    };
+    Ok(WatchPort {
+        listener,
+        address,
+        keys: status.keys,
+        version: status.version,
+    })
+}
+
+/// Listens at the port of this machine itself, and gives the address, in which a port 0 is one that
+/// was free.
+fn listen<R: Net<Listener = TcpListener, Stream = TcpStream>>(
+    rt: &R,
+    port: u16,
+) -> io::Result<(TcpListener, SocketAddr)> {
+    let listener = TcpListener::bind(rt, (Ipv4Addr::LOCALHOST, port))?;
+    let address = listener.local_addr()?;
+    Ok((listener, address))
 }

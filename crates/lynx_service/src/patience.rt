@@ -1,9 +1,12 @@
 //! Reading what a client sends and writing what it is answered, with patience that ends.
 use crate::ending::Ending;
-use crate::limits::{MAX_IDLE_SECONDS, MAX_SHUT_SECONDS, MAX_WRITE_SECONDS, TICK_MILLIS};
+use crate::limits::{
+    MAX_IDLE_SECONDS, MAX_SHUT_SECONDS, MAX_WATCH_SECONDS, MAX_WRITE_SECONDS, TICK_MILLIS,
+};
 use std::io::{self, ErrorKind, Read, Write};
 use std::net::TcpStream;
 use std::sync::Wait;
+use std::sync::atomic::{AtomicU64, Ordering};
 use std::time::{Clock, Duration, Instant};
 
 /// Ticks for which a client may be silent.
@@ -11,6 +14,9 @@ const IDLE_TICKS: u64 = MAX_IDLE_SECONDS * 1000 / TICK_MILLIS;
 
 /// The same, once the service is to end.
 const SHUT_TICKS: u64 = MAX_SHUT_SECONDS * 1000 / TICK_MILLIS;
+
+/// Ticks for which a connection may watch.
+const WATCH_TICKS: u64 = MAX_WATCH_SECONDS * 1000 / TICK_MILLIS;
 
 /// Ticks for which a client may take nothing.
 const WRITE_TICKS: u64 = MAX_WRITE_SECONDS * 1000 / TICK_MILLIS;
@@ -27,6 +33,7 @@ pub(crate) struct PatientReader<'a, R> {
     rt: &'a R,
     stream: &'a TcpStream,
     ending: &'a Ending,
+    is_over: bool,
 }
 
 impl<'a, R> PatientReader<'a, R> {
@@ -36,7 +43,17 @@ impl<'a, R> PatientReader<'a, R> {
         stream: &'a TcpStream,
         ending: &'a Ending,
     ) -> PatientReader<'a, R> {
-        PatientReader { rt, stream, ending }
+        PatientReader {
+            rt,
+            stream,
+            ending,
+            is_over: false,
+        }
+    }
+
+    /// Whether its input ended by what it didn't send, and not by itself.
+    pub(crate) fn is_over(&self) -> bool {
+        self.is_over
     }
 }
 
@@ -56,6 +73,56 @@ impl<R: Wait + Clock> Read for PatientReader<'_, R> {
                 done => return done,
             }
         }
+        self.is_over = true;
+        Ok(0)
+    }
+}
+
+/// What is read of a connection that watches, over a stream whose reads end after [`TICK_MILLIS`].
+/// Once its time is over, or the service is to end, its input has ended.
+#[derive(Drop)]
+pub(crate) struct BriefReader<'a, R> {
+    rt: &'a R,
+    stream: &'a TcpStream,
+    ending: &'a Ending,
+    since: Option<Instant>,
+}
+
+impl<'a, R: Clock> BriefReader<'a, R> {
+    /// Of this stream, in a service of that ending, from now on.
+    pub(crate) fn new(rt: &'a R, stream: &'a TcpStream, ending: &'a Ending) -> BriefReader<'a, R> {
+        BriefReader {
+            rt,
+            stream,
+            ending,
+            since: Instant::now(rt).ok(),
+        }
+    }
+
+    /// Whether its time is over. So it is where no clock can tell.
+    fn is_over(&self) -> bool {
+        let Some(since) = self.since else {
+            return true;
+        };
+        match since.elapsed(self.rt) {
+            Ok(elapsed) => elapsed >= Duration::from_secs(MAX_WATCH_SECONDS),
+            Err(_) => true,
+        }
+    }
+}
+
+impl<R: Clock> Read for BriefReader<'_, R> {
+    fn read(&mut self, buf: &mut [u8]) -> io::Result<usize> {
+        for _ in 0..WATCH_TICKS {
+            if self.ending.is_asked() || self.is_over() {
+                break;
+            }
+            let mut stream = self.stream;
+            match stream.read(buf) {
+                Err(error) if is_tick(&error) => {}
+                done => return done,
+            }
+        }
         Ok(0)
     }
 }
@@ -67,6 +134,8 @@ pub(crate) struct PatientWriter<'a, R> {
     rt: &'a R,
     stream: &'a TcpStream,
     ending: &'a Ending,
+    /// Bytes that went, of all who write.
+    told: &'a AtomicU64,
     /// When the first byte didn't go, where some still don't.
     since: Option<Instant>,
 }
@@ -77,11 +146,13 @@ impl<'a, R: Wait + Clock> PatientWriter<'a, R> {
         rt: &'a R,
         stream: &'a TcpStream,
         ending: &'a Ending,
+        told: &'a AtomicU64,
     ) -> PatientWriter<'a, R> {
         PatientWriter {
             rt,
             stream,
             ending,
+            told,
             since: None,
         }
     }
@@ -119,6 +190,7 @@ impl<R: Wait + Clock> Write for PatientWriter<'_, R> {
             let mut stream = self.stream;
             match stream.write(buf) {
                 Ok(count) => {
+                    self.told.fetch_add(count as u64, Ordering::SeqCst);
                     self.note(count >= buf.len());
                     return Ok(count);
                 }

@@ -5,12 +5,14 @@ ghost use Rattle.lynx_weave.specs.Senders.{AreAllSent};
 ghost use Rattle.lynx_weave.specs.Servers.{AreServersOf, histories_of};
 ghost use Rattle.lynx_service.specs.Services.{AppendsSome, HasServed};
 
-use crate::accepting::serve_clients;
+use crate::accepting::{Ports, serve_clients};
 use crate::closing::{end, end_unheard};
 use crate::fault::ServeFault;
-use crate::opening::{judge, keepers, listen, open_there, places};
+use crate::log::Log;
+use crate::opening::{judge, keepers, listen_at_all, open_there, places};
 use crate::progress::Progress;
-use lynx_cluster::{Cluster, Host, OpenGate, Opened, Session};
+use crate::tally::Tally;
+use lynx_cluster::{Cluster, Host, Opened, Session};
 use lynx_keep::Keeper;
 use lynx_lines::write_bytes;
 use lynx_notice::Board;
@@ -18,37 +20,55 @@ use lynx_order::Explained;
 use lynx_set::ChainSet;
 use lynx_store_files::Stores;
 use std::alloc::Global;
+use std::hash::RandomState;
 use std::io::{ErrorKind, Write};
-use std::net::{Net, SocketAddr, TcpListener, TcpStream};
-use std::sync::Wait;
+use std::net::{Net, TcpListener, TcpStream};
 use std::thread::Threads;
-use std::time::Clock;
+use std::time::Instant;
 
 /// What is served, and where.
-#[derive(Clone, Copy, Debug, PartialEq, Eq)]
+#[derive(Clone, Copy, Debug)]
 pub struct Service<'a> {
     /// The folder of the stores.
     pub folder: &'a str,
     /// The port of 127.0.0.1.
     pub port: u16,
+    /// Where the status of the service is told, if it is.
+    pub status: Option<StatusPort>,
 }
 
-/// Tells clients that they are listened to, and where: by the board, and by a line.
+/// A port of 127.0.0.1 at which a service tells its status over HTTP.
+#[derive(Clone, Copy, Debug)]
+pub struct StatusPort {
+    pub port: u16,
+    /// By what the names of headers are hashed, which whoever asks chooses: to be drawn at random.
+    pub keys: RandomState,
+    /// The version of the program, which it tells.
+    pub version: &'static str,
+}
+
+/// Tells clients that they are listened to, and where: by the board, and by a line; and by another
+/// where the status is told.
 fn write_listening<W: Write>(
     alloc: Global,
-    address: SocketAddr,
+    ports: &Ports,
     board: &Board<'_>,
     writer: &mut W,
 ) -> Result<(), ServeFault>
     ensures { OnOk result (AppendsSome (W.contents writer.old) (W.contents writer.new)) }
 {
-    match board.put_up(address) {
+    let status = ports.watch_address();
+    match board.put_up(ports.address, status) {
         Ok(()) => {}
         Err(error) if error.kind() == ErrorKind::OutOfMemory => return Err(ServeFault::Memory),
         Err(_) => return Err(ServeFault::Board),
     }
-    let line = format!(in alloc; "listening {address}\n")?;
-    write_bytes(writer, line.as_bytes())?;
+    let mut lines = format!(in alloc; "listening {}\n", ports.address)?;
+    if let Some(status) = status {
+        let line = format!(in alloc; "status {status}\n")?;
+        lines.push_str(line.as_str())?;
+    }
+    write_bytes(writer, lines.as_bytes())?;
     match writer.flush() {
         Ok(()) => Ok(()),
         Err(_) => Err(ServeFault::Write),
@@ -58,23 +78,29 @@ fn write_listening<W: Write>(
 /// Serves clients once it is told that they are listened to, and gives their sessions back. In the
 /// end nothing is told on the board.
 fn serve_when_told<
-    R: Threads + Wait + Clock + Sync + Net<Listener = TcpListener, Stream = TcpStream>,
+    R: Host + Net<Listener = TcpListener, Stream = TcpStream>,
     K: Keeper + Send + Drop,
     W: Write,
 >(
     rt: &R,
     alloc: Global,
-    cluster: &Cluster<K, OpenGate>,
-    listener: &TcpListener,
-    address: SocketAddr,
+    cluster: &Cluster<K, Tally<R>>,
+    ports: &Ports,
     board: &Board<'_>,
+    log: Log,
     writer: &mut W,
 ) -> (Vec<Session>, Result<(), ServeFault>)
     ensures { OnOk result.1 (AppendsSome (W.contents writer.old) (W.contents writer.new)) }
 {
-    let written = write_listening(alloc, address, board, writer);
+    let written = write_listening(alloc, ports, board, writer);
     let sessions = match written {
-        Ok(()) => serve_clients(rt, alloc, cluster.front(), listener, address, board),
+        Ok(()) => {
+            log.listening(ports.address, ports.watch_address());
+            let sessions = serve_clients(rt, alloc, cluster.front(), ports, board, log);
+            let front = cluster.front();
+            log.closing(front.gate().all_owed(front.set()));
+            sessions
+        }
         Err(_) => {
             board.take_down();
             Vec::new(alloc)
@@ -96,7 +122,7 @@ fn open_all<
     stores: &S,
     service: Service<'_>,
     progress: &Progress<'_>,
-) -> Result<(Opened<K>, TcpListener, SocketAddr), ServeFault>
+) -> Result<(Opened<K>, Ports), ServeFault>
     ensures set { IfOk result (λ all. all.0.set ≡ set.now) }
     ensures servers { IfOk result (λ all. AreServersOf all.0.set all.0.servers.items) }
     ensures opened { IfOk result (λ all. (keepers : List K)
@@ -113,21 +139,22 @@ fn open_all<
         progress,
     );
     judge(stores, places.as_slice())?;
-    let (listener, address) = listen(rt, service.port)?;
+    let ports = listen_at_all(rt, service)?;
     let keepers = keepers(alloc, set, stores, service.folder, places)?;
     progress.starts();
     let opened = Opened::open(alloc, set, keepers)?;
     progress.compares();
     opened.check(alloc)?;
-    Ok((opened, listener, address))
+    Ok((opened, ports))
 }
 
 /// Serves clients over the stores of a folder, until one of them asks for the end: opens the stores
 /// that are there, side by side; listens at the port; makes the stores of a new folder; looks
 /// whether all stores fit together; tells on the board where it listens and what it serves, and
-/// writes `listening 127.0.0.1:PORT`; takes the board's notice down as soon as a shut was read; and
-/// writes in the end `closed` and the line of the order that explains all that the stores hold, or
-/// of a cycle. It gives that order or cycle. docs/FORMATS.md has what clients send and are sent,
+/// writes `listening 127.0.0.1:PORT`, and where its status is told `status 127.0.0.1:PORT`; takes
+/// the board's notice down as soon as a shut was read; and writes in the end `closed` and the line
+/// of the order that explains all that the stores hold, or of a cycle. It gives that order or
+/// cycle. docs/FORMATS.md has what clients send and are sent,
 /// [`limits`](crate::limits) what a client may cost. The set is not judged.
 ///
 /// Stores that no one run left together are a mismatch, before anybody is served: one that is an
@@ -150,24 +177,38 @@ pub fn serve_stores<
     writer: &mut W,
     progress: &Progress<'_>,
     board: &Board<'_>,
+    log: Log,
 ) -> Result<Explained, ServeFault>
     ensures { IfOk result (HasServed K.terms set.now
         (W.contents writer.old) (W.contents writer.new)) }
 {
     let opened = open_all(&rt, alloc, set, stores, service, progress);
     progress.ends();
-    let (opened, listener, address) = opened?;
-    let cluster = opened.start(rt, alloc, OpenGate)?;
-    let (sessions, written) = serve_when_told(
-        &rt, alloc, &cluster, &listener, address, board, writer,
-    );
-    drop(listener);
+    let (opened, ports) = opened?;
+    for server in opened.servers() {
+        log.opened(server.server(), server.history().len());
+    }
+    let tally = Tally::of(rt, alloc, log, opened.servers())?;
+    let cluster = opened.start(rt, alloc, tally)?;
+    let (sessions, written) = serve_when_told(&rt, alloc, &cluster, &ports, board, log, writer);
+    drop(ports);
     progress.closes();
+    let since = Instant::now(&rt).ok();
     let closed = cluster.close(&rt, alloc, sessions);
+    let took = since.and_then(|since| since.elapsed(&rt).ok());
     progress.ends();
     if let Err(fault) = written {
         end_unheard(stores, closed);
         return Err(fault);
     }
-    end(alloc, stores, closed?, writer)
+    match closed {
+        Ok(closed) => {
+            log.audited(true, took);
+            end(alloc, stores, closed, writer)
+        }
+        Err(fault) => {
+            log.audited(false, took);
+            Err(ServeFault::from(fault))
+        }
+    }
 }

@@ -1,12 +1,12 @@
 //! One client's connection, from its first byte to its end.
 use crate::desk::ClientDesk;
-use crate::ending::Ending;
-use crate::hall::Hall;
+use crate::hall::{Door, Hall};
 use crate::limits::{RETRY_MILLIS, TICK_MILLIS};
+use crate::log::{Leave, Log};
 use crate::patience::{PatientReader, PatientWriter};
 use lynx_cluster::{Front, Gate, Session};
 use lynx_keep::Keeper;
-use lynx_port::{Desk, serve};
+use lynx_port::{Desk, PortFault, Served, serve};
 use std::alloc::Global;
 use std::io::Read;
 use std::net::{Net, Shutdown, SocketAddr, TcpListener, TcpStream};
@@ -19,7 +19,7 @@ use std::time::{Clock, Duration};
 const LAST_READS: u32 = 16;
 
 /// Has reads and writes of the stream end after a tick. Whether it can be done.
-fn set_limits(stream: &TcpStream) -> bool {
+pub(crate) fn set_limits(stream: &TcpStream) -> bool {
     let tick = Duration::from_millis(TICK_MILLIS);
     let _ = stream.set_nodelay(true);
     stream.set_read_timeout(Some(tick)).is_ok() && stream.set_write_timeout(Some(tick)).is_ok()
@@ -39,32 +39,48 @@ fn hang_up(mut stream: &TcpStream) {
     }
 }
 
-/// Serves one client over its stream.
+/// Why a connection ended whose input ended by silence or not.
+fn leave_of(done: Result<Served, PortFault>, was_silent: bool) -> Leave {
+    match done {
+        Ok(served) if served.shut => Leave::Shut,
+        Ok(_) if was_silent => Leave::Silence,
+        Ok(_) => Leave::Quit,
+        Err(PortFault::Bad(_)) if was_silent => Leave::Silence,
+        Err(PortFault::Bad(_) | PortFault::NotAsked) => Leave::NoFrame,
+        Err(PortFault::Read) => Leave::Quit,
+        Err(PortFault::Write) => Leave::NotTaken,
+        Err(PortFault::Turns | PortFault::Memory) => Leave::Limit,
+    }
+}
+
+/// Serves one client over its stream, and tells why that ended.
 fn serve_stream<R: Wait + Clock, D: Desk>(
     rt: &R,
     alloc: Global,
     stream: &TcpStream,
-    ending: &Ending,
+    hall: &Hall,
     desk: &mut D,
-) {
+) -> Leave {
     if !set_limits(stream) {
-        return;
+        return Leave::Limit;
     }
-    let mut reader = PatientReader::new(rt, stream, ending);
-    let mut writer = PatientWriter::new(rt, stream, ending);
-    let _ = serve(alloc, &mut reader, &mut writer, desk);
+    let mut reader = PatientReader::new(rt, stream, hall.ending());
+    let mut writer = PatientWriter::new(rt, stream, hall.ending(), hall.told());
+    let done = serve(alloc, &mut reader, &mut writer, desk);
     hang_up(stream);
+    leave_of(done, reader.is_over())
 }
 
-/// Serves one client by that session, which is given back.
+/// Serves one client by that session, which is given back, and tells why that ended.
 fn serve_by<R: Wait + Clock, K: Keeper + Drop, G: Gate + Drop>(
     rt: &R,
     alloc: Global,
     front: &Front<K, G>,
     session: Session,
     stream: &TcpStream,
-    ending: &Ending,
-) -> Session {
+    hall: &Hall,
+) -> (Session, Leave) {
+    let ending = hall.ending();
     let mut desk = ClientDesk {
         rt,
         alloc,
@@ -72,7 +88,7 @@ fn serve_by<R: Wait + Clock, K: Keeper + Drop, G: Gate + Drop>(
         session,
         ending,
     };
-    serve_stream(rt, alloc, stream, ending, &mut desk);
+    let leave = serve_stream(rt, alloc, stream, hall, &mut desk);
     let ClientDesk {
         rt: _,
         alloc: _,
@@ -80,19 +96,19 @@ fn serve_by<R: Wait + Clock, K: Keeper + Drop, G: Gate + Drop>(
         session,
         ending: _,
     } = desk;
-    session
+    (session, leave)
 }
 
-/// Knocks at the port until nobody is let in any more, so that who accepts sees that the service is
+/// Knocks at the port until its door is closed, so that who accepts sees that the service is
 /// to end. A knock takes a file handle, so it is made again where none is left: those of the other
 /// clients are given back within [`MAX_CLOSING_SECONDS`](crate::limits::MAX_CLOSING_SECONDS).
-fn knock<R: Wait + Clock + Net<Listener = TcpListener, Stream = TcpStream>>(
+pub(crate) fn knock<R: Wait + Clock + Net<Listener = TcpListener, Stream = TcpStream>>(
     rt: &R,
-    hall: &Hall,
+    door: &Door,
     port: SocketAddr,
 ) {
     for _ in rt.forever() {
-        if hall.is_closed() {
+        if door.is_closed() {
             break;
         }
         let _ = rt.connect(port);
@@ -106,15 +122,25 @@ pub(crate) fn talk<
     R: Wait + Clock + Net<Listener = TcpListener, Stream = TcpStream>,
     K: Keeper + Drop,
     G: Gate + Drop,
->(rt: &R, alloc: Global, front: &Front<K, G>, stream: TcpStream, hall: &Hall, port: SocketAddr) {
+>(
+    rt: &R,
+    alloc: Global,
+    front: &Front<K, G>,
+    stream: TcpStream,
+    hall: &Hall,
+    port: SocketAddr,
+    log: Log,
+) {
     let Some(session) = hall.session(rt, alloc, front) else {
         hall.leave(rt, None);
         return;
     };
-    let session = serve_by(rt, alloc, front, session, &stream, hall.ending());
+    log.taken(hall.clients(rt));
+    let (session, leave) = serve_by(rt, alloc, front, session, &stream, hall);
     drop(stream);
     hall.leave(rt, Some(session));
+    log.gone(leave, hall.clients(rt));
     if hall.ending().is_asked() {
-        knock(rt, hall, port);
+        knock(rt, hall.door(), port);
     }
 }

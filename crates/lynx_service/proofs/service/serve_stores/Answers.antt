@@ -2,9 +2,9 @@ use Rattle.std.proofs.Common.{rules}
 use Rattle.lynx_service.proofs.Ends.{ends_well, of_ok}
 use Rattle.lynx_service.proofs.service.serve_stores.Goals as goal
 
-pub returns : goal.returns
-returns g c =
+pub returns-in-Ok : goal.returns-in-Ok
+returns-in-Ok g c =
     let all = c.in_ok-opened.ensures in
     ends_well g.K.Keeper.terms c.args.set.now _ all.opened.0 _ _ _ _ (g.W.Write.contents c.args.writer.now) _ (g.W.Write.contents c.end.new.writer)
-    c.in_ok-closed.field-0.world c.end.result all.set all.opened.1 all.sent c.in_ok-cluster.ensures.started c.in_ok-closed.ensures.closed
+    c.in-Ok.closed.world c.end.result all.set all.opened.1 all.sent c.in_ok-cluster.ensures.started c.in-Ok.ensures.closed
     (of_ok _ _ _ c.in_default.is c.serve_when_told-sessions.ensures) c.end.ensures

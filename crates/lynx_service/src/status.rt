@@ -1,0 +1,218 @@
+//! What is known of a running service by whoever watches it.
+ghost use Rattle.std.specs.Prelude.{ℕ, List};
+
+use crate::hall::Hall;
+use crate::tally::Tally;
+use lynx_cluster::Front;
+use lynx_codec::Looked;
+use lynx_entry::Entry;
+use lynx_keep::Keeper;
+use lynx_lex::name::Name;
+use lynx_names::{ChainId, Memory, ProgramId, ServerId};
+use lynx_status::{
+    ChainFigures, Figures, HopFigures, RanHop, RecentEntry, RecentKind, ServerFigures, Watched,
+};
+use std::alloc::Global;
+use std::sync::Wait;
+use std::time::{Clock, Instant};
+
+/// How many entries are shown of all servers together.
+const MOST_RECENT: usize = 100;
+
+/// A service that is watched: its cluster, its counts, and who is in.
+#[derive(Drop)]
+pub(crate) struct Status<'a, R: Wait + Clock, K: Keeper> {
+    pub(crate) rt: &'a R,
+    pub(crate) alloc: Global,
+    pub(crate) front: &'a Front<K, Tally<R>>,
+    pub(crate) hall: &'a Hall,
+    /// The text of its set.
+    pub(crate) set: &'a [u8],
+    /// When it began to listen.
+    pub(crate) since: Option<Instant>,
+}
+
+impl<'a, R: Wait + Clock, K: Keeper> Status<'a, R, K> {
+    /// Of a service that listens from now on.
+    pub(crate) fn new(
+        rt: &'a R,
+        alloc: Global,
+        front: &'a Front<K, Tally<R>>,
+        hall: &'a Hall,
+        set: &'a [u8],
+    ) -> Status<'a, R, K> {
+        Status {
+            rt,
+            alloc,
+            front,
+            hall,
+            set,
+            since: Instant::now(rt).ok(),
+        }
+    }
+
+    /// The same, for one more who watches.
+    pub(crate) fn share(&self) -> Status<'a, R, K> {
+        Status {
+            rt: self.rt,
+            alloc: self.alloc,
+            front: self.front,
+            hall: self.hall,
+            set: self.set,
+            since: self.since,
+        }
+    }
+
+    /// Seconds since the service began to listen, 0 where no clock can tell.
+    fn uptime_seconds(&self) -> u64 {
+        match self.since {
+            Some(since) => match since.elapsed(self.rt) {
+                Ok(elapsed) => elapsed.as_secs(),
+                Err(_) => 0,
+            },
+            None => 0,
+        }
+    }
+
+    /// The name of a program of the set.
+    fn name_of(&self, program: ProgramId) -> Option<Name> {
+        let (name, _) = self.front.set().programs().get_index(program.index())?;
+        Some(*name)
+    }
+
+    /// The figures of one server. None where the cluster has no such server.
+    fn server_figures(&self, server: ServerId) -> Option<ServerFigures> {
+        let tally = self.front.gate();
+        let glance = self.front.glance(self.rt, server)?;
+        let counts = tally.counts(server)?;
+        Some(ServerFigures {
+            server,
+            is_running: glance.is_running,
+            entries: glance.entries,
+            clock: glance.clock,
+            held: glance.held,
+            owed: tally.owed(self.front.set(), server),
+            begins: counts.begins,
+            deliveries: counts.deliveries,
+            commits: counts.commits,
+        })
+    }
+
+    /// What there is of that hop of a chain. None where its program has no such hop.
+    fn hop_figures(
+        &self,
+        program: ProgramId,
+        chain: ChainId,
+        hop: u8,
+    ) -> Result<Option<HopFigures>, Memory> {
+        let Some(asked) = self.front.set().hop(program, usize::from(hop)) else {
+            return Ok(None);
+        };
+        let server = asked.server;
+        let looked = self.front.recall(self.rt, self.alloc, server, chain, hop)?;
+        let ran = match looked {
+            Looked::Found { stamp, results } => Some(RanHop { stamp, results }),
+            Looked::Absent => None,
+        };
+        Ok(Some(HopFigures { hop, server, ran }))
+    }
+
+    /// What is shown of an entry. None where its program has no name.
+    fn recent_entry(&self, server: ServerId, entry: &Entry) -> Option<RecentEntry> {
+        let (program, kind) = match entry {
+            Entry::Begun(begun) => (begun.request.program, RecentKind::Begun(begun.chain)),
+            Entry::Refused(refused) => (refused.request.program, RecentKind::Refused),
+            Entry::Hop(ran) => {
+                let kind = RecentKind::Hop {
+                    chain: ran.message.chain,
+                    hop: ran.message.hop,
+                };
+                (ran.message.program, kind)
+            }
+        };
+        Some(RecentEntry {
+            server,
+            stamp: entry.stamp(),
+            program: self.name_of(program)?,
+            kind,
+        })
+    }
+
+    /// Adds what is shown of the last entries of a server.
+    fn put_recent(&self, server: ServerId, recent: &mut Vec<RecentEntry>) -> Result<(), Memory> {
+        let entries = self
+            .front
+            .last_entries(self.rt, self.alloc, server, MOST_RECENT)?;
+        for entry in entries.as_slice() {
+            if let Some(shown) = self.recent_entry(server, entry) {
+                recent.push(shown)?;
+            }
+        }
+        Ok(())
+    }
+}
+
+impl<R: Wait + Clock, K: Keeper> Watched for Status<'_, R, K> {
+    // What is counted beside the locks, and what stands behind them, no clause can say.
+    ghost tells = { λ old figures new. Unit {0} };
+
+    ghost finds = { λ old chain found new. Unit {0} };
+
+    ghost set_of = { λ status. status.set.now };
+
+    fn figures(&mut self) -> Result<Figures, Memory> {
+        let mut servers = Vec::new(self.alloc);
+        for number in 0..self.front.set().servers() {
+            if let Some(figures) = self.server_figures(ServerId::at(number)) {
+                servers.push(figures)?;
+            }
+        }
+        Ok(Figures {
+            servers,
+            connections: self.hall.clients(self.rt),
+            sessions: self.hall.sessions(),
+            told_bytes: self.hall.told_bytes(),
+            uptime_seconds: self.uptime_seconds(),
+        })
+    }
+
+    fn chain(&mut self, chain: ChainId) -> Result<Option<ChainFigures>, Memory> {
+        let Some(program) = self.front.program_of(self.rt, &chain) else {
+            return Ok(None);
+        };
+        let Some(name) = self.name_of(program) else {
+            return Ok(None);
+        };
+        let mut hops = Vec::new(self.alloc);
+        for hop in 0..=u8::MAX {
+            let Some(figures) = self.hop_figures(program, chain, hop)? else {
+                break;
+            };
+            hops.push(figures)?;
+        }
+        Ok(Some(ChainFigures {
+            chain,
+            program: name,
+            hops,
+        }))
+    }
+
+    fn recent(&mut self) -> Result<Vec<RecentEntry>, Memory> {
+        let mut recent = Vec::new(self.alloc);
+        for number in 0..self.front.set().servers() {
+            self.put_recent(ServerId::at(number), &mut recent)?;
+        }
+        recent.sort_by_key(|entry| entry.stamp.time())?;
+        let older = recent.len().saturating_sub(MOST_RECENT);
+        recent.drain(..older);
+        Ok(recent)
+    }
+
+    fn set_text(&self) -> &[u8] {
+        self.set
+    }
+
+    fn is_ending(&self) -> bool {
+        self.hall.ending().is_asked()
+    }
+}

@@ -1,0 +1,211 @@
+//! What is counted of a running service, by server: what begins were answered, what deliveries came
+//! to, how long steps took that kept an entry, and what is needed to tell how many hops are owed.
+use crate::log::Log;
+use lynx_cluster::{Gate, Passage};
+use lynx_entry::{Answer, Delivered, Entry};
+use lynx_keep::Keeper;
+use lynx_names::limits::MAX_PROGRAMS;
+use lynx_names::{Memory, ProgramId, ServerId};
+use lynx_server::Server;
+use lynx_set::ChainSet;
+use lynx_status::{Begins, CommitTimes, Deliveries};
+use std::alloc::Global;
+use std::sync::{Mutex, Wait};
+use std::time::{Clock, Instant};
+
+const PROGRAMS: usize = MAX_PROGRAMS as usize;
+
+/// What is counted of one server. All but the chains and the hops is of this service alone.
+#[derive(Clone, Copy)]
+pub(crate) struct Counts {
+    pub(crate) begins: Begins,
+    pub(crate) deliveries: Deliveries,
+    pub(crate) commits: CommitTimes,
+    /// Chains that began here, by their program: of all the history.
+    begun: [u64; PROGRAMS],
+    /// Later hops that ran here: of all the history.
+    hops: u64,
+    /// Its store failed.
+    has_stopped: bool,
+    /// When the step began that is made now, or the last one ended under the same lock.
+    since: Option<Instant>,
+}
+
+/// One more.
+fn count(counter: &mut u64) {
+    *counter = counter.saturating_add(1);
+}
+
+impl Counts {
+    /// Of a server that goes on after that history.
+    fn of(history: &[Entry]) -> Counts {
+        let mut counts = Counts {
+            begins: Begins::new(),
+            deliveries: Deliveries::new(),
+            commits: CommitTimes::new(),
+            begun: [0; PROGRAMS],
+            hops: 0,
+            has_stopped: false,
+            since: None,
+        };
+        for entry in history {
+            match entry {
+                Entry::Begun(begun) => counts.count_chain(begun.request.program),
+                Entry::Refused(_) => {}
+                Entry::Hop(_) => count(&mut counts.hops),
+            }
+        }
+        counts
+    }
+
+    /// One more chain of that program began.
+    fn count_chain(&mut self, program: ProgramId) {
+        if let Some(counter) = self.begun.get_mut(program.index()) {
+            count(counter);
+        }
+    }
+
+    /// A step ended: how long it took, if it kept an entry.
+    fn end_step(&mut self, has_kept: bool, now: Option<Instant>) {
+        if let (true, Some(since), Some(now)) = (has_kept, self.since, now) {
+            let micros = now.duration_since(since).as_micros();
+            self.commits
+                .count(u64::try_from(micros).unwrap_or(u64::MAX));
+        }
+        self.since = now;
+    }
+
+    /// The server answered that it stopped. Whether that is new.
+    fn note_stop(&mut self) -> bool {
+        let is_new = !self.has_stopped;
+        self.has_stopped = true;
+        is_new
+    }
+
+    /// A begin of that program was answered so.
+    fn note_answer(&mut self, program: ProgramId, answer: &Answer, now: Option<Instant>) {
+        self.begins.count(answer);
+        let has_begun = matches!(answer, Answer::Begun { again: false, .. });
+        if has_begun {
+            self.count_chain(program);
+        }
+        let has_refused = matches!(answer, Answer::Refused { again: false, .. });
+        self.end_step(has_begun || has_refused, now);
+    }
+
+    /// A delivery came to that.
+    fn note_delivery(&mut self, delivered: &Delivered, now: Option<Instant>) {
+        self.deliveries.count(delivered);
+        let is_done = matches!(delivered, Delivered::Done { .. });
+        if is_done {
+            count(&mut self.hops);
+        }
+        self.end_step(is_done, now);
+    }
+
+    /// How many later hops of the chains that began here are for that server.
+    fn sent_to(&self, set: &ChainSet, server: ServerId) -> u64 {
+        let mut sent: u64 = 0;
+        for number in 0..MAX_PROGRAMS {
+            let Some(program) = ProgramId::new(number) else {
+                break;
+            };
+            let later = set.hops(program).iter().skip(1);
+            let here = later.filter(|hop| hop.server == server).count() as u64;
+            let begun = self.begun[usize::from(number)];
+            sent = sent.saturating_add(begun.saturating_mul(here));
+        }
+        sent
+    }
+}
+
+/// The counts of all servers. It is what a cluster tells of its steps, so that each is counted
+/// under its server's lock.
+#[derive(Drop)]
+pub(crate) struct Tally<R> {
+    rt: R,
+    log: Log,
+    servers: Vec<Mutex<Counts>>,
+}
+
+impl<R: Wait + Clock + Copy> Tally<R> {
+    /// Of servers that go on after their histories, which are gone over once.
+    pub(crate) fn of<K: Keeper>(
+        rt: R,
+        alloc: Global,
+        log: Log,
+        opened: &[Server<K>],
+    ) -> Result<Tally<R>, Memory> {
+        let mut servers = Vec::with_capacity(alloc, opened.len())?;
+        for server in opened {
+            servers.push(Mutex::new(Counts::of(server.history())))?;
+        }
+        Ok(Tally { rt, log, servers })
+    }
+}
+
+impl<R: Wait + Clock> Tally<R> {
+    /// The counts of that server now.
+    pub(crate) fn counts(&self, server: ServerId) -> Option<Counts> {
+        let counts = self.servers.as_slice().get(server.index())?;
+        Some(*counts.lock(&self.rt))
+    }
+
+    /// How many hops are owed to all servers.
+    pub(crate) fn all_owed(&self, set: &ChainSet) -> u64 {
+        let mut owed: u64 = 0;
+        for number in 0..set.servers() {
+            owed = owed.saturating_add(self.owed(set, ServerId::at(number)));
+        }
+        owed
+    }
+
+    /// How many hops are owed to that server: those of chains that began, but for those that ran.
+    /// Where steps go on meanwhile, one that began just now may be missing.
+    pub(crate) fn owed(&self, set: &ChainSet, server: ServerId) -> u64 {
+        let ran = match self.counts(server) {
+            Some(counts) => counts.hops,
+            None => return 0,
+        };
+        let mut sent: u64 = 0;
+        for counts in self.servers.as_slice() {
+            sent = sent.saturating_add(counts.lock(&self.rt).sent_to(set, server));
+        }
+        sent.saturating_sub(ran)
+    }
+}
+
+impl<R: Wait + Clock> Gate for Tally<R> {
+    fn enter(&self, server: ServerId, _passage: Passage) {
+        let now = Instant::now(&self.rt).ok();
+        if let Some(counts) = self.servers.as_slice().get(server.index()) {
+            counts.lock(&self.rt).since = now;
+        }
+    }
+
+    fn leave(&self, _server: ServerId, _passage: Passage) {}
+
+    fn answered(&self, server: ServerId, program: ProgramId, answer: &Answer) {
+        let now = Instant::now(&self.rt).ok();
+        let Some(counts) = self.servers.as_slice().get(server.index()) else {
+            return;
+        };
+        let mut counts = counts.lock(&self.rt);
+        counts.note_answer(program, answer, now);
+        if matches!(answer, Answer::Stopped) && counts.note_stop() {
+            self.log.stopped(server);
+        }
+    }
+
+    fn delivered(&self, server: ServerId, delivered: &Delivered) {
+        let now = Instant::now(&self.rt).ok();
+        let Some(counts) = self.servers.as_slice().get(server.index()) else {
+            return;
+        };
+        let mut counts = counts.lock(&self.rt);
+        counts.note_delivery(delivered, now);
+        if matches!(delivered, Delivered::Stopped) && counts.note_stop() {
+            self.log.stopped(server);
+        }
+    }
+}

@@ -1,0 +1,3 @@
+pub mod Refillings
+pub mod Storings
+pub mod Summings

@@ -1,0 +1,4 @@
+pub mod Refills
+pub mod Restored
+pub mod Void
+pub mod Lines

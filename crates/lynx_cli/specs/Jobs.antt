@@ -2,11 +2,12 @@
 use Rattle.std.specs.Prelude.{◌≡◌, ◌≢◌, ◌⊎◌, ℕ, List, Option, Some, None, IsSome, Result, Ok, Err, codes, Bool, false, true, unwrap_or}
 use Rattle.clap.specs.Words.{Row, Text, first_of, one_of}
 use Rattle.lynx_cli.specs.declared.job.Job.{Job}
-use Rattle.lynx_cli.specs.declared.job.Job.TheVariants.{Ask, AskFolder, Audit, Chart, Check, Draw, Extend, Owed, Run, RunInput, RunStores, Sample, Serve, Show, Upgrade}
+use Rattle.lynx_cli.specs.declared.job.Job.TheVariants.{Ask, AskFolder, Audit, Chart, Check, Draw, Extend, Owed, Restore, Run, RunInput, RunStores, Sample, Serve, Show, Upgrade}
 use Rattle.lynx_cli.specs.declared.job.RunFlags.{RunFlags}
 use Rattle.lynx_cli.specs.declared.job.SampleFlags.{SampleFlags}
+use Rattle.lynx_cli.specs.declared.job.ServeFlags.{ServeFlags}
 use Rattle.lynx_cli.specs.declared.job.CommandFault.{CommandFault}
-use Rattle.lynx_cli.specs.declared.job.CommandFault.TheVariants.{NoScript, ScriptTooMany, StoresOfInput, WalkOfRun, LateOfRun, WalkAndLate, NoCommand, NotUtf8}
+use Rattle.lynx_cli.specs.declared.job.CommandFault.TheVariants.{NoScript, ScriptTooMany, StoresOfInput, WalkOfRun, LateOfRun, WalkAndLate, StatusOfFolder, NoCommand, NotUtf8}
 use Rattle.lynx_draw.specs.declared.shown.Extent.{Extent}
 use Rattle.lynx_draw.specs.declared.shown.Extent.TheVariants.{All, Walk, Late}
 
@@ -60,10 +61,11 @@ AskedBy command (Ok (Sample set flags)) = command ≡ Some (codes "sample")
 AskedBy command (Ok (Show store)) = command ≡ Some (codes "show")
 AskedBy command (Ok (Upgrade store)) = command ≡ Some (codes "upgrade")
 AskedBy command (Ok (Extend folder set)) = command ≡ Some (codes "extend")
-AskedBy command (Ok (Serve set folder port)) = command ≡ Some (codes "serve")
+AskedBy command (Ok (Serve set folder port flags)) = command ≡ Some (codes "serve")
 AskedBy command (Ok (Audit folder)) = command ≡ Some (codes "audit")
+AskedBy command (Ok (Restore from folder)) = command ≡ Some (codes "restore")
 AskedBy command (Ok (Owed folder)) = command ≡ Some (codes "owed")
-AskedBy command (Ok (Ask set port)) = command ≡ Some (codes "ask")
+AskedBy command (Ok (Ask set port status)) = command ≡ Some (codes "ask")
 AskedBy command (Ok (AskFolder folder)) = command ≡ Some (codes "ask")
 AskedBy command (Ok (Run set script flags)) = command ≡ Some (codes "run")
 AskedBy command (Ok (RunStores set script folder flags)) = command ≡ Some (codes "run")
@@ -74,13 +76,14 @@ AskedBy command (Err StoresOfInput) = command ≡ Some (codes "run")
 AskedBy command (Err WalkOfRun) = command ≡ Some (codes "draw")
 AskedBy command (Err LateOfRun) = command ≡ Some (codes "draw")
 AskedBy command (Err WalkAndLate) = command ≡ Some (codes "draw")
+AskedBy command (Err StatusOfFolder) = command ≡ Some (codes "ask")
 AskedBy command (Err NoCommand) =
     (command ≢ None) × (command ≢ Some (codes "check")) × (command ≢ Some (codes "draw"))
     × (command ≢ Some (codes "run")) × (command ≢ Some (codes "show"))
     × (command ≢ Some (codes "upgrade")) × (command ≢ Some (codes "sample"))
     × (command ≢ Some (codes "extend")) × (command ≢ Some (codes "serve"))
     × (command ≢ Some (codes "ask")) × (command ≢ Some (codes "audit"))
-    × (command ≢ Some (codes "owed"))
+    × (command ≢ Some (codes "owed")) × (command ≢ Some (codes "restore"))
 AskedBy command (Err NotUtf8) = ⊥
 
 -- the text that was found under a name, `-` where none was
@@ -105,6 +108,15 @@ pub record AreSampleFlags (rows : List Row) (flags : SampleFlags) : Type 0 where
   pub seed : one_of (codes "seed") rows ≡ None → flags.seed ≡ 0
   pub begins : one_of (codes "begins") rows ≡ None → flags.begins ≡ 8
   pub effort : one_of (codes "effort") rows ≡ None → flags.effort ≡ 200000
+
+-- a port is told only where one was found under its name
+abbrev pub IsPort : Text → List Row → Option ℕ → Type 0
+IsPort name rows port = one_of name rows ≡ None → port ≡ None
+
+-- what a service does besides was found so
+pub record AreServeFlags (rows : List Row) (flags : ServeFlags) : Type 0 where
+  pub status : IsPort (codes "status") rows flags.status
+  pub log : IsFlag (codes "log") rows flags.log
 
 -- a run of the files and the folder that were found, with the flags that were
 pub record RunsFound (rows : List Row) (job : Result Job CommandFault) : Type 0 where
@@ -134,12 +146,16 @@ TakesFound rows (Ok (Show store)) = store.now ≡ text_at (codes "STORE") rows
 TakesFound rows (Ok (Upgrade store)) = store.now ≡ text_at (codes "STORE") rows
 TakesFound rows (Ok (Extend folder set)) =
     (folder.now ≡ text_at (codes "DIR") rows) × (set.now ≡ text_at (codes "SET") rows)
-TakesFound rows (Ok (Serve set folder port)) =
+TakesFound rows (Ok (Serve set folder port flags)) =
     (set.now ≡ text_at (codes "SET") rows) × (folder.now ≡ text_at (codes "DIR") rows)
+    × AreServeFlags rows flags
 TakesFound rows (Ok (Audit folder)) = folder.now ≡ text_at (codes "DIR") rows
+TakesFound rows (Ok (Restore from folder)) =
+    (from.now ≡ text_at (codes "FROM") rows) × (folder.now ≡ text_at (codes "DIR") rows)
 TakesFound rows (Ok (Owed folder)) = folder.now ≡ text_at (codes "DIR") rows
-TakesFound rows (Ok (Ask set port)) =
+TakesFound rows (Ok (Ask set port status)) =
     (set.now ≡ text_at (codes "SET") rows) × IsSome (first_of (codes "PORT") rows)
+    × IsPort (codes "status") rows status
 TakesFound rows (Ok (AskFolder folder)) =
     (folder.now ≡ text_at (codes "SET") rows) × (first_of (codes "PORT") rows ≡ None)
 TakesFound rows (Ok (Run set script flags)) = RunsFound rows (Ok (Run set script flags))
@@ -152,6 +168,7 @@ TakesFound rows (Err StoresOfInput) = RunsFound rows (Err StoresOfInput)
 TakesFound rows (Err WalkOfRun) = DrawsFound rows (Err WalkOfRun)
 TakesFound rows (Err LateOfRun) = DrawsFound rows (Err LateOfRun)
 TakesFound rows (Err WalkAndLate) = DrawsFound rows (Err WalkAndLate)
+TakesFound rows (Err StatusOfFolder) = first_of (codes "PORT") rows ≡ None
 TakesFound rows (Err NoCommand) = Unit {0}
 TakesFound rows (Err NotUtf8) = ⊥
 

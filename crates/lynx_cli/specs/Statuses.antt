@@ -1,7 +1,7 @@
 -- The exit statuses.
 use Rattle.std.specs.Prelude.{ℕ, Bool, false, Result, Ok, Err}
 use Rattle.lynx_cli.specs.declared.fault.Fault.{Fault}
-use Rattle.lynx_cli.specs.declared.fault.Fault.TheVariants.{Ask, Command, Memory, NoSeparator, NoService, Sample, Script, Serve, Set, Store, Unread, Write}
+use Rattle.lynx_cli.specs.declared.fault.Fault.TheVariants.{Ask, Command, Memory, NoSeparator, NoService, NoStatus, Occupied, OtherSet, Sample, Script, Serve, Set, Store, Unread, Write}
 use Rattle.lynx_sample.specs.declared.fault.SampleFault.{SampleFault}
 use Rattle.lynx_sample.specs.declared.fault.SampleFault.TheVariants.{NoCycle, TooLong, Run as Stopped}
 use Rattle.lynx_report.specs.declared.run.RunFault.{RunFault}
@@ -36,6 +36,9 @@ status_of (Store fault) = 4
 status_of (Serve fault) = 4
 status_of (Ask fault) = 4
 status_of NoService = 4
+status_of NoStatus = 4
+status_of OtherSet = 4
+status_of Occupied = 4
 status_of (Sample fault) = status_of_sampling fault
 status_of Write = 4
 status_of Memory = 3

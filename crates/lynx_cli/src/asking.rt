@@ -1,4 +1,5 @@
 //! Asking a service what the lines of standard input ask.
+use crate::comparing::compare_sets;
 use crate::fault::Fault;
 use crate::hints::{Hints, Named};
 use crate::job::INPUT;
@@ -138,12 +139,14 @@ fn ask_at<'a, R: Net<Listener = TcpListener, Stream = TcpStream>, W: Write>(
     done
 }
 
-/// Asks the service at the port what the lines of standard input ask, by the set of a file.
+/// Asks the service at the port what the lines of standard input ask, by the set of a file, which
+/// is compared first where the port of its status is told.
 pub(crate) fn ask_port<'a, R: Net<Listener = TcpListener, Stream = TcpStream>, W: Write>(
     host: &HostRuntime,
     rt: &R,
     name: &'a str,
     port: u16,
+    status: Option<u16>,
     hints: &mut Hints,
     writer: &mut W,
 ) -> Result<u8, Fault<'a>> {
@@ -154,7 +157,11 @@ pub(crate) fn ask_port<'a, R: Net<Listener = TcpListener, Stream = TcpStream>, W
         Err(fault) => Err(Fault::of_run(fault)),
     };
     hints.note_set(host.alloc(), Named::new(name, text), &set);
-    ask_at(host, rt, &set?, port, hints, writer)
+    let set = set?;
+    if let Some(status) = status {
+        compare_sets(host, rt, &set, status, hints)?;
+    }
+    ask_at(host, rt, &set, port, hints, writer)
 }
 
 /// As many bytes of the notice of a service are read at most: its lines, and a set's text with one
@@ -180,7 +187,8 @@ fn told_in<'a>(host: &HostRuntime, folder: &str) -> Result<Option<Vec<u8>>, Faul
 }
 
 /// Asks the service over the stores of the folder what the lines of standard input ask, by the set
-/// that it serves.
+/// that it serves. What the folder tells may be left by a service that was killed, so the set is
+/// compared where the port of a status is told.
 pub(crate) fn ask_folder<'a, R: Net<Listener = TcpListener, Stream = TcpStream>, W: Write>(
     host: &HostRuntime,
     rt: &R,
@@ -201,5 +209,8 @@ pub(crate) fn ask_folder<'a, R: Net<Listener = TcpListener, Stream = TcpStream>,
         Ok(set) => set,
         Err(fault) => return Err(Fault::of_run(fault)),
     };
+    if let Some(status) = notice.status {
+        compare_sets(host, rt, &set, status, hints)?;
+    }
     ask_at(host, rt, &set, notice.port, hints, writer)
 }

@@ -18,17 +18,17 @@ use std::fs;
 use std::io::{ErrorKind, Write};
 
 /// A keeper over the copy of a store.
-type CopyKeeper = SqlKeeper<FileStore<Memory>>;
+pub(crate) type CopyKeeper = SqlKeeper<FileStore<Memory>>;
 
 /// The stores of a folder: the set that they are of, and a keeper over a copy of each.
 #[derive(Drop)]
-struct Copies {
-    set: ChainSet,
-    keepers: Vec<CopyKeeper>,
+pub(crate) struct Copies {
+    pub(crate) set: ChainSet,
+    pub(crate) keepers: Vec<CopyKeeper>,
 }
 
 /// What a person at a terminal is told meanwhile.
-const READING: &str = "\rlynx: reading what the stores hold\x1b[K";
+pub(crate) const READING: &str = "\rlynx: reading what the stores hold\x1b[K";
 
 /// Why the store of that server, at that path, was not copied. One that isn't there beside that of
 /// server 0 is lost.
@@ -101,7 +101,7 @@ fn keepers_of<'a>(
 }
 
 /// Copies of the stores of the folder.
-fn copies_of<'a>(rt: &HostRuntime, folder: &str) -> Result<Copies, Fault<'a>>
+pub(crate) fn copies_of<'a>(rt: &HostRuntime, folder: &str) -> Result<Copies, Fault<'a>>
     ensures { IfOk result (λ copies. length copies.keepers.items ≡ copies.set.servers) }
 {
     let set = set_of(rt, folder)?;

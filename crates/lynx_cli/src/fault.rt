@@ -11,7 +11,9 @@ use lynx_lex::TextFault;
 use lynx_names::ServerId;
 use lynx_report::RunFault;
 use lynx_rerun::RerunFault;
+use lynx_restore::RestoreFault;
 use lynx_sample::SampleFault;
+use lynx_server::OpenFault;
 use lynx_service::{CloseWord, Damage, ServeFault, StoreWord};
 use lynx_show::{ShowFault, TakeFault};
 use lynx_store::StoreFault;
@@ -49,6 +51,15 @@ pub enum Fault<'a> {
     /// Nothing in the folder tells of a service.
     #[error("no service")]
     NoService,
+    /// The folder has stores, where new ones are to be made.
+    #[error("there are stores already")]
+    Occupied,
+    /// Nothing at the port tells the status of a service, with its set.
+    #[error("no status")]
+    NoStatus,
+    /// The service has another set than the one by which it is asked.
+    #[error("other-set")]
+    OtherSet,
     /// No script was made; never for what stops a run too.
     #[error("{0}")]
     Sample(SampleFault),
@@ -189,6 +200,27 @@ impl<'a> Fault<'a> {
         }
     }
 
+    /// The fault of making new stores of copies, told as a service tells it.
+    pub(crate) fn of_restoring(fault: RestoreFault) -> Fault<'a> {
+        match fault {
+            RestoreFault::Copy { server, fault } => Fault::of_contents(server, fault),
+            RestoreFault::Store { server, fault } => Fault::of_store(server, fault),
+            RestoreFault::Taken { .. } => Fault::Occupied,
+            RestoreFault::Memory => Fault::Memory,
+        }
+    }
+
+    /// The fault of what the store of that server holds, told as a service tells it.
+    fn of_contents(server: ServerId, fault: OpenFault) -> Fault<'a> {
+        let word = match fault {
+            OpenFault::Damaged { place } => StoreWord::Damaged(Damage::At { place }),
+            OpenFault::Store => StoreWord::Store,
+            OpenFault::Memory => return Fault::Memory,
+        };
+        let server = server.number();
+        Fault::Serve(ServeFault::Store { server, word })
+    }
+
     /// The fault of making a script.
     pub fn of_sampling(fault: SampleFault) -> Fault<'a>
         ensures { result ≡ sampling_fault fault }
@@ -207,7 +239,7 @@ impl<'a> Fault<'a> {
         match self {
             Fault::Command(_) | Fault::NoSeparator | Fault::Set(_) | Fault::Script(_) => 2,
             Fault::Unread(_) | Fault::Store(_) | Fault::Serve(_) | Fault::Ask(_) => 4,
-            Fault::NoService => 4,
+            Fault::NoService | Fault::NoStatus | Fault::OtherSet | Fault::Occupied => 4,
             Fault::Sample(SampleFault::NoCycle) => 1,
             Fault::Sample(SampleFault::TooLong) => 2,
             Fault::Sample(SampleFault::Run(fault)) => status_of_run(*fault),

@@ -8,13 +8,17 @@ use crate::job::INPUT;
 use crate::reading::is_named_pipe;
 use crate::shown::Shown;
 use crate::spots::spot_of;
+use crate::texts::OFFENDING;
 use lynx_ask::AskFault;
 use lynx_hints::{Part, begin_hints, hint, separator_hint};
 use lynx_lex::TextFault;
+use lynx_reasons::mends;
+use lynx_restore::VoidRequest;
 use lynx_service::{Damage, ServeFault, StoreWord};
 use lynx_set::ChainSet;
 use lynx_text::parse;
-use std::alloc::Global;
+use std::alloc::{AllocError, Global};
+use std::fmt::Write as _;
 use std::io::Read;
 use std::net::{Ipv4Addr, Net, TcpListener, TcpStream};
 use std::rt::Files;
@@ -43,6 +47,20 @@ impl<'a> Named<'a> {
 pub struct Hints {
     is_wanted: bool,
     lines: Option<String>,
+}
+
+/// A line for each request whose answer is void.
+fn void_lines(alloc: Global, void: &[VoidRequest]) -> Result<String, AllocError> {
+    let mut lines = String::new(alloc);
+    for request in void {
+        let (client, number) = (request.client.number(), request.number);
+        let server = request.server;
+        writeln!(
+            lines,
+            "  void: what client {client} was answered under its number {number}, at server {server}"
+        )?;
+    }
+    Ok(lines)
 }
 
 /// The error with which a file can't be opened, or its first byte not be read. A pipe isn't opened,
@@ -111,6 +129,24 @@ impl Hints {
             if self.is_wanted {
                 self.note_fault(alloc, set, Part::Set, *fault);
             }
+        }
+    }
+
+    /// Notes what might mend a set that was found to offend.
+    pub(crate) fn note_mends(
+        &mut self,
+        alloc: Global,
+        set: Named<'_>,
+        done: &Result<u8, Fault<'_>>,
+    ) {
+        if !self.is_wanted || !matches!(done, Ok(OFFENDING)) {
+            return;
+        }
+        let Ok(set) = parse(alloc, set.text) else {
+            return;
+        };
+        if let Ok(lines) = mends(alloc, &set) {
+            self.lines = String::from_utf8(lines).ok();
         }
     }
 
@@ -251,6 +287,13 @@ impl Hints {
             self.lines = format!(in alloc;
                 "  {folder}/service tells of none: lynx serve SET {folder} PORT makes it, and takes it away when it ends\n"
             ).ok();
+        }
+    }
+
+    /// Notes the requests whose answers are void, since they were cut off.
+    pub(crate) fn note_void(&mut self, alloc: Global, void: &[VoidRequest]) {
+        if self.is_wanted {
+            self.lines = void_lines(alloc, void).ok();
         }
     }
 

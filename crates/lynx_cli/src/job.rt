@@ -33,6 +33,15 @@ pub struct SampleFlags {
     pub effort: u64,
 }
 
+/// What a service does besides, none of it by default.
+#[derive(Clone, Copy, Debug, PartialEq, Eq)]
+pub struct ServeFlags {
+    /// The port at which its status is told over HTTP.
+    pub status: Option<u16>,
+    /// What befalls it is told on standard error, a line for each event.
+    pub log: bool,
+}
+
 /// What the words ask for, with files as they were named.
 #[derive(Clone, Copy, Debug, PartialEq, Eq)]
 pub enum Job<'a> {
@@ -95,16 +104,24 @@ pub enum Job<'a> {
     Owed {
         folder: &'a str,
     },
+    /// Make stores in the folder, which has none, of what the copies in another hold together.
+    Restore {
+        from: &'a str,
+        folder: &'a str,
+    },
     /// Serve clients at the port, over the stores of the set's servers in the folder.
     Serve {
         set: &'a str,
         folder: &'a str,
         port: u16,
+        flags: ServeFlags,
     },
-    /// Ask the service at the port what the lines of standard input ask.
+    /// Ask the service at the port what the lines of standard input ask, once its set was compared
+    /// where the port of its status is told.
     Ask {
         set: &'a str,
         port: u16,
+        status: Option<u16>,
     },
     /// Ask the service over the stores of the folder, by the set that it serves.
     AskFolder {
@@ -131,6 +148,9 @@ pub enum CommandFault {
     /// Of a set the ones are drawn or the others.
     #[error("--walk or --late, not both")]
     WalkAndLate,
+    /// A folder tells itself where the status of its service is.
+    #[error("--status wants SET and PORT")]
+    StatusOfFolder,
     /// The first word is a command that the program hasn't. The parser refuses it first.
     #[error("no such command")]
     NoCommand,

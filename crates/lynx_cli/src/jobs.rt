@@ -9,7 +9,8 @@ use crate::fault::Fault;
 use crate::hints::{Hints, Named};
 use crate::job::{INPUT, Job, RunFlags, SampleFlags};
 use crate::reading::text_of;
-use crate::serving::serve_file;
+use crate::restoring::restore_folder;
+use crate::serving::{ServePlace, serve_file};
 use crate::source::{MAX_INPUT_BYTES, read_all};
 use crate::stored::{StoresIn, rerun_script};
 use crate::storing::{show_file, upgrade_file};
@@ -18,7 +19,6 @@ use lynx_cluster::Host;
 use lynx_draw::Extent;
 use lynx_keep::Keeper;
 use lynx_report::{CheckOptions, DrawOptions};
-use lynx_service::Service;
 use lynx_store_files::Stores;
 use std::io;
 use std::io::{BufWriter, Write};
@@ -39,12 +39,33 @@ pub fn do_job<
     let Ok(mut writer) = BufWriter::new(host.alloc(), io::writer(host)) else {
         return Err(Fault::Memory);
     };
-    let done = match job {
-        Job::Check { set, why } => check_file(host, set, why, hints, &mut writer),
-        Job::Draw { set, shown } => draw_file(host, set, shown, hints, &mut writer),
-        Job::Chart { set, script } => chart_files(host, set, script, hints, &mut writer),
-        Job::Sample { set, flags } => sample_file(host, set, flags, hints, &mut writer),
-        Job::Run { set, script, flags } => run_files(host, set, script, flags, hints, &mut writer),
+    let done = do_to(host, rt, stores, job, hints, &mut writer);
+    hints.note_unread(host, host.alloc(), &done);
+    let flushed = writer.flush().is_ok();
+    finished(done, flushed)
+}
+
+/// Does what the words ask for, with its output to the writer.
+fn do_to<
+    'a,
+    R: Host + Net<Listener = TcpListener, Stream = TcpStream>,
+    K: Keeper + Send + Drop + 'static,
+    S: Stores<K> + Sync,
+    W: Write,
+>(
+    host: &HostRuntime,
+    rt: R,
+    stores: &S,
+    job: Job<'a>,
+    hints: &mut Hints,
+    writer: &mut W,
+) -> Result<u8, Fault<'a>> {
+    match job {
+        Job::Check { set, why } => check_file(host, set, why, hints, writer),
+        Job::Draw { set, shown } => draw_file(host, set, shown, hints, writer),
+        Job::Chart { set, script } => chart_files(host, set, script, hints, writer),
+        Job::Sample { set, flags } => sample_file(host, set, flags, hints, writer),
+        Job::Run { set, script, flags } => run_files(host, set, script, flags, hints, writer),
         Job::RunStores {
             set,
             script,
@@ -52,26 +73,29 @@ pub fn do_job<
             flags,
         } => {
             let over = StoresIn { stores, folder };
-            run_over_stores(host, over, set, script, flags, hints, &mut writer)
+            run_over_stores(host, over, set, script, flags, hints, writer)
         }
-        Job::RunInput { flags } => run_standard_input(host, flags, hints, &mut writer),
-        Job::Show { store } => show_file(host, store, hints, &mut writer),
-        Job::Upgrade { store } => upgrade_file(host, store, hints, &mut writer),
-        Job::Extend { folder, set } => {
-            extend_folder(host, stores, folder, set, hints, &mut writer)
+        Job::RunInput { flags } => run_standard_input(host, flags, hints, writer),
+        Job::Show { store } => show_file(host, store, hints, writer),
+        Job::Upgrade { store } => upgrade_file(host, store, hints, writer),
+        Job::Extend { folder, set } => { extend_folder(host, stores, folder, set, hints, writer) }
+        Job::Restore { from, folder } => {
+            restore_folder(host, stores, from, folder, hints, writer)
         }
-        Job::Audit { folder } => audit_folder(host, folder, hints, &mut writer),
-        Job::Owed { folder } => list_owed_in(host, folder, hints, &mut writer),
-        Job::Serve { set, folder, port } => {
-            let service = Service { folder, port };
-            serve_file(host, rt, stores, set, service, hints, &mut writer)
+        Job::Audit { folder } => audit_folder(host, folder, hints, writer),
+        Job::Owed { folder } => list_owed_in(host, folder, hints, writer),
+        Job::Serve {
+            set,
+            folder,
+            port,
+            flags,
+        } => {
+            let place = ServePlace { folder, port };
+            serve_file(host, rt, stores, set, place, flags, hints, writer)
         }
-        Job::Ask { set, port } => ask_port(host, &rt, set, port, hints, &mut writer),
-        Job::AskFolder { folder } => ask_folder(host, &rt, folder, hints, &mut writer),
-    };
-    hints.note_unread(host, host.alloc(), &done);
-    let flushed = writer.flush().is_ok();
-    finished(done, flushed)
+        Job::Ask { set, port, status } => { ask_port(host, &rt, set, port, status, hints, writer) }
+        Job::AskFolder { folder } => ask_folder(host, &rt, folder, hints, writer),
+    }
 }
 
 /// What a job ends with, whose output was written to its end or not. An earlier fault is the one
@@ -97,6 +121,9 @@ fn check_file<'a, R: Files + AllocGlobal, W: Write>(
     let text = read.as_slice();
     let done = check_set(rt.alloc(), text, CheckOptions { why }, writer);
     hints.note_set(rt.alloc(), Named::new(set, text), &done);
+    if why {
+        hints.note_mends(rt.alloc(), Named::new(set, text), &done);
+    }
     done
 }
 

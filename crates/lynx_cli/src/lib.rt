@@ -5,7 +5,7 @@
 pub use fault::Fault;
 pub use hints::Hints;
 pub use input::split_input;
-pub use job::{CommandFault, INPUT, Job, RunFlags, SampleFlags};
+pub use job::{CommandFault, INPUT, Job, RunFlags, SampleFlags, ServeFlags};
 pub use jobs::do_job;
 pub use parser::{command, job_of, wants_hints};
 pub use source::{InputFault, MAX_FILE_BYTES, MAX_INPUT_BYTES, read_all};
@@ -14,6 +14,7 @@ pub use texts::{chart_script, check_set, draw_set, run_input, run_script, sample
 mod asking;
 mod auditing;
 mod causes;
+mod comparing;
 mod draw_words;
 mod extending;
 pub mod fault;
@@ -25,7 +26,9 @@ pub mod jobs;
 pub mod laws;
 pub mod parser;
 mod reading;
+mod restoring;
 mod sample_words;
+mod serve_words;
 mod serving;
 pub mod shown;
 pub mod source;

@@ -6,13 +6,17 @@ ghost use Rattle.lynx_cli.specs.Jobs.{AreFlags, AreSampleFlags, AskedBy, IsFlag,
 use crate::draw_words::{draw_command, job_of_drawing};
 use crate::job::{CommandFault, INPUT, Job, NO_FLAGS, RunFlags, SampleFlags, job_of_run};
 use crate::sample_words::{BEGINS, CYCLE, EFFORT, SEED, sample_command};
-use clap::{Arg, ArgAction, ArgMatches, Command, value_parser};
+use crate::serve_words::{ask_command, job_of_ask, port_of, serve_command, serve_flags_of};
+use clap::{Arg, ArgAction, ArgMatches, Command};
 use std::alloc::{AllocError, Global};
 
 /// The statuses that the program ends with, and the words of faults, as the help tells them at its
 /// end.
 const STATUSES_AND_FAULTS: &str =
     "Statuses:\n  0  done: the set is accepted, an order explains the run\n  1  the set offends, or the run ends with a cycle\n  2  faulty words or a faulty text\n  3  out of memory\n  4  a file, a store, a socket or a thread fails, or the audit at the end of a service\n\nA faulty text is told with its line and one of these words: too-long, bad-version, bad-line,\nbad-name, bad-number, repeated, unknown, need-not-first, limit-passed, literal-elsewhere,\nshard-gap, shard-overlap, shard-server. With --hints, and on a terminal, the place is shown.";
+
+/// The version of the program.
+pub(crate) const VERSION: &str = "0.1.0";
 
 /// The script of a run or of the picture of one.
 pub(crate) const SCRIPT: &str = "SCRIPT";
@@ -170,37 +174,30 @@ fn extend_command<'a>(alloc: Global) -> Result<Command<'a>, AllocError> {
         .arg(hints_flag(alloc))
 }
 
-/// The port, of a service or of one that is asked.
-const PORT: &str = "PORT";
+fn restore_command<'a>(alloc: Global) -> Result<Command<'a>, AllocError> {
+    let from = Arg::new(alloc, "FROM").required(true).help(
+        "The folder of the copies, server-0.lynx and so on, all of stores of one set",
+    );
+    let folder = Arg::new(alloc, "DIR")
+        .required(true)
+        .help("The folder in which the stores are made; it has none");
+    Command::new(alloc, "restore")
+        .about(
+            "Make new stores of what copies of stores hold together, of whatever moments they are",
+        )
+        .after_help(
+            "Of each copy as many first entries are taken as can be: those whose messages others sent that are taken too. So\nthe new stores are of one run, and of no server can more be had. The copies are only read. The stores are made in\nDIR/restore.new and moved when all are whole. It prints restored N ENTRIES of ENTRIES for each server; with --hints\nthe requests that were cut off, of which clients have to be told that their answers are void.\nExample: lynx restore copies stores",
+        )
+        .arg(from)?
+        .arg(folder)?
+        .arg(hints_flag(alloc))
+}
 
 /// The folder of stores that nobody has open.
 fn store_folder<'a>(alloc: Global) -> Arg<'a> {
     Arg::new(alloc, "DIR")
         .required(true)
         .help("The folder of the stores, server-0.lynx and so on")
-}
-
-/// The port of a service.
-fn port<'a>(alloc: Global) -> Arg<'a> {
-    Arg::new(alloc, PORT)
-        .required(true)
-        .value_parser(value_parser!(u16).range(1..=65535))
-        .help("The port of 127.0.0.1, 1 to 65535")
-}
-
-fn serve_command<'a>(alloc: Global) -> Result<Command<'a>, AllocError> {
-    let folder = Arg::new(alloc, "DIR").required(true).help(
-        "The folder of the stores, server-0.lynx and so on; those that aren't there are made",
-    );
-    Command::new(alloc, "serve")
-        .about("Serve clients at a port, over the stores of a folder, until one asks for the end")
-        .after_help(
-            "An offending set is refused as by check, and nothing is opened. The end checks all that clients were\ntold. Clients: lynx ask, clients/python/lynx.py; docs/FORMATS.md has the bytes.\nExample: lynx serve payment.set stores 7000",
-        )
-        .arg(set_file(alloc))?
-        .arg(folder)?
-        .arg(port(alloc))?
-        .arg(hints_flag(alloc))
 }
 
 fn audit_command<'a>(alloc: Global) -> Result<Command<'a>, AllocError> {
@@ -225,38 +222,10 @@ fn owed_command<'a>(alloc: Global) -> Result<Command<'a>, AllocError> {
         .arg(hints_flag(alloc))
 }
 
-/// The port of the service that is asked.
-fn asked_port<'a>(alloc: Global) -> Arg<'a> {
-    Arg::new(alloc, PORT)
-        .value_parser(value_parser!(u16).range(1..=65535))
-        .help("The port of 127.0.0.1, 1 to 65535; behind a folder none, since its service is asked")
-}
-
-/// The set of a service that is asked, or its folder.
-fn asked_set<'a>(alloc: Global) -> Arg<'a> {
-    Arg::new(alloc, "SET")
-        .value_name("DIR|SET")
-        .required(true)
-        .help(
-            "The folder of a service, which tells its port and its set; or the file of the set's text",
-        )
-}
-
-fn ask_command<'a>(alloc: Global) -> Result<Command<'a>, AllocError> {
-    Command::new(alloc, "ask")
-        .about("Ask a service what the lines of standard input ask, and print its answers")
-        .after_help(
-            "Lines:\n  begin CLIENT NUMBER PROGRAM ARG..  begin a chain; the same CLIENT and NUMBER never begin two\n  look ORIGIN:INDEX HOP              whether that hop of a chain is done, and its results\n  look ORIGIN:INDEX HOP wait         the same, once the hop is done, or after ten seconds\n  quit                               leave, as the end of the input does\n  shut                               have the service end\nA faulty line is told on standard error, and the next one asked; the status is then 2.\nA request tells a program by its number: SET and PORT are right where SET is the service's, to the word.\nExamples: echo 'begin 1 1 pay 30' | lynx ask stores\n          echo 'begin 1 1 pay 30' | lynx ask payment.set 7000",
-        )
-        .arg(asked_set(alloc))?
-        .arg(asked_port(alloc))?
-        .arg(hints_flag(alloc))
-}
-
 /// The program without its commands.
 fn bare_command<'a>(alloc: Global) -> Command<'a> {
     Command::new(alloc, "lynx")
-        .version("0.1.0")
+        .version(VERSION)
         .about(
             "A transaction-chain store: judges, draws and runs sets of chain programs, makes scripts for them, serves them to\nclients, and lists, audits, upgrades and extends stores",
         )
@@ -288,7 +257,9 @@ fn with_upgrade<'a>(alloc: Global, command: Command<'a>) -> Result<Command<'a>, 
 }
 
 fn with_extend<'a>(alloc: Global, command: Command<'a>) -> Result<Command<'a>, AllocError> {
-    command.subcommand(extend_command(alloc)?)
+    command
+        .subcommand(extend_command(alloc)?)?
+        .subcommand(restore_command(alloc)?)
 }
 
 fn with_serve<'a>(alloc: Global, command: Command<'a>) -> Result<Command<'a>, AllocError> {
@@ -316,11 +287,6 @@ pub fn command<'a>(alloc: Global) -> Result<Command<'a>, AllocError> {
     with_ask(alloc, command)
 }
 
-/// The number of the port. The parser lets no other words through.
-fn port_of(words: &ArgMatches<'_>) -> u16 {
-    words.get_one(PORT).unwrap_or_default()
-}
-
 /// The text that was found under a name, standard input where none was. The parser lets no words
 /// through that lack one which is asked for here.
 pub(crate) fn text_at<'a>(words: &ArgMatches<'a>, name: &str) -> &'a str
@@ -342,21 +308,6 @@ pub(crate) fn flag_at(words: &ArgMatches<'_>, name: &str) -> bool
     ensures { IsFlag name.now (rows_of (found_of words.now)) result }
 {
     words.get_flag(name)
-}
-
-/// The service that is asked: that at the port, or without one that of the folder.
-fn job_of_ask<'a>(words: &ArgMatches<'a>) -> Job<'a>
-    ensures asked { AskedBy (Some (codes "ask")) (Ok result) }
-    ensures words { TakesFound (rows_of (found_of words.now)) (Ok result) }
-{
-    let set = text_at(words, "SET");
-    match found_at(words, PORT) {
-        Some(_) => Job::Ask {
-            set,
-            port: port_of(words),
-        },
-        None => Job::AskFolder { folder: set },
-    }
 }
 
 /// The flags of a run.
@@ -395,6 +346,7 @@ fn job_of_command<'a>(name: &str, words: &ArgMatches<'a>) -> Result<Job<'a>, Com
     ensures words { TakesFound (rows_of (found_of words.now)) result }
 {
     let set = text_at(words, "SET");
+    let folder = text_at(words, "DIR");
     match name {
         "check" => Ok(Job::Check {
             set,
@@ -415,22 +367,20 @@ fn job_of_command<'a>(name: &str, words: &ArgMatches<'a>) -> Result<Job<'a>, Com
         "upgrade" => Ok(Job::Upgrade {
             store: text_at(words, "STORE"),
         }),
-        "extend" => Ok(Job::Extend {
-            folder: text_at(words, "DIR"),
-            set,
-        }),
+        "extend" => Ok(Job::Extend { folder, set }),
         "serve" => Ok(Job::Serve {
             set,
-            folder: text_at(words, "DIR"),
+            folder,
             port: port_of(words),
+            flags: serve_flags_of(words),
         }),
-        "audit" => Ok(Job::Audit {
-            folder: text_at(words, "DIR"),
+        "restore" => Ok(Job::Restore {
+            from: text_at(words, "FROM"),
+            folder,
         }),
-        "owed" => Ok(Job::Owed {
-            folder: text_at(words, "DIR"),
-        }),
-        "ask" => Ok(job_of_ask(words)),
+        "audit" => Ok(Job::Audit { folder }),
+        "owed" => Ok(Job::Owed { folder }),
+        "ask" => job_of_ask(words),
         _ => Err(CommandFault::NoCommand),
     }
 }

@@ -8,16 +8,19 @@ ghost use Rattle.lynx_cli.specs.Stopped.{StopsJudging};
 
 use crate::fault::Fault;
 use crate::hints::{Hints, Named};
+use crate::job::ServeFlags;
+use crate::parser::VERSION;
 use crate::reading::text_of;
 use crate::texts::{DONE, OFFENDING};
 use lynx_cluster::Host;
 use lynx_keep::Keeper;
 use lynx_notice::Board;
 use lynx_order::Explained;
-use lynx_service::{Progress, ServeFault, Service, serve_stores};
+use lynx_service::{Log, Progress, ServeFault, Service, StatusPort, serve_stores};
 use lynx_set::ChainSet;
 use lynx_store_files::Stores;
 use std::alloc::Global;
+use std::hash::RandomState;
 use std::io::Write;
 use std::net::{Net, TcpListener, TcpStream};
 
@@ -40,6 +43,44 @@ pub(crate) fn accepted_set<'a, W: Write>(
     }
 }
 
+/// Over which stores, and at which port, clients are served.
+#[derive(Clone, Copy)]
+pub(crate) struct ServePlace<'a> {
+    pub(crate) folder: &'a str,
+    pub(crate) port: u16,
+}
+
+/// The port of the status with its keys, which are drawn at random.
+fn status_port<'a>(host: &HostRuntime, port: Option<u16>) -> Result<Option<StatusPort>, Fault<'a>> {
+    let Some(port) = port else {
+        return Ok(None);
+    };
+    match RandomState::new(host) {
+        Ok(keys) => Ok(Some(StatusPort {
+            port,
+            keys,
+            version: VERSION,
+        })),
+        Err(_) => Err(Fault::of_serving(ServeFault::ListenStatus)),
+    }
+}
+
+/// Notes why nobody can listen at a port of the service, where that is so.
+fn note_ports<R: Net<Listener = TcpListener, Stream = TcpStream>>(
+    host: &HostRuntime,
+    rt: &R,
+    service: Service<'_>,
+    fault: ServeFault,
+    hints: &mut Hints,
+) {
+    if fault == ServeFault::Listen {
+        hints.note_listening(rt, host.alloc(), service.port);
+    }
+    if let (ServeFault::ListenStatus, Some(status)) = (fault, service.status) {
+        hints.note_listening(rt, host.alloc(), status.port);
+    }
+}
+
 /// Serves clients over the set of a file, until one of them asks for the end. An offending set is
 /// refused as by a check, and nothing is opened.
 pub(crate) fn serve_file<
@@ -53,7 +94,8 @@ pub(crate) fn serve_file<
     rt: R,
     stores: &S,
     name: &'a str,
-    service: Service<'_>,
+    place: ServePlace<'_>,
+    flags: ServeFlags,
     hints: &mut Hints,
     writer: &mut W,
 ) -> Result<u8, Fault<'a>> {
@@ -63,6 +105,11 @@ pub(crate) fn serve_file<
     hints.note_set(host.alloc(), Named { name, text }, &accepted);
     let Some(set) = accepted? else {
         return Ok(OFFENDING);
+    };
+    let service = Service {
+        folder: place.folder,
+        port: place.port,
+        status: status_port(host, flags.status)?,
     };
     let progress = Progress::new(host);
     let board = Board {
@@ -79,13 +126,12 @@ pub(crate) fn serve_file<
         writer,
         &progress,
         &board,
+        Log::new(*host, flags.log),
     ) {
         Ok(Explained::Order(_)) => Ok(DONE),
         Ok(Explained::Cycle(_)) => Ok(OFFENDING),
         Err(fault) => {
-            if fault == ServeFault::Listen {
-                hints.note_listening(&rt, host.alloc(), service.port);
-            }
+            note_ports(host, &rt, service, fault, hints);
             let done = Err(Fault::of_serving(fault));
             hints.note_store(host, service.folder, &done);
             hints.note_foreign(host, service.folder, &set, &done);

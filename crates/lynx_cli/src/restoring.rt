@@ -1,0 +1,170 @@
+//! New stores of what copies of stores hold together.
+use crate::auditing::{Copies, READING, copies_of};
+use crate::fault::Fault;
+use crate::hints::Hints;
+use crate::storing::{WIPED, tell};
+use crate::texts::DONE;
+use lynx_keep::Keeper;
+use lynx_names::ServerId;
+use lynx_names::limits::MAX_SERVERS;
+use lynx_restore::{Restored, RestoredServer, restore, restored_lines};
+use lynx_store::StoreFault;
+use lynx_store_files::{Stores, store_path};
+use std::fs;
+use std::io::{ErrorKind, Write};
+
+/// The path of the folder in which stores are made until all are whole. No service opens it.
+fn room_in<'a>(rt: &HostRuntime, folder: &str) -> Result<String, Fault<'a>> {
+    match format!(in rt.alloc(); "{folder}/restore.new") {
+        Ok(room) => Ok(room),
+        Err(_) => Err(Fault::Memory),
+    }
+}
+
+/// Whether the folder has no store, of whatever server there may be.
+fn check_vacant<'a, K, S: Stores<K>>(stores: &S, folder: &str) -> Result<(), Fault<'a>> {
+    for number in 0..MAX_SERVERS {
+        let server = ServerId::at(number);
+        match stores.has(folder, server) {
+            Ok(false) => {}
+            Ok(true) => return Err(Fault::Occupied),
+            Err(fault) => return Err(Fault::of_store(server, fault)),
+        }
+    }
+    Ok(())
+}
+
+/// The path of the store of that server in the folder, and that of its log.
+fn paths_in<'a>(
+    rt: &HostRuntime,
+    folder: &str,
+    server: ServerId,
+) -> Result<(String, String), Fault<'a>> {
+    let Ok(store) = store_path(rt.alloc(), folder, server) else {
+        return Err(Fault::Memory);
+    };
+    match format!(in rt.alloc(); "{store}-wal") {
+        Ok(log) => Ok((store, log)),
+        Err(_) => Err(Fault::Memory),
+    }
+}
+
+/// Makes the folder in which stores are made. Stores that are there, which a kill left or which are
+/// somebody's copies, aren't touched.
+fn make_room<'a, K, S: Stores<K>>(
+    rt: &HostRuntime,
+    stores: &S,
+    room: &str,
+) -> Result<(), Fault<'a>> {
+    match fs::create_dir(rt, room) {
+        Err(error) if error.kind() != ErrorKind::AlreadyExists => {
+            Err(Fault::of_store(ServerId::first(), StoreFault::Store))
+        }
+        _ => check_vacant(stores, room),
+    }
+}
+
+/// Renames a file, if it is there.
+fn move_file<'a>(
+    rt: &HostRuntime,
+    server: ServerId,
+    from: &str,
+    to: &str,
+) -> Result<(), Fault<'a>> {
+    match fs::rename(rt, from, to) {
+        Err(error) if error.kind() != ErrorKind::NotFound => {
+            Err(Fault::of_store(server, StoreFault::Store))
+        }
+        _ => Ok(()),
+    }
+}
+
+/// Moves the store of that server, which is whole, to the folder, behind its log.
+fn move_store<'a>(
+    rt: &HostRuntime,
+    room: &str,
+    folder: &str,
+    server: ServerId,
+) -> Result<(), Fault<'a>> {
+    let (store, log) = paths_in(rt, room, server)?;
+    let (moved, moved_log) = paths_in(rt, folder, server)?;
+    move_file(rt, server, log.as_str(), moved_log.as_str())?;
+    move_file(rt, server, store.as_str(), moved.as_str())
+}
+
+/// Moves the stores, those with entries first: a service takes a folder with such a store only
+/// where no other is missing, so that it takes none of them before all are there.
+fn move_all<'a>(
+    rt: &HostRuntime,
+    room: &str,
+    folder: &str,
+    restored: &[RestoredServer],
+) -> Result<(), Fault<'a>> {
+    for has_entries in [true, false] {
+        for of_server in restored {
+            if (of_server.taken > 0) == has_entries {
+                move_store(rt, room, folder, of_server.server)?;
+            }
+        }
+    }
+    let _ = fs::remove_dir(rt, room);
+    Ok(())
+}
+
+/// Makes stores in the folder of what the copies in another hold together.
+fn restore_copies<'a, K: Keeper + Drop, S: Stores<K>>(
+    rt: &HostRuntime,
+    stores: &S,
+    from: &str,
+    folder: &str,
+) -> Result<Restored, Fault<'a>> {
+    let Copies { set, keepers } = copies_of(rt, from)?;
+    check_vacant(stores, folder)?;
+    let room = room_in(rt, folder)?;
+    make_room(rt, stores, room.as_str())?;
+    let restored = match restore(rt.alloc(), &set, keepers, stores, room.as_str()) {
+        Ok(restored) => restored,
+        Err(fault) => return Err(Fault::of_restoring(fault)),
+    };
+    move_all(rt, room.as_str(), folder, restored.servers.as_slice())?;
+    Ok(restored)
+}
+
+/// Tells how much was restored of each server.
+fn write_restored<'a, W: Write>(
+    rt: &HostRuntime,
+    restored: &Restored,
+    writer: &mut W,
+) -> Result<u8, Fault<'a>> {
+    let Ok(lines) = restored_lines(rt.alloc(), restored.servers.as_slice()) else {
+        return Err(Fault::Memory);
+    };
+    match writer.write_all(lines.as_slice()) {
+        Ok(()) => Ok(DONE),
+        Err(_) => Err(Fault::Write),
+    }
+}
+
+/// Makes stores in the folder, which has none, of what the copies in another hold together, and
+/// tells how much of each that is. The copies are only read.
+pub(crate) fn restore_folder<'a, K: Keeper + Drop, S: Stores<K>, W: Write>(
+    rt: &HostRuntime,
+    stores: &S,
+    from: &str,
+    folder: &str,
+    hints: &mut Hints,
+    writer: &mut W,
+) -> Result<u8, Fault<'a>> {
+    tell(rt, READING);
+    let restored = restore_copies(rt, stores, from, folder);
+    tell(rt, WIPED);
+    let done = match &restored {
+        Ok(restored) => {
+            hints.note_void(rt.alloc(), restored.void.as_slice());
+            write_restored(rt, restored, writer)
+        }
+        Err(fault) => Err(*fault),
+    };
+    hints.note_store(rt, from, &done);
+    done
+}

@@ -188,15 +188,29 @@ export function programsOf(text) {
   return programs;
 }
 
-/** The port of the service over the stores of the folder, and the text of the set that it serves. */
+/** The text of the set of the service that tells its status at this port. */
+export async function servedSet(status, host = '127.0.0.1', timeout = 30) {
+  try {
+    const answer = await fetch(`http://${host}:${status}/set`, { signal: AbortSignal.timeout(timeout * 1000) });
+    if (answer.ok) return await answer.text();
+  } catch (fault) {
+    throw new Broken(`no status: ${fault.message}`);
+  }
+  throw new Broken('no status');
+}
+
+/** The port of the service over the stores of the folder, that of its status if it tells one, and the text of the set that
+ * it serves. */
 export async function serviceOf(folder) {
   const text = await readFile(join(folder, 'service'), 'latin1').catch((fault) => {
     throw fault.code === 'ENOENT' ? new NoService(folder) : fault;
   });
   const end = text.indexOf('--\n');
-  const listening = /^listening 127\.0\.0\.1:([0-9]+)$/m.exec(text.slice(0, Math.max(end, 0)));
+  const head = text.slice(0, Math.max(end, 0));
+  const listening = /^listening 127\.0\.0\.1:([0-9]+)$/m.exec(head);
+  const status = /^status 127\.0\.0\.1:([0-9]+)$/m.exec(head);
   if (!listening) throw new NoService(folder);
-  return { port: Number(listening[1]), setText: text.slice(end + 3) };
+  return { port: Number(listening[1]), status: status && Number(status[1]), setText: text.slice(end + 3) };
 }
 
 /** The version and the count of servers of a set's text, and the text of each of its tables and programs. */
@@ -350,6 +364,7 @@ export class Client {
   #folder;
   #host;
   #port;
+  #status;
   #timeout;
   #line = null;
   #last = Promise.resolve();
@@ -363,16 +378,18 @@ export class Client {
     return new Client({ ...options, ...await serviceOf(folder), folder });
   }
 
-  /** A client of the service at a port, by the set of the file `setPath` or of the text `setText`. */
+  /** A client of the service at a port, by the set of the file `setPath` or of the text `setText`; where `status` is given,
+   * the port at which the service tells its status, the sets are compared. */
   static async connect(port, { setPath, setText, ...options } = {}) {
     return new Client({ ...options, port, setText: setText ?? (setPath ? await readFile(setPath, 'latin1') : '') });
   }
 
-  constructor({ port, setText, folder = null, client = randomBytes(8).readBigUInt64BE(), first = 1n, host = '127.0.0.1',
+  constructor({ port, setText, status = null, folder = null, client = randomBytes(8).readBigUInt64BE(), first = 1n, host = '127.0.0.1',
     timeout = 30, tries = 5 }) {
     this.#folder = folder;
     this.#host = host;
     this.#port = port;
+    this.#status = status;
     this.#timeout = timeout;
     this.tries = Math.max(1, tries);
     this.client = wordOf(client, 'the client');
@@ -521,6 +538,7 @@ export class Client {
     if (this.#line?.lost) this.#drop();
     if (!this.#line) {
       if (this.#folder !== null) await this.#find();
+      if (this.#status !== null) this.#compare(await servedSet(this.#status, this.#host, this.#timeout));
       this.#line = new Line(this.#host, this.#port, this.#timeout);
     }
     const head = Buffer.alloc(5);
@@ -536,11 +554,18 @@ export class Client {
     return read(new Body(await this.#line.read(length)));
   }
 
-  /** Looks again where the service over the folder listens, and whether its set goes on from this client's. */
+  /** Looks again where the service over the folder listens, and where its set is told: a kill leaves what the folder tells,
+   * and another service may have its ports by now. */
   async #find() {
-    const { port, setText } = await serviceOf(this.#folder);
-    if (setText !== this.setText && !extendsSet(setText, this.setText)) throw new OtherSet();
+    const { port, status, setText } = await serviceOf(this.#folder);
+    if (status === null) this.#compare(setText);
     this.#port = port;
+    this.#status = status;
+  }
+
+  /** The set that is served is this client's, or goes on from it. */
+  #compare(setText) {
+    if (setText !== this.setText && !extendsSet(setText, this.setText)) throw new OtherSet();
   }
 
   #drop() {

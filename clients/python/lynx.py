@@ -15,10 +15,11 @@ keeps what it asks for (`Client(.., client=7)`, `bank.begin('pay', 30, number=12
 the old number and gets the recorded answer, with `again` true.
 
 `lynx.Client(7000, 'payment.set')` asks at a port by a set of its own. A request tells a program by its number, so that
-set is to be the service's, or one that it extends.
+set is to be the service's, or one that it extends: `lynx.Client(7000, 'payment.set', status=7001)` looks whether it is.
 
 A client belongs to one thread at a time. docs/FORMATS.md has the bytes.
 """
+import http.client
 import os
 import secrets
 import socket
@@ -27,7 +28,7 @@ import time
 from dataclasses import dataclass, field, replace
 
 __all__ = ['Begun', 'Busy', 'ByeLost', 'Chain', 'Clash', 'Client', 'Found', 'Full', 'Lost', 'LynxError', 'NoService',
-           'OtherSet', 'Outside', 'Program', 'Refused', 'Stopped', 'Wanting', 'Wrong', 'extends', 'programs_of', 'service_of']
+           'OtherSet', 'Outside', 'Program', 'Refused', 'Stopped', 'Wanting', 'Wrong', 'extends', 'programs_of', 'served_set', 'service_of']
 
 MAX_WORD = 2 ** 64 - 1
 MAX_BODY_BYTES = 2048
@@ -209,15 +210,43 @@ class OtherSet(LynxError):
 
 def service_of(folder):
     """The port of the service over the stores of the folder, and the text of the set that it serves."""
+    port, _, text = _notice_of(folder)
+    return port, text
+
+
+def _port_of(address):
+    """The port of an address of this machine, None where there is none."""
+    return int(address.split(':')[1]) if address.startswith('127.0.0.1:') else None
+
+
+def _notice_of(folder):
+    """What the folder tells of its service: its port, that of its status or None, and the text of its set."""
     try:
         with open(os.path.join(folder, 'service'), encoding='ascii') as file:
             head, line, text = file.read().partition('--\n')
     except FileNotFoundError:
         raise NoService(f'no service: {folder}') from None
     found = dict(each.split(' ', 1) for each in head.splitlines() if ' ' in each)
-    if not line or not found.get('listening', '').startswith('127.0.0.1:'):
+    port = _port_of(found.get('listening', ''))
+    if not line or port is None:
         raise NoService(f'no service: {folder}')
-    return int(found['listening'].split(':')[1]), text
+    return port, _port_of(found.get('status', '')), text
+
+
+def served_set(status, host='127.0.0.1', timeout=30.0):
+    """The text of the set of the service that tells its status at this port. An OSError where none does."""
+    asked = http.client.HTTPConnection(host, status, timeout=timeout)
+    try:
+        asked.request('GET', '/set', headers={'Connection': 'close'})
+        answer = asked.getresponse()
+        text = answer.read()
+    except http.client.HTTPException as fault:
+        raise ConnectionError(f'no status: {host}:{status}') from fault
+    finally:
+        asked.close()
+    if answer.status != 200:
+        raise ConnectionError(f'no status: {host}:{status}')
+    return text.decode('ascii')
 
 
 def _parts_of(text):
@@ -278,13 +307,15 @@ class Client:
     `client` is its id, drawn at random where none is given, and `first` the first number that it gives a request by
     itself. A connection that is lost is made again, at most `tries` times for a request, with growing pauses; each wait
     for the service ends after `timeout` seconds. A service that is begun anew over a folder may have another port, and a
-    set that extends the one before; one of another set is OtherSet.
+    set that extends the one before; one of another set is OtherSet. At a port the sets are compared where `status` is
+    given, the port at which the service tells its status (`lynx serve .. --status PORT`).
     """
 
-    def __init__(self, where, set_path=None, *, set_text=None, client=None, first=1, host='127.0.0.1', timeout=30.0, tries=5):
+    def __init__(self, where, set_path=None, *, set_text=None, status=None, client=None, first=1, host='127.0.0.1', timeout=30.0,
+                 tries=5):
         self.folder = None if isinstance(where, int) else os.fspath(where)
         if self.folder is not None:
-            if set_path is not None or set_text is not None:
+            if set_path is not None or set_text is not None or status is not None:
                 raise TypeError('the set of a folder is that of its service')
             where, set_text = service_of(self.folder)
         if set_text is None and set_path is not None:
@@ -293,10 +324,10 @@ class Client:
         self.set_text = set_text or ''
         self.programs = programs_of(set_text or '')
         self.numbered = {program.number: program for program in self.programs.values()}
-        self.owed = []
+        self.owed = {}  # the last hop of each chain that it began, until it has seen that hop
         self.client = secrets.randbits(64) if client is None else _word(client, 'the client')
         self.next_number = _word(first, 'the first number')
-        self.address = (host, where)
+        self.address, self.status = (host, where), status
         self.timeout, self.tries = timeout, max(1, tries)
         self.socket = None
 
@@ -326,7 +357,7 @@ class Client:
             self._drop()
             raise Lost(str(fault), number) from fault
         if isinstance(answer, Begun) and answer.hops > 1:
-            self.owed.append(answer)
+            self.owed[answer.chain] = answer.hops - 1
         return answer
 
     def look(self, chain, hop, wait=0.0):
@@ -343,6 +374,8 @@ class Client:
                 self._drop()
                 raise Lost(str(fault)) from fault
             if found is not None:
+                if self.owed.get(chain) == hop:
+                    del self.owed[chain]
                 return found
             left = until - time.monotonic()
             if left <= 0:
@@ -358,12 +391,8 @@ class Client:
     def settle(self, wait=10.0):
         """Whether all chains that this client began are done, within `wait` seconds."""
         until = time.monotonic() + wait
-        while self.owed:
-            last = self.owed[-1]
-            if self.look(last.chain, last.hops - 1, max(0.0, until - time.monotonic())) is None:
-                return False
-            self.owed.pop()
-        return True
+        return all(self.look(chain, hop, max(0.0, until - time.monotonic())) is not None
+                   for chain, hop in list(self.owed.items()))
 
     def close(self):
         """Leaves. A request begins a new connection."""
@@ -448,16 +477,24 @@ class Client:
         return self._answer(wanted)
 
     def _find(self):
-        """Looks again where the service over the folder listens, and whether its set goes on from this client's."""
-        port, text = service_of(self.folder)
+        """Looks again where the service over the folder listens, and where its set is told: a kill leaves what the folder
+        tells, and another service may have its ports by now."""
+        port, self.status, text = _notice_of(self.folder)
+        self.address = (self.address[0], port)
+        if self.status is None:
+            self._compare(text)
+
+    def _compare(self, text):
+        """The set that is served is this client's, or goes on from it."""
         if text != self.set_text and not extends(text, self.set_text):
             raise OtherSet()
-        self.address = (self.address[0], port)
 
     def _send(self, tag, body):
         if self.socket is None:
             if self.folder is not None:
                 self._find()
+            if self.status is not None:
+                self._compare(served_set(self.status, self.address[0], self.timeout))
             self.socket = socket.create_connection(self.address, self.timeout)
             self.socket.setsockopt(socket.IPPROTO_TCP, socket.TCP_NODELAY, 1)
         self.socket.sendall(struct.pack('>BI', tag, len(body)) + body)

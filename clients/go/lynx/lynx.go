@@ -13,7 +13,7 @@
 // old number and gets the recorded answer, with Again true.
 //
 // lynx.Dial(7000, set, nil) asks at a port by the text of a set of its own. A request tells a program by its number, so
-// that set is to be the service's, or one that it extends.
+// that set is to be the service's, or one that it extends: Options{Status: 7001} looks whether it is.
 //
 // A first hop that refuses is the error *Refused, and every other fault an *Error, which errors.Is tells by its kind:
 //
@@ -34,6 +34,7 @@ import (
 	"io"
 	"io/fs"
 	"net"
+	"net/http"
 	"os"
 	"path/filepath"
 	"strconv"
@@ -217,23 +218,57 @@ func Programs(set string) map[string]Program {
 	return programs
 }
 
+// ServedSet gives the text of the set of the service that tells its status at this port.
+func ServedSet(host string, status int, timeout time.Duration) (string, error) {
+	client := http.Client{Timeout: timeout}
+	answer, err := client.Get("http://" + net.JoinHostPort(host, strconv.Itoa(status)) + "/set")
+	if err != nil {
+		return "", err
+	}
+	defer answer.Body.Close()
+	if answer.StatusCode != http.StatusOK {
+		return "", errNoAnswer
+	}
+	text, err := io.ReadAll(answer.Body)
+	return string(text), err
+}
+
 // Service gives the port of the service over the stores of the folder, and the text of the set that it serves.
 func Service(folder string) (port int, set string, err error) {
+	port, _, set, err = noticeOf(folder)
+	return port, set, err
+}
+
+// portOf gives the port of a line of a notice behind its word, 0 where the line has another.
+func portOf(line, word string) int {
+	text, found := cutPrefix(line, word+" 127.0.0.1:")
+	port, err := strconv.Atoi(text)
+	if !found || err != nil {
+		return 0
+	}
+	return port
+}
+
+// noticeOf gives what the folder tells of its service: its port, that of its status or 0, and the text of its set.
+func noticeOf(folder string) (port, status int, set string, err error) {
 	data, err := os.ReadFile(filepath.Join(folder, "service"))
 	if errors.Is(err, fs.ErrNotExist) {
-		return 0, "", fault(ErrNoService, errors.New(folder))
+		return 0, 0, "", fault(ErrNoService, errors.New(folder))
 	} else if err != nil {
-		return 0, "", err
+		return 0, 0, "", err
 	}
 	head, set, whole := strings.Cut(string(data), "--\n")
 	for _, line := range strings.Split(head, "\n") {
-		if text, found := cutPrefix(line, "listening 127.0.0.1:"); whole && found {
-			if port, err = strconv.Atoi(text); err == nil {
-				return port, set, nil
-			}
+		if found := portOf(line, "listening"); found != 0 {
+			port = found
+		} else if found := portOf(line, "status"); found != 0 {
+			status = found
 		}
 	}
-	return 0, "", fault(ErrNoService, errors.New(folder))
+	if !whole || port == 0 {
+		return 0, 0, "", fault(ErrNoService, errors.New(folder))
+	}
+	return port, status, set, nil
 }
 
 func cutPrefix(text, prefix string) (rest string, found bool) {
@@ -298,6 +333,7 @@ type Options struct {
 	Tries   int           // how often a request is asked while connections are lost; 5
 	Timeout time.Duration // how long it waits for the service each time; 30 seconds
 	Host    string        // 127.0.0.1
+	Status  int           // the port at which the service tells its status, by which the sets are compared; none
 }
 
 // Client is a client of a service, made by Open or Dial. A connection that is lost is made again, with growing pauses. A
@@ -604,18 +640,29 @@ func (c *Client) send(tag byte, item []byte) error {
 	return err
 }
 
-// connect looks again, where the client goes by a folder, where the service over it listens, and whether its set goes on
-// from this client's.
-func (c *Client) connect() error {
+// find looks again where the service over the folder listens, and tells the text of its set: at the port of its status,
+// where it has one, since a kill leaves what the folder tells, and another service may have its ports by now.
+func (c *Client) find() (set string, err error) {
+	status := c.options.Status
 	if c.folder != "" {
-		port, set, err := Service(c.folder)
-		if err != nil {
-			return err
+		if c.port, status, set, err = noticeOf(c.folder); err != nil {
+			return "", err
 		}
-		if set != c.Set && !Extends(set, c.Set) {
-			return fault(ErrOtherSet, nil)
-		}
-		c.port = port
+	}
+	if status != 0 {
+		return ServedSet(c.options.Host, status, c.options.Timeout)
+	}
+	return set, nil
+}
+
+// connect connects to the service, whose set has to be the client's or to go on from it, as far as that is told.
+func (c *Client) connect() error {
+	set, err := c.find()
+	if err != nil {
+		return err
+	}
+	if set != "" && set != c.Set && !Extends(set, c.Set) {
+		return fault(ErrOtherSet, nil)
 	}
 	stream, err := net.DialTimeout("tcp", net.JoinHostPort(c.options.Host, strconv.Itoa(c.port)), c.options.Timeout)
 	if err == nil {

@@ -122,6 +122,17 @@ class Service:
         return Line(self.port, timeout)
 
 
+class WatchedService(Service):
+    """A service that tells its status."""
+
+    def __init__(self, lynx, room, *words):
+        self.port, self.status = free_port(), free_port()
+        self.ran = subprocess.Popen([lynx, "serve", room.set, room.stores, str(self.port), "--status", str(self.status), *words],
+                                    stdin=subprocess.DEVNULL, stdout=subprocess.PIPE, stderr=subprocess.PIPE, text=True)
+        self.first = self.ran.stdout.readline()
+        self.second = self.ran.stdout.readline()
+
+
 class Line:
     """A connection, by its bytes."""
 

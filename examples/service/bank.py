@@ -43,6 +43,12 @@ def server_of(name):
     return min(ACCOUNTS[name] // 1000, 2)
 
 
+def free_port():
+    with socket.socket() as found:
+        found.bind(("127.0.0.1", 0))
+        return found.getsockname()[1]
+
+
 class Store:
     """`lynx serve` over a folder. It is begun again where it is killed, and dies with this process."""
 
@@ -52,13 +58,12 @@ class Store:
         self.begin()
 
     def begin(self):
-        with socket.socket() as found:
-            found.bind(("127.0.0.1", 0))
-            port = found.getsockname()[1]
-        self.process = subprocess.Popen([*self.words, str(port)], stdin=subprocess.DEVNULL, stdout=subprocess.PIPE, text=True,
+        port, self.status = free_port(), free_port()
+        self.process = subprocess.Popen([*self.words, str(port), "--status", str(self.status)], stdin=subprocess.DEVNULL, stdout=subprocess.PIPE, text=True,
                                         start_new_session=True, preexec_fn=lambda: LIBC.prctl(PARENT_DEATH_SIGNAL, signal.SIGKILL))
         if not self.process.stdout.readline().startswith("listening "):
             sys.exit(self.process.wait())
+        self.process.stdout.readline()
         self.starts += 1
 
     def watch(self):

@@ -6,6 +6,7 @@
 README.md tells of the calls, and how a request number comes from the client's idempotency key.
 """
 import argparse
+import http.client
 import json
 import os
 import signal
@@ -36,7 +37,21 @@ class Handler(BaseHTTPRequestHandler):
         if self.path == "/":
             with open(os.path.join(HERE, "page.html"), "rb") as file:
                 return self.answer(200, file.read(), "text/html")
+        if self.path == "/status" or self.path.startswith("/chain/"):
+            return self.passed_on()
         return self.answer(200, self.bank.state()) if self.path == "/state" else self.answer(404, {"error": "no such page"})
+
+    def passed_on(self):
+        """What the store tells of itself, so that its page stands beside this one."""
+        asked = http.client.HTTPConnection("127.0.0.1", self.bank.store.status, timeout=10)
+        try:
+            asked.request("GET", self.path, headers={"Connection": "close"})
+            answer = asked.getresponse()
+            self.answer(answer.status, answer.read(), answer.headers.get_content_type())
+        except (OSError, http.client.HTTPException):
+            self.answer(503, {"error": "the store isn't running"})
+        finally:
+            asked.close()
 
     def do_POST(self):
         try:

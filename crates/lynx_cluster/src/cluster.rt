@@ -5,7 +5,7 @@ ghost use Rattle.lynx_cluster.specs.Calls.{AnswersBegin};
 ghost use Rattle.lynx_cluster.specs.Clusters.{IsOf, home_of};
 ghost use Rattle.lynx_cluster.specs.Looks.{Looks};
 
-use crate::gate::{Gate, Passage};
+use crate::gate::{Gate, Passage, tell_answer};
 use crate::post::Post;
 use crate::session::Session;
 use lynx_codec::Looked;
@@ -189,7 +189,7 @@ impl<K: Keeper, G: Gate> Front<K, G> {
         } else {
             Answer::Stopped
         };
-        self.gate.answered(server, program, &answer);
+        tell_answer(&*self.gate, &state, program, &answer);
         drop(state);
         self.gate.leave(server, Passage::Begin);
         answer

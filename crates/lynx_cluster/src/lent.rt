@@ -6,7 +6,7 @@ ghost use Rattle.lynx_set.specs.Lookups.{server_at};
 ghost use Rattle.lynx_cluster.specs.inner.Serving.{AddsFound, AreOwed, AreOwedBetween, AreRising, HearsOf, IsDueOf, IsNotedIn, IsSender, NotesDone, OwesOnlyAt, Serves, TellsDone, was_done};
 
 use crate::cluster::is_of;
-use crate::gate::{Gate, Passage};
+use crate::gate::{Gate, Passage, tell_delivery};
 use crate::post::Post;
 use crate::steps::{Arrived, Due, Heard, Owed, Receipt, Served, Steps};
 use lynx_entry::{Delivered, Entry, Message};
@@ -106,7 +106,7 @@ fn wake_next<K: Keeper, G: Gate>(
     let Some(woken) = state.wake(alloc) else {
         return false;
     };
-    gate.delivered(state.server(), &woken.delivered);
+    tell_delivery(gate, state, &woken.delivered);
     let (chain, hop) = (woken.chain, woken.hop);
     let to = sender_of(state, &chain, hop);
     note_done(served, to, chain, hop, &woken.delivered);
@@ -155,7 +155,7 @@ fn deliver_one<K: Keeper, G: Gate>(
 {
     let (chain, hop) = (message.chain, message.hop);
     let delivered = state.deliver(alloc, message);
-    gate.delivered(state.server(), &delivered);
+    tell_delivery(gate, state, &delivered);
     note_done(served, Some(from), chain, hop, &delivered)
 }
 

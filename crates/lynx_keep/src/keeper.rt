@@ -2,6 +2,7 @@ ghost use Rattle.std.specs.Prelude.{◌≡◌, ◌≤◌, IsErrOf, OnOk, IfOk, �
 ghost use Rattle.lynx_codec.specs.Entries.{IsEntryInRange};
 ghost use Rattle.lynx_keep.specs.Kept.{HasRisen, KeptState, Terms, kept_in, with_entry};
 
+use crate::cause::Cause;
 use crate::fault::KeepFault;
 use lynx_cells::{Cells, Changes};
 use lynx_entry::Entry;
@@ -55,6 +56,12 @@ pub trait Keeper {
     /// How often the store has failed. A count at the limit of a u64 stays there.
     fn faults(&self) -> u64
         ensures { result ≡ terms.counted self.now };
+
+    /// Why the store failed last, for whoever operates it; None where it hasn't, or doesn't know.
+    /// Nothing rests on it.
+    fn cause(&self) -> Option<Cause> {
+        None
+    }
 
     // Between two calls a stop leaves what is kept.
     ghost settled: { (keeper : Self) (kept : KeptState) → terms.sound keeper

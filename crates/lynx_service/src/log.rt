@@ -1,5 +1,6 @@
 //! The log of a service: a line on standard error for each event of its life.
 use jiff::Timestamp;
+use lynx_keep::Cause;
 use lynx_names::ServerId;
 use std::alloc::AllocError;
 use std::net::SocketAddr;
@@ -103,11 +104,17 @@ impl Log {
         self.write(format!(in alloc; "event=gone reason={reason} clients={clients}"));
     }
 
-    /// The store of a server failed.
-    pub(crate) fn stopped(&self, server: ServerId) {
+    /// The store of a server failed, for that cause if it is known.
+    pub(crate) fn stopped(&self, server: ServerId, cause: Option<Cause>) {
         let alloc = self.rt.alloc();
         let server = server.number();
-        self.write(format!(in alloc; "event=stopped server={server}"));
+        let words = match cause {
+            Some(cause) => format!(in alloc;
+                "event=stopped server={server} file=server-{server}.lynx cause=\"{cause}\""
+            ),
+            None => format!(in alloc; "event=stopped server={server} file=server-{server}.lynx"),
+        };
+        self.write(words);
     }
 
     /// The end begins, with so many hops owed.

@@ -3,7 +3,7 @@
 use crate::log::Log;
 use lynx_cluster::{Gate, Passage};
 use lynx_entry::{Answer, Delivered, Entry};
-use lynx_keep::Keeper;
+use lynx_keep::{Cause, Keeper};
 use lynx_names::limits::MAX_PROGRAMS;
 use lynx_names::{Memory, ProgramId, ServerId};
 use lynx_server::Server;
@@ -192,8 +192,13 @@ impl<R: Wait + Clock> Gate for Tally<R> {
         };
         let mut counts = counts.lock(&self.rt);
         counts.note_answer(program, answer, now);
-        if matches!(answer, Answer::Stopped) && counts.note_stop() {
-            self.log.stopped(server);
+    }
+
+    fn stopped(&self, server: ServerId, cause: Option<Cause>) {
+        if let Some(counts) = self.servers.as_slice().get(server.index())
+            && counts.lock(&self.rt).note_stop()
+        {
+            self.log.stopped(server, cause);
         }
     }
 
@@ -204,8 +209,5 @@ impl<R: Wait + Clock> Gate for Tally<R> {
         };
         let mut counts = counts.lock(&self.rt);
         counts.note_delivery(delivered, now);
-        if matches!(delivered, Delivered::Stopped) && counts.note_stop() {
-            self.log.stopped(server);
-        }
     }
 }

@@ -1,4 +1,4 @@
-ghost use Rattle.std.specs.Prelude.{◌≡◌, ◌<◌, ◌≤◌, ◌^◌, ℕ, IsErrOf, IfOk, length};
+ghost use Rattle.std.specs.Prelude.{◌≡◌, ◌<◌, ◌≤◌, ◌^◌, ℕ, IsErrOf, IfOk, None, length};
 ghost use Rattle.sqlite_trees.specs.View.{doubt};
 ghost use Rattle.sqlite.specs.Tree.{Trees};
 ghost use Rattle.sqlite.specs.Held.{state};
@@ -13,10 +13,10 @@ use crate::heading::Heading;
 use crate::loading::{cells_of, entries_of};
 use lynx_cells::Changes;
 use lynx_entry::Entry;
-use lynx_keep::{KeepFault, Keeper, Loaded};
+use lynx_keep::{Cause, KeepFault, Keeper, Loaded};
 use lynx_sql::commit::write_entry;
 use lynx_sql::{Rising, StoredRows, read_rows};
-use sqlite::Connection;
+use sqlite::{Connection, Error, ErrorCode};
 use std::alloc::Global;
 
 /// Keeps a server's entries and cells in a database, and in a store of version 2 the hops that its
@@ -31,6 +31,21 @@ pub struct SqlKeeper<S: Rising> {
     /// How many entries are kept: the place of the next one.
     count: u32,
     faults: u64,
+    cause: Option<Cause>,
+}
+
+/// Why the database failed.
+fn cause_of(error: &Error) -> Cause {
+    match error {
+        Error::SqliteFailure(ErrorCode::DiskFull) => Cause::Full,
+        Error::SqliteFailure(ErrorCode::SystemIoFailure) => Cause::Disk,
+        Error::SqliteFailure(ErrorCode::OutOfMemory) => Cause::Memory,
+        Error::SqliteFailure(ErrorCode::Closed) => Cause::Closed,
+        Error::SqliteFailure(ErrorCode::NotADatabase | ErrorCode::DatabaseCorrupt) => {
+            Cause::Damaged
+        }
+        _ => Cause::Refused,
+    }
 }
 
 /// What the rows tell. Failed where they tell nothing of this heading: a row hasn't its form, say.
@@ -91,13 +106,15 @@ fn read<S: Rising>(
 impl<S: Rising> SqlKeeper<S> {
     /// A keeper over a store that holds so many entries.
     pub(crate) fn over(conn: Connection<S>, heading: Heading, count: u32) -> SqlKeeper<S>
-        ensures { result ≡ record { conn = conn; heading = heading; count = count; faults = 0 } }
+        ensures { result
+            ≡ record { conn = conn; heading = heading; count = count; faults = 0; cause = None } }
     {
         SqlKeeper {
             conn,
             heading,
             count,
             faults: 0,
+            cause: None,
         }
     }
 
@@ -136,6 +153,7 @@ impl<S: Rising> Keeper for SqlKeeper<S> {
         let body = body_of(alloc, entry)?;
         if self.count == u32::MAX {
             self.faults = self.faults.saturating_add(1);
+            self.cause = Some(Cause::NoPlace);
             return Err(KeepFault::Failed);
         }
         let acted = act_at(self.count, entry);
@@ -144,8 +162,9 @@ impl<S: Rising> Keeper for SqlKeeper<S> {
                 self.count += 1;
                 Ok(())
             }
-            Err(_) => {
+            Err(error) => {
                 self.faults = self.faults.saturating_add(1);
+                self.cause = Some(cause_of(&error));
                 Err(KeepFault::Failed)
             }
         }
@@ -156,6 +175,7 @@ impl<S: Rising> Keeper for SqlKeeper<S> {
             Ok(loaded) => {
                 let Ok(count) = u32::try_from(loaded.entries.len()) else {
                     self.faults = self.faults.saturating_add(1);
+                    self.cause = Some(Cause::NoPlace);
                     return Err(KeepFault::Failed);
                 };
                 self.count = count;
@@ -164,6 +184,7 @@ impl<S: Rising> Keeper for SqlKeeper<S> {
             Err(KeepFault::Memory) => Err(KeepFault::Memory),
             Err(KeepFault::Failed) => {
                 self.faults = self.faults.saturating_add(1);
+                self.cause = Some(Cause::Unread);
                 Err(KeepFault::Failed)
             }
         }
@@ -171,6 +192,10 @@ impl<S: Rising> Keeper for SqlKeeper<S> {
 
     fn faults(&self) -> u64 {
         self.faults
+    }
+
+    fn cause(&self) -> Option<Cause> {
+        self.cause
     }
 
     ghost settled = { λ keeper kept sound keeps. leaves_kept (S.Store.recovers keeper.conn.store)

@@ -11,7 +11,7 @@ ghost use Rattle.lynx_keep.specs.Kept.{KeptState};
 
 use lynx_cells::Changes;
 use lynx_entry::Entry;
-use lynx_keep::{KeepFault, Keeper, Loaded};
+use lynx_keep::{Cause, KeepFault, Keeper, Loaded};
 use lynx_store::{SqlKeeper, StoreFault};
 use sqlite::{FileStore, Files};
 use sqlite_disk::Disk;
@@ -89,6 +89,10 @@ impl<D: Disk> Keeper for FileKeeper<D> {
 
     fn faults(&self) -> u64 {
         self.keeper.faults()
+    }
+
+    fn cause(&self) -> Option<Cause> {
+        self.keeper.cause()
     }
 
     ghost settled = { λ keeper kept sound keeps. leaves_kept (recovers keeper.keeper.conn.store)

@@ -6,8 +6,6 @@ use lynx_fixtures::texts::set_of;
 use lynx_keep::{FaultKeeper, MemoryKeeper, Planned};
 use lynx_names::{Memory, ServerId, Stamp};
 use lynx_server::Server;
-use lynx_store::SqlKeeper;
-use sqlite::{Connection, MemStore};
 use std::alloc::Global;
 
 /// Keepers in memory that kept nothing yet.
@@ -31,30 +29,6 @@ pub fn failing(
     for number in 0..count {
         let commits = if number == broken { commits } else { u64::MAX };
         keepers.push(FaultKeeper::new(MemoryKeeper::new(alloc), commits, planned))?;
-    }
-    Ok(keepers)
-}
-
-/// A keeper over a new store in memory of that server.
-fn store(alloc: Global, text: &str, server: ServerId) -> Result<SqlKeeper<MemStore>, Trouble> {
-    let set = set_of(alloc, text)?;
-    let Ok(conn) = Connection::open_in_memory(alloc) else {
-        return Err(Trouble::Open);
-    };
-    match SqlKeeper::open(alloc, conn, &set, server) {
-        Ok(keeper) => Ok(keeper),
-        Err(_) => Err(Trouble::Open),
-    }
-}
-
-/// Keepers over new stores in memory.
-pub fn stores(alloc: Global, text: &str, count: u8) -> Result<Vec<SqlKeeper<MemStore>>, Trouble> {
-    let mut keepers = Vec::new(alloc);
-    for number in 0..count {
-        let server = ServerId::new(number).ok_or(Trouble::Open)?;
-        if keepers.push(store(alloc, text, server)?).is_err() {
-            return Err(Trouble::Memory);
-        }
     }
     Ok(keepers)
 }

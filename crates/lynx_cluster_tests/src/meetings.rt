@@ -1,6 +1,6 @@
 //! Two threads inside two servers at once.
 use crate::crossing::make_crossing;
-use crate::keepers::{began, empty, stores};
+use crate::keepers::{began, empty};
 use crate::talk::{Asked, is_explained, talk, talked};
 use crate::texts::{GO_AND_COME, PUTS};
 use crate::trouble::Trouble;
@@ -110,13 +110,6 @@ fn begins_meet<
 #[test]
 fn two_begins_are_inside_at_once(rt: HostRuntime) -> Result<(), Fail> {
     let keepers = empty(rt.alloc(), 2)?;
-    assert!(rt; begins_meet(rt, rt.alloc(), keepers) == Ok(true));
-    Ok(())
-}
-
-#[test]
-fn two_begins_are_inside_two_stores_at_once(rt: HostRuntime) -> Result<(), Fail> {
-    let keepers = stores(rt.alloc(), PUTS, 2)?;
     assert!(rt; begins_meet(rt, rt.alloc(), keepers) == Ok(true));
     Ok(())
 }

@@ -1,5 +1,5 @@
 //! The worked sessions.
-use crate::keepers::{empty, stores};
+use crate::keepers::empty;
 use crate::talk::{Asked, Chain, is_explained, talked};
 use crate::texts::PUTS;
 use crate::trouble::Trouble;
@@ -156,15 +156,6 @@ fn is_met<
 fn sessions_over_memory_are_told_what_they_should(rt: HostRuntime) -> Result<(), Fail> {
     for row in [PUTTING, TRIPS] {
         let keepers = empty(rt.alloc(), 2)?;
-        assert!(rt; is_met(rt, rt.alloc(), row, keepers) == Ok(true));
-    }
-    Ok(())
-}
-
-#[test]
-fn sessions_over_stores_are_told_what_they_should(rt: HostRuntime) -> Result<(), Fail> {
-    for row in [PUTTING, TRIPS] {
-        let keepers = stores(rt.alloc(), row.set, 2)?;
         assert!(rt; is_met(rt, rt.alloc(), row, keepers) == Ok(true));
     }
     Ok(())

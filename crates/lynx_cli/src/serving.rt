@@ -111,7 +111,8 @@ pub(crate) fn serve_file<
         port: place.port,
         status: status_port(host, flags.status)?,
     };
-    let progress = Progress::new(host);
+    let log = Log::new(*host, flags.log);
+    let progress = Progress::new(host, log);
     let board = Board {
         rt: host,
         folder: service.folder,
@@ -126,7 +127,7 @@ pub(crate) fn serve_file<
         writer,
         &progress,
         &board,
-        Log::new(*host, flags.log),
+        log,
     ) {
         Ok(Explained::Order(_)) => Ok(DONE),
         Ok(Explained::Cycle(_)) => Ok(OFFENDING),

@@ -76,6 +76,12 @@ impl Log {
         self.write(format!(in alloc; "event=opened server={server} entries={entries}"));
     }
 
+    /// So many of all stores are open, with so many entries.
+    pub(crate) fn opening(&self, stores: u64, all: u64, entries: u64) {
+        let alloc = self.rt.alloc();
+        self.write(format!(in alloc; "event=opening stores={stores} of={all} entries={entries}"));
+    }
+
     /// Clients are listened to, and those who watch if there is a port for them.
     pub(crate) fn listening(&self, address: SocketAddr, status: Option<SocketAddr>) {
         let alloc = self.rt.alloc();

@@ -57,14 +57,19 @@ pub(crate) fn open_there<R: Threads + Sync, K: Keeper + Send + Drop, S: Stores<K
     places: &mut [Place<K>],
     progress: &Progress<'_>,
 ) {
-    progress.opens();
+    let all = places.iter().filter(|place| place.is_there).count() as u64;
+    progress.opens(all);
     thread::for_each_mut(
         rt,
         places,
         OPENERS,
         &|_, place: &mut Place<K>| {
             if place.is_there {
-                place.opened = Some(stores.open(folder, set, place.server));
+                let opened = stores.open(folder, set, place.server);
+                if let Ok(keeper) = &opened {
+                    progress.opened(all, stores.entries(keeper));
+                }
+                place.opened = Some(opened);
             }
         },
     );

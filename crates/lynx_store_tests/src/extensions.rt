@@ -1,7 +1,8 @@
 //! Stores given to sets that extend theirs, with a stop at each call, one after another.
+use crate::disks::{come_back, connect};
 use crate::made::{Fault, paid};
-use crate::stops::{connect, crashed};
-use crate::upgrades::{is_paid, paid_disks};
+use crate::seeded::paid_disks;
+use crate::upgrades::is_paid;
 use lynx_fixtures::texts::{PAYMENT, set_of};
 use lynx_names::{Memory, ServerId};
 use lynx_set::ChainSet;
@@ -58,8 +59,8 @@ fn is_of<D: Disk + Drop>(
 fn survive(alloc: Global, text: &str, log: u64, db: u64) -> Result<(bool, bool), Memory> {
     let (old, set) = (set_of(alloc, PAYMENT)?, set_of(alloc, text)?);
     let (told, left) = extend(alloc, &set, paid_disks(alloc, log, db)?);
-    let stopped = told.is_none() || !left.may_be_used();
-    let left = crashed(left);
+    let (has_stopped, left) = come_back(left);
+    let stopped = told.is_none() || has_stopped;
     let is_right = match told {
         Some(entries) => entries == 2 && is_of(alloc, left, &[&set])?,
         None => is_of(alloc, left, &[&old, &set])?,

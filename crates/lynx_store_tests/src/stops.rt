@@ -1,166 +1,222 @@
-//! Disks in memory that stop at each call, one after another.
-use lynx_entry::Answer;
-use lynx_fixtures::made::request;
-use lynx_fixtures::payments::{PAY, SEED};
+//! The worked payment, while a store stops at one of its calls.
+use crate::disks::{Disks, blank_disks, come_back, disks_of, open};
+use crate::gathered::gathers;
+use crate::payment::{Run, begin_over, deliver_over};
+use lynx_fixtures::made::server;
 use lynx_fixtures::texts::{PAYMENT, set_of};
-use lynx_keep::Keeper;
-use lynx_names::{Memory, ServerId, Stamp};
-use lynx_server::Server;
+use lynx_names::{Memory, ServerId};
 use lynx_set::ChainSet;
 use lynx_store::SqlKeeper;
-use sqlite::{Connection, FileStore, Files, Options};
-use sqlite_disk::{Crash, Disk, Fuse, Memory as File};
+use lynx_weave::ToldItem;
+use sqlite::{FileStore, Files};
+use sqlite_disk::Crash;
 use std::alloc::Global;
-use std::test::Fail;
 
-/// The files of one store, which stop.
-pub type Disks = Files<Fuse<File>>;
-
-/// Files whose log passes so many calls on, and whose database so many.
-fn disks(alloc: Global, log: u64, db: u64) -> Disks {
-    Files {
-        log: Fuse::new(File::new(alloc), log),
-        db: Fuse::new(File::new(alloc), db),
-    }
+/// One of server 0, which pays, and one of server 1, which is paid.
+#[derive(Drop)]
+struct Both<T> {
+    payer: T,
+    payee: T,
 }
 
-/// A database on the disks, or the disks.
-pub fn connect<D: Disk + Drop>(
-    alloc: Global,
-    disks: Files<D>,
-) -> Result<Connection<FileStore<D>>, Files<D>> {
-    if !disks.may_be_used() {
-        return Err(disks);
-    }
-    match Connection::open_files(alloc, disks, Options::new(1)) {
-        Ok(conn) => Ok(conn),
-        Err((_, left)) => Err(left.into_files()),
-    }
-}
-
-/// A keeper over the disks, or the disks.
-fn open<D: Disk + Drop>(
+/// Opens server 0 on its disks, and begins.
+fn begin_on<D: Crash + Drop>(
     alloc: Global,
     set: &ChainSet,
     disks: Files<D>,
-) -> Result<SqlKeeper<FileStore<D>>, Files<D>> {
-    let conn = connect(alloc, disks)?;
-    match SqlKeeper::open(alloc, conn, set, ServerId::first()) {
-        Ok(keeper) => Ok(keeper),
-        Err((_, conn)) => Err(conn.into_store().close()),
-    }
-}
-
-/// The disks of a keeper, which isn't closed well.
-fn disks_of<D: Disk + Drop>(keeper: SqlKeeper<FileStore<D>>) -> Files<D> {
-    keeper.into_connection().into_store().close()
-}
-
-/// The machine stops and comes back.
-pub fn crashed(mut disks: Disks) -> Disks {
-    disks.log.crash();
-    disks.db.crash();
-    disks
-}
-
-/// How many of the seed and the payment are answered.
-fn begins<K: Keeper>(alloc: Global, server: &mut Server<K>) -> Result<usize, Memory> {
-    let mut answered = 0usize;
-    for asked in [SEED, PAY] {
-        let answer = server.begin(alloc, request(alloc, asked)?, Stamp::zero());
-        if matches!(answer, Answer::Begun { .. }) {
-            answered = answered.saturating_add(1);
-        }
-    }
-    Ok(answered)
-}
-
-/// How many of the two begins a server over this keeper answers, and the keeper.
-fn run_over<K: Keeper + Drop>(
-    alloc: Global,
-    set: &ChainSet,
-    keeper: K,
-) -> Result<(usize, K), Memory> {
-    let Ok(mut server) = Server::open(alloc, set, ServerId::first(), keeper) else {
-        return Err(Memory);
-    };
-    let answered = begins(alloc, &mut server)?;
-    Ok((answered, server.into_keeper()))
-}
-
-/// How many of the two begins were answered, and the disks.
-pub fn run<D: Disk + Drop>(
-    alloc: Global,
-    set: &ChainSet,
-    disks: Files<D>,
-) -> Result<(usize, Files<D>), Memory> {
-    match open(alloc, set, disks) {
+    told: &mut Vec<ToldItem>,
+) -> Result<(Run, Files<D>), Memory> {
+    match open(alloc, disks, set, ServerId::first()) {
         Ok(keeper) => {
-            let (answered, keeper) = run_over(alloc, set, keeper)?;
-            Ok((answered, disks_of(keeper)))
+            let (run, keeper) = begin_over(alloc, set, keeper, told)?;
+            Ok((run, disks_of(keeper)))
         }
-        Err(disks) => Ok((0, disks)),
+        Err(disks) => Ok((Run::NONE, disks)),
     }
 }
 
-/// How many entries this keeper keeps, and whether the cells are those after them.
-fn kept_by<K: Keeper + Drop>(alloc: Global, set: &ChainSet, keeper: K) -> (usize, bool) {
-    match Server::open(alloc, set, ServerId::first(), keeper) {
-        Ok(server) => (server.history().len(), true),
-        Err(_) => (0, false),
-    }
-}
-
-/// The same of what is kept on these disks.
-fn kept<D: Disk + Drop>(
+/// Opens server 1 on its disks, and delivers the message if it was sent.
+fn deliver_on<D: Crash + Drop>(
     alloc: Global,
     set: &ChainSet,
     disks: Files<D>,
-) -> Result<(usize, bool), Fail> {
-    match open(alloc, set, disks) {
-        Ok(keeper) => Ok(kept_by(alloc, set, keeper)),
-        Err(_) => Err(Fail::from("not opened")),
+    is_sent: bool,
+) -> Result<(Run, Files<D>), Memory> {
+    let server = server(1)?;
+    match open(alloc, disks, set, server) {
+        Ok(keeper) => {
+            let (run, keeper) = deliver_over(alloc, set, server, keeper, is_sent)?;
+            Ok((run, disks_of(keeper)))
+        }
+        Err(disks) => Ok((Run::NONE, disks)),
     }
 }
 
-/// Whether, after a stop at that call, the store has what was answered, or one entry more, whole.
-/// None where no stop came.
-fn survives(alloc: Global, log: u64, db: u64) -> Result<Option<bool>, Fail> {
-    let set = set_of(alloc, PAYMENT)?;
-    let (answered, left) = run(alloc, &set, disks(alloc, log, db))?;
-    let stopped = !left.may_be_used();
-    let (count, whole) = kept(alloc, &set, crashed(left))?;
-    if !stopped && answered == 2 {
-        return Ok(None);
-    }
-    Ok(Some(whole && (count == answered || count == answered.saturating_add(1))))
+/// The payment on the disks of both: what each did, and the disks.
+fn pay_on<D: Crash + Drop>(
+    alloc: Global,
+    set: &ChainSet,
+    disks: Both<Files<D>>,
+    told: &mut Vec<ToldItem>,
+) -> Result<(Both<Run>, Both<Files<D>>), Memory> {
+    let (paid, payer) = begin_on(alloc, set, disks.payer, told)?;
+    let (came, payee) = deliver_on(alloc, set, disks.payee, paid.answered == 2)?;
+    let runs = Both {
+        payer: paid,
+        payee: came,
+    };
+    Ok((runs, Both { payer, payee }))
 }
 
-/// Whether the store survives a stop at each call of the log, or of the database.
-fn survives_all(alloc: Global, of_log: bool) -> Result<bool, Fail> {
-    for calls in 0..1000u64 {
-        let survived = if of_log {
-            survives(alloc, calls, u64::MAX)?
-        } else {
-            survives(alloc, u64::MAX, calls)?
-        };
-        match survived {
-            Some(true) => {}
-            Some(false) => return Ok(false),
-            None => return Ok(calls > 0),
+/// The disks of both after the machines stopped and came back, and whether a call had found one
+/// stopped.
+fn both_come_back<D: Crash + Drop>(disks: Both<Files<D>>) -> (bool, Both<Files<D>>) {
+    let (payer_stopped, payer) = come_back(disks.payer);
+    let (payee_stopped, payee) = come_back(disks.payee);
+    (payer_stopped || payee_stopped, Both { payer, payee })
+}
+
+/// Adds the keeper of that server. Whether it opens.
+fn open_another<D: Crash + Drop>(
+    alloc: Global,
+    set: &ChainSet,
+    server: ServerId,
+    disks: Files<D>,
+    keepers: &mut Vec<SqlKeeper<FileStore<D>>>,
+) -> Result<bool, Memory> {
+    match open(alloc, disks, set, server) {
+        Ok(keeper) => {
+            keepers.push(keeper)?;
+            Ok(true)
+        }
+        Err(_) => Ok(false),
+    }
+}
+
+/// Whether what is kept on the disks of both gathers to the world of the payment, in which what was
+/// told stands.
+fn gathers_on<D: Crash + Drop>(
+    alloc: Global,
+    set: &ChainSet,
+    disks: Both<Files<D>>,
+    told: Vec<ToldItem>,
+) -> Result<bool, Memory> {
+    let mut keepers = Vec::new(alloc);
+    let is_open = open_another(alloc, set, ServerId::first(), disks.payer, &mut keepers)?
+        && open_another(alloc, set, server(1)?, disks.payee, &mut keepers)?;
+    Ok(is_open && gathers(alloc, set, &mut keepers, &[told])?)
+}
+
+/// What came of a stop.
+#[derive(Clone, Copy)]
+struct Survival {
+    /// The machine did stop.
+    stopped: bool,
+    /// What was kept is right, and the payment went on from it.
+    is_right: bool,
+}
+
+/// The payment before the stop and again after it.
+fn survive<D: Crash + Drop>(
+    alloc: Global,
+    set: &ChainSet,
+    disks: Both<Files<D>>,
+) -> Result<Survival, Memory> {
+    let mut told = Vec::new(alloc);
+    let (before, disks) = pay_on(alloc, set, disks, &mut told)?;
+    let (stopped, disks) = both_come_back(disks);
+    let (after, disks) = pay_on(alloc, set, disks, &mut told)?;
+    let went_on = after.payer.goes_on(before.payer, 2) && after.payee.goes_on(before.payee, 1);
+    let is_right = went_on && gathers_on(alloc, set, disks, told)?;
+    Ok(Survival { stopped, is_right })
+}
+
+/// The file of a store that stops.
+#[derive(Clone, Copy)]
+enum StoreFile {
+    Log,
+    Database,
+}
+
+/// Which store stops, and how many stops it meets at least.
+#[derive(Clone, Copy)]
+struct Case {
+    name: &'static str,
+    is_payer: bool,
+    file: StoreFile,
+    least: u64,
+}
+
+/// The disks of both, where that file passes so many calls on, and the others all.
+fn stopping(alloc: Global, case: &Case, calls: u64) -> Both<Disks> {
+    let lasting = blank_disks(alloc, u64::MAX, u64::MAX);
+    let stopping = match case.file {
+        StoreFile::Log => blank_disks(alloc, calls, u64::MAX),
+        StoreFile::Database => blank_disks(alloc, u64::MAX, calls),
+    };
+    if case.is_payer {
+        Both {
+            payer: stopping,
+            payee: lasting,
+        }
+    } else {
+        Both {
+            payer: lasting,
+            payee: stopping,
         }
     }
-    Ok(false)
 }
 
-#[test]
-fn the_log_stops(rt: HostRuntime) -> Result<(), Fail> {
-    assert!(rt; survives_all(rt.alloc(), true)?);
-    Ok(())
+/// How many stops the payment meets, at the first call, at the second and so on. None where it
+/// doesn't survive one.
+fn stops(alloc: Global, case: &Case) -> Result<Option<u64>, Memory> {
+    let set = set_of(alloc, PAYMENT)?;
+    for calls in 0..1000u64 {
+        let disks = stopping(alloc, case, calls);
+        let survival = survive(alloc, &set, disks)?;
+        if !survival.is_right {
+            return Ok(None);
+        }
+        if !survival.stopped {
+            return Ok(Some(calls));
+        }
+    }
+    Ok(None)
 }
 
+const CASES: &[Case] = &[
+    Case {
+        name: "the payer's log",
+        is_payer: true,
+        file: StoreFile::Log,
+        least: 20,
+    },
+    Case {
+        name: "the payer's database",
+        is_payer: true,
+        file: StoreFile::Database,
+        least: 5,
+    },
+    Case {
+        name: "the payee's log",
+        is_payer: false,
+        file: StoreFile::Log,
+        least: 20,
+    },
+    Case {
+        name: "the payee's database",
+        is_payer: false,
+        file: StoreFile::Database,
+        least: 5,
+    },
+];
+
 #[test]
-fn the_database_stops(rt: HostRuntime) -> Result<(), Fail> {
-    assert!(rt; survives_all(rt.alloc(), false)?);
+fn each_stop_is_survived(rt: HostRuntime) -> Result<(), Memory> {
+    for case in CASES {
+        let name = case.name;
+        let stops = stops(rt.alloc(), case)?.unwrap_or(0);
+        assert!(rt; stops >= case.least, "{name}: {stops} stops");
+    }
     Ok(())
 }

@@ -1,6 +1,7 @@
 //! Upgrades of a store, with a stop at each call, one after another.
+use crate::disks::{come_back, connect};
 use crate::made::{Fault, paid};
-use crate::stops::{Disks, connect, crashed, run};
+use crate::seeded::paid_disks;
 use lynx_fixtures::cells::{Cell, are_cells};
 use lynx_fixtures::texts::{PAYMENT, set_of};
 use lynx_names::Memory;
@@ -8,26 +9,12 @@ use lynx_set::Version;
 use lynx_show::{ShowFault, check_upgrade, upgrade_and_tell};
 use lynx_store::{Inspected, inspect, upgrade_store};
 use sqlite::Files;
-use sqlite_disk::{Disk, Fuse, Memory as File};
+use sqlite_disk::Disk;
 use std::alloc::Global;
 use std::test::Fail;
 
 /// What the payer's store holds after the worked payment.
 const PAID: &[Cell] = &[(0, 0, 70)];
-
-/// The files of the payer's store, whose log passes so many calls on, and whose database so many.
-pub fn paid_disks(alloc: Global, log: u64, db: u64) -> Result<Disks, Memory> {
-    let set = set_of(alloc, PAYMENT)?;
-    let blank = Files {
-        log: File::new(alloc),
-        db: File::new(alloc),
-    };
-    let (_, made) = run(alloc, &set, blank)?;
-    Ok(Files {
-        log: Fuse::new(made.log, log),
-        db: Fuse::new(made.db, db),
-    })
-}
 
 /// The upgrade of the store on these disks: how many entries it told, and the disks.
 fn upgrade<D: Disk + Drop>(alloc: Global, disks: Files<D>) -> (Option<usize>, Files<D>) {
@@ -70,8 +57,9 @@ struct Survival {
 /// An upgrade with a stop at that call.
 fn survive(alloc: Global, log: u64, db: u64) -> Result<Survival, Memory> {
     let (told, left) = upgrade(alloc, paid_disks(alloc, log, db)?);
-    let stopped = told.is_none() || !left.may_be_used();
-    let version = version_on(alloc, crashed(left))?;
+    let (has_stopped, left) = come_back(left);
+    let stopped = told.is_none() || has_stopped;
+    let version = version_on(alloc, left)?;
     let is_right = match told {
         Some(count) => count == 2 && version == Some(Version::Two),
         None => version.is_some(),

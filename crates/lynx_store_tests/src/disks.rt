@@ -3,15 +3,29 @@ use lynx_names::ServerId;
 use lynx_set::ChainSet;
 use lynx_store::SqlKeeper;
 use sqlite::{Connection, FileStore, Files, Options};
-use sqlite_disk::{Crash, Disk};
+use sqlite_disk::{Crash, Disk, Fuse, Memory as File};
 use std::alloc::Global;
 
 /// The log is copied into the database file as soon as it has so many pages: so the calls that do
 /// that stop too.
 const LOG_PAGES: usize = 8;
 
+/// The files of one store, which stop.
+pub type Disks = Files<Fuse<File>>;
+
+/// A database on them.
+pub type Database = Connection<FileStore<Fuse<File>>>;
+
+/// Files that hold nothing yet, whose log passes so many calls on, and whose database so many.
+pub fn blank_disks(alloc: Global, log: u64, db: u64) -> Disks {
+    Files {
+        log: Fuse::new(File::new(alloc), log),
+        db: Fuse::new(File::new(alloc), db),
+    }
+}
+
 /// A database on the disks, or the disks.
-fn connect<D: Disk + Drop>(
+pub fn connect<D: Disk + Drop>(
     alloc: Global,
     disks: Files<D>,
 ) -> Result<Connection<FileStore<D>>, Files<D>> {

@@ -38,7 +38,7 @@ fn torn_bytes(
 }
 
 /// A disk that holds these bytes for good, and passes so many calls on.
-fn holding(alloc: Global, bytes: &[u8], calls: u64) -> Result<Fuse<File>, Memory> {
+pub fn holding(alloc: Global, bytes: &[u8], calls: u64) -> Result<Fuse<File>, Memory> {
     let mut file = File::new(alloc);
     if !file.may_be_used() || file.write_at(0, bytes).is_err() || file.sync().is_err() {
         return Err(Memory);

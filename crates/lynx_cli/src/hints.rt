@@ -9,16 +9,16 @@ use crate::reading::is_named_pipe;
 use crate::shown::Shown;
 use crate::spots::spot_of;
 use crate::texts::OFFENDING;
+use crate::undoing::undone_lines;
 use lynx_ask::AskFault;
 use lynx_hints::{Part, begin_hints, hint, separator_hint};
 use lynx_lex::TextFault;
 use lynx_reasons::mends;
-use lynx_restore::VoidRequest;
+use lynx_restore::Undone;
 use lynx_service::{Damage, ServeFault, StoreWord};
 use lynx_set::ChainSet;
 use lynx_text::parse;
 use std::alloc::{AllocError, Global};
-use std::fmt::Write as _;
 use std::io::Read;
 use std::net::{Ipv4Addr, Net, TcpListener, TcpStream};
 use std::rt::Files;
@@ -47,20 +47,6 @@ impl<'a> Named<'a> {
 pub struct Hints {
     is_wanted: bool,
     lines: Option<String>,
-}
-
-/// A line for each request whose answer is void.
-fn void_lines(alloc: Global, void: &[VoidRequest]) -> Result<String, AllocError> {
-    let mut lines = String::new(alloc);
-    for request in void {
-        let (client, number) = (request.client.number(), request.number);
-        let server = request.server;
-        writeln!(
-            lines,
-            "  void: what client {client} was answered under its number {number}, at server {server}"
-        )?;
-    }
-    Ok(lines)
 }
 
 /// The error with which a file can't be opened, or its first byte not be read. A pipe isn't opened,
@@ -291,9 +277,9 @@ impl Hints {
     }
 
     /// Notes the requests whose answers are void, since they were cut off.
-    pub(crate) fn note_void(&mut self, alloc: Global, void: &[VoidRequest]) {
+    pub(crate) fn note_undone(&mut self, alloc: Global, undone: &[Undone]) {
         if self.is_wanted {
-            self.lines = void_lines(alloc, void).ok();
+            self.lines = undone_lines(alloc, undone).ok();
         }
     }
 

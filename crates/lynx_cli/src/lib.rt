@@ -36,3 +36,4 @@ mod spots;
 mod stored;
 mod storing;
 pub mod texts;
+mod undoing;

@@ -160,7 +160,7 @@ pub(crate) fn restore_folder<'a, K: Keeper + Drop, S: Stores<K>, W: Write>(
     tell(rt, WIPED);
     let done = match &restored {
         Ok(restored) => {
-            hints.note_void(rt.alloc(), restored.void.as_slice());
+            hints.note_undone(rt.alloc(), restored.undone.as_slice());
             write_restored(rt, restored, writer)
         }
         Err(fault) => Err(*fault),

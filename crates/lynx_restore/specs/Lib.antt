@@ -1,4 +1,4 @@
 pub mod Refills
 pub mod Restored
-pub mod Void
+pub mod Undone
 pub mod Lines

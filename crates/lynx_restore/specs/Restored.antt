@@ -11,8 +11,8 @@ use Rattle.lynx_store.specs.Stored.{Owner, owner_for}
 use Rattle.lynx_cluster.specs.Starting.{AreOpened}
 use Rattle.lynx_restore.specs.declared.restored.Restored.{Restored}
 use Rattle.lynx_restore.specs.declared.restored.RestoredServer.{RestoredServer}
-use Rattle.lynx_restore.specs.declared.void.VoidRequest.{VoidRequest}
-use Rattle.lynx_restore.specs.Void.{void_in}
+use Rattle.lynx_restore.specs.declared.undone.Undone.{Undone}
+use Rattle.lynx_restore.specs.Undone.{undone_in}
 
 -- no count is higher than its history is long
 abbrev pub AreWithin : List ℕ → List History → Type 0
@@ -33,11 +33,11 @@ restored_of (count ∷ counts) (here ∷ servers) =
     restored_at here count ∷ restored_of counts servers
 
 -- the requests of the entries that are cut off of each server
-abbrev pub void_of : {K : Type 0} → List ℕ → List (Serving K) → List VoidRequest
-void_of [] servers = []
-void_of (count ∷ counts) [] = []
-void_of (count ∷ counts) (here ∷ servers) =
-    void_in here.server (drop count here.history) ++ void_of counts servers
+abbrev pub undone_of : {K : Type 0} → List ℕ → List (Serving K) → List Undone
+undone_of [] servers = []
+undone_of (count ∷ counts) [] = []
+undone_of (count ∷ counts) (here ∷ servers) =
+    undone_in here.server (drop count here.history) ++ undone_of counts servers
 
 -- A keeper that kept nothing when it was opened, and keeps just these entries and the cells that
 -- they give.
@@ -71,4 +71,4 @@ pub record IsRestored {K L : Type 0} (copied : Terms K) (terms : Terms L) (owner
   pub cut : IsCut set (histories_of servers) counts
   pub stored : AreStored terms owner_of set (fronts counts (histories_of servers))
   pub told : restored.servers.items ≡ restored_of counts servers
-  pub void : restored.void.items ≡ void_of counts servers
+  pub undone : restored.undone.items ≡ undone_of counts servers

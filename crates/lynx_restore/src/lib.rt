@@ -8,7 +8,7 @@ pub use refilling::refill;
 pub use restored::{Restored, RestoredServer};
 pub use restoring::restore;
 pub use telling::restored_lines;
-pub use void::VoidRequest;
+pub use undone::Undone;
 
 mod copying;
 pub mod fault;
@@ -19,4 +19,4 @@ pub mod restoring;
 mod storing;
 mod summing;
 pub mod telling;
-pub mod void;
+pub mod undone;

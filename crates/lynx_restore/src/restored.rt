@@ -1,5 +1,5 @@
 //! What was restored.
-use crate::void::VoidRequest;
+use crate::undone::Undone;
 use lynx_names::ServerId;
 
 /// How much of the copy of a server was restored.
@@ -17,6 +17,6 @@ pub struct RestoredServer {
 pub struct Restored {
     /// By number.
     pub servers: Vec<RestoredServer>,
-    /// The requests of the entries that were cut off, by server, then in order.
-    pub void: Vec<VoidRequest>,
+    /// What goes with each entry that was cut off, by server, then in order.
+    pub undone: Vec<Undone>,
 }

@@ -1,11 +1,11 @@
 //! What is restored of servers, by how much of each is taken.
 ghost use Rattle.std.specs.Prelude.{◌≡◌, ◌≤◌, ◌∷◌, ◌++◌, [], drop, length, IfOk, OnOk};
 ghost use Rattle.lynx_weave.specs.Servers.{histories_of};
-ghost use Rattle.lynx_restore.specs.Restored.{AreWithin, restored_at, restored_of, void_of};
-ghost use Rattle.lynx_restore.specs.Void.{void_in};
+ghost use Rattle.lynx_restore.specs.Restored.{AreWithin, restored_at, restored_of, undone_of};
+ghost use Rattle.lynx_restore.specs.Undone.{undone_in};
 
 use crate::restored::{Restored, RestoredServer};
-use crate::void::add_void;
+use crate::undone::add_undone;
 use lynx_keep::Keeper;
 use lynx_names::Memory;
 use lynx_server::Server;
@@ -20,11 +20,11 @@ fn add_server<K: Keeper>(
     requires { count ≤ length server.now.history }
     ensures servers { OnOk result (restored.new.servers.items
         ≡ restored.old.servers.items ++ restored_at server.now count ∷ []) }
-    ensures void { OnOk result (restored.new.void.items ≡ restored.old.void.items
-        ++ void_in server.now.server (drop count server.now.history)) }
+    ensures undone { OnOk result (restored.new.undone.items ≡ restored.old.undone.items
+        ++ undone_in server.now.server (drop count server.now.history)) }
 {
     let history = server.history();
-    add_void(&mut restored.void, server.server(), &history[count..])?;
+    add_undone(&mut restored.undone, server.server(), &history[count..])?;
     restored.servers.push(RestoredServer {
         server: server.server(),
         taken: count as u64,
@@ -43,12 +43,12 @@ pub(crate) fn sum_up<K: Keeper>(
     requires within { AreWithin counts.now (histories_of servers.now) }
     ensures servers { IfOk result (λ restored.
         restored.servers.items ≡ restored_of counts.now servers.now) }
-    ensures void { IfOk result (λ restored.
-        restored.void.items ≡ void_of counts.now servers.now) }
+    ensures undone { IfOk result (λ restored.
+        restored.undone.items ≡ undone_of counts.now servers.now) }
 {
     let mut restored = Restored {
         servers: Vec::new(alloc),
-        void: Vec::new(alloc),
+        undone: Vec::new(alloc),
     };
     for (number, server) in servers.iter().enumerate() {
         add_server(&mut restored, server, counts[number])?;

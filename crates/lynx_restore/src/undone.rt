@@ -1,54 +1,69 @@
-//! Requests whose answers are void.
+//! What goes with entries that are cut off.
 ghost use Rattle.std.specs.Prelude.{◌≡◌, ◌++◌, OnOk};
-ghost use Rattle.lynx_restore.specs.Void.{recorded, recorded_in, void_in};
+ghost use Rattle.lynx_restore.specs.Undone.{undone_by, undone_in};
 
-use lynx_entry::{Entry, Request};
-use lynx_names::{ClientId, Memory, ServerId};
+use lynx_entry::Entry;
+use lynx_names::{ChainId, ClientId, Memory, ServerId};
 
-/// A request that the server had recorded, as begun or as refused, in an entry that is cut off.
-/// What its client was answered is void.
+/// What an entry says that is cut off of the server's history.
 #[derive(Clone, Copy, Debug, PartialEq, Eq)]
-pub struct VoidRequest {
-    pub server: ServerId,
-    pub client: ClientId,
-    pub number: u64,
+pub enum Undone {
+    /// The request began this chain, which goes with all that it did. What the client was answered
+    /// is void.
+    Began {
+        server: ServerId,
+        client: ClientId,
+        number: u64,
+        chain: ChainId,
+    },
+    /// The request was refused. What the client was answered is void.
+    Refused {
+        server: ServerId,
+        client: ClientId,
+        number: u64,
+    },
+    /// A later hop of the chain ran. Where the chain's begin stays, that hop is owed again.
+    Ran {
+        server: ServerId,
+        chain: ChainId,
+        hop: u8,
+    },
 }
 
-impl VoidRequest {
-    /// The request, which that server had recorded.
-    fn of(server: ServerId, request: &Request) -> VoidRequest
-        ensures { result ≡ recorded server request.now }
-    {
-        VoidRequest {
-            server,
-            client: request.client,
-            number: request.number,
-        }
-    }
-}
-
-/// Adds the request that the entry of that server records, if it records one.
-fn add_recorded(void: &mut Vec<VoidRequest>, server: ServerId, entry: &Entry) -> Result<(), Memory>
-    ensures { OnOk result (void.new.items ≡ void.old.items ++ recorded_in server entry.now) }
+/// What goes with the entry of that server.
+fn undone_by(server: ServerId, entry: &Entry) -> Undone
+    ensures { result ≡ undone_by server entry.now }
 {
     match entry {
-        Entry::Begun(begun) => void.push(VoidRequest::of(server, &begun.request))?,
-        Entry::Refused(refused) => void.push(VoidRequest::of(server, &refused.request))?,
-        Entry::Hop(_) => {}
+        Entry::Begun(begun) => Undone::Began {
+            server,
+            client: begun.request.client,
+            number: begun.request.number,
+            chain: begun.chain,
+        },
+        Entry::Refused(refused) => Undone::Refused {
+            server,
+            client: refused.request.client,
+            number: refused.request.number,
+        },
+        Entry::Hop(ran) => Undone::Ran {
+            server,
+            chain: ran.message.chain,
+            hop: ran.message.hop,
+        },
     }
-    Ok(())
 }
 
-/// Adds the requests that these entries of that server record.
-pub(crate) fn add_void(
-    void: &mut Vec<VoidRequest>,
+/// Adds what goes with these entries of that server.
+pub(crate) fn add_undone(
+    undone: &mut Vec<Undone>,
     server: ServerId,
     entries: &[Entry],
 ) -> Result<(), Memory>
-    ensures { OnOk result (void.new.items ≡ void.old.items ++ void_in server entries.now) }
+    ensures { OnOk result (undone.new.items ≡ undone.old.items ++ undone_in server entries.now) }
 {
     for entry in entries {
-        add_recorded(void, server, entry)?;
+        undone.push(undone_by(server, entry))?;
     }
     Ok(())
 }

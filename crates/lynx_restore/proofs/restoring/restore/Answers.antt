@@ -2,7 +2,7 @@ use Rattle.std.proofs.Common.{◌≡◌, slice_get, Some, sym, subst}
 use Rattle.lynx_cluster.specs.Starting.{AreOpened}
 use Rattle.lynx_weave.specs.Cuts.{fronts}
 use Rattle.lynx_weave.specs.Servers.{histories_of}
-use Rattle.lynx_restore.specs.Restored.{AreStored, restored_of, void_of}
+use Rattle.lynx_restore.specs.Restored.{AreStored, restored_of, undone_of}
 use Rattle.lynx_restore.proofs.restoring.restore.Goals as goal
 
 pub store_all-requires-clause-within : goal.store_all-requires-clause-within
@@ -20,5 +20,5 @@ returns g c =
       cut = c.in_ok-counts.ensures;
       stored = subst (λ l. AreStored g.L.Keeper.terms g.S.Stores.owner_of set (fronts l (histories_of servers))) c.as_slice-2.ensures.value c.in_ok-store_all.ensures;
       told = subst (λ l. c.in_ok-restored.restored.servers.items ≡ restored_of l servers) c.as_slice.ensures.value c.in_ok-restored.ensures.servers;
-      void = subst (λ l. c.in_ok-restored.restored.void.items ≡ void_of l servers) c.as_slice.ensures.value c.in_ok-restored.ensures.void;
+      undone = subst (λ l. c.in_ok-restored.restored.undone.items ≡ undone_of l servers) c.as_slice.ensures.value c.in_ok-restored.ensures.undone;
     }

@@ -1,7 +1,7 @@
 use Rattle.std.proofs.Common.{◌≡◌, ◌<◌, length, slice_get, Some, sym, ap, ◌∙◌, arith}
 use Rattle.std.proofs.lemmas.Option.{slice_get-get_or}
-use Rattle.lynx_restore.specs.Restored.{restored_of, void_of}
-use Rattle.lynx_restore.proofs.Summings.{restored_more, void_more}
+use Rattle.lynx_restore.specs.Restored.{restored_of, undone_of}
+use Rattle.lynx_restore.proofs.Summings.{restored_more, undone_more}
 use Rattle.lynx_restore.proofs.summing.sum_up.Goals as goal
 
 pub loop-number-preserved : goal.loop-number-preserved
@@ -20,6 +20,6 @@ loop-number-preserved g c =
     record {
       servers = restored_more counts servers number here restored.servers.items added.servers.items (restored_of counts servers) within there
           c.in_ok-add_server.ensures.servers c.loop-number.invariant.servers;
-      void = void_more counts servers number here restored.void.items added.void.items (void_of counts servers) within there
-          c.in_ok-add_server.ensures.void c.loop-number.invariant.void;
+      undone = undone_more counts servers number here restored.undone.items added.undone.items (undone_of counts servers) within there
+          c.in_ok-add_server.ensures.undone c.loop-number.invariant.undone;
     }

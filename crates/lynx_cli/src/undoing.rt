@@ -28,7 +28,7 @@ fn put_undone(lines: &mut String, item: &Undone, whole: &[ChainId]) -> Result<()
             writeln!(
                 lines,
                 "  void: what client {client} was answered under its number {number}, at server {server}: chain {chain} goes with all that it did"
-            )
+            )?;
         }
         Undone::Refused {
             server,
@@ -39,18 +39,18 @@ fn put_undone(lines: &mut String, item: &Undone, whole: &[ChainId]) -> Result<()
             writeln!(
                 lines,
                 "  void: what client {client} was answered under its number {number}, at server {server}"
-            )
+            )?;
         }
         Undone::Ran { server, chain, hop } => {
-            if whole.binary_search(chain).is_ok() {
-                return Ok(());
+            if whole.binary_search(chain).is_err() {
+                writeln!(
+                    lines,
+                    "  undone: hop {hop} of chain {chain}, at server {server}"
+                )?;
             }
-            writeln!(
-                lines,
-                "  undone: hop {hop} of chain {chain}, at server {server}"
-            )
         }
     }
+    Ok(())
 }
 
 /// A line for each request whose answer is void, and for each hop that is undone of a chain whose

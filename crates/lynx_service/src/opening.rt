@@ -11,6 +11,7 @@ use lynx_store::StoreFault;
 use lynx_store_files::Stores;
 use std::alloc::Global;
 use std::net::{Ipv4Addr, Net, SocketAddr, TcpListener, TcpStream};
+use std::sync::Wait;
 use std::thread::Threads;
 use std::{io, thread};
 
@@ -49,7 +50,7 @@ pub(crate) fn places<K: Drop, S: Stores<K>>(
 
 /// Opens the stores that are there, side by side: reading one takes some seconds where it is large.
 /// Nothing is made.
-pub(crate) fn open_there<R: Threads + Sync, K: Keeper + Send + Drop, S: Stores<K> + Sync>(
+pub(crate) fn open_there<R: Threads + Wait + Sync, K: Keeper + Send + Drop, S: Stores<K> + Sync>(
     rt: &R,
     set: &ChainSet,
     stores: &S,
@@ -67,7 +68,7 @@ pub(crate) fn open_there<R: Threads + Sync, K: Keeper + Send + Drop, S: Stores<K
             if place.is_there {
                 let opened = stores.open(folder, set, place.server);
                 if let Ok(keeper) = &opened {
-                    progress.opened(all, stores.entries(keeper));
+                    progress.opened(rt, all, stores.entries(keeper));
                 }
                 place.opened = Some(opened);
             }

@@ -2,7 +2,7 @@
 use crate::log::Log;
 use std::io::IsTerminal;
 use std::rt::HostRuntime;
-use std::sync::Mutex;
+use std::sync::{Mutex, Wait};
 use std::time::{Duration, Instant};
 
 /// Seconds between two lines of the log that tell how far something is.
@@ -52,8 +52,8 @@ impl<'a> Progress<'a> {
     }
 
     /// One more of so many stores is open, which has so many entries.
-    pub(crate) fn opened(&self, all: u64, entries: u64) {
-        let (way, is_due) = self.count(entries);
+    pub(crate) fn opened<R: Wait>(&self, rt: &R, all: u64, entries: u64) {
+        let (way, is_due) = self.count(rt, entries);
         let (stores, entries) = (way.stores, way.entries);
         if self.is_shown {
             let _ = eprint!(self.rt;
@@ -66,9 +66,9 @@ impl<'a> Progress<'a> {
     }
 
     /// Notes that one more store is open. Gives how far that is, and whether the log is to be told.
-    fn count(&self, entries: u64) -> (Way, bool) {
+    fn count<R: Wait>(&self, rt: &R, entries: u64) -> (Way, bool) {
         let now = Instant::now(self.rt).ok();
-        let mut way = self.way.lock(self.rt);
+        let mut way = self.way.lock(rt);
         way.stores = way.stores.saturating_add(1);
         way.entries = way.entries.saturating_add(entries);
         let is_due = match (way.told, now) {
@@ -84,9 +84,9 @@ impl<'a> Progress<'a> {
     }
 
     /// The servers start over what their stores hold.
-    pub(crate) fn starts(&self) {
+    pub(crate) fn starts<R: Wait>(&self, rt: &R) {
         if self.is_shown {
-            let entries = self.way.lock(self.rt).entries;
+            let entries = self.way.lock(rt).entries;
             let _ = eprint!(self.rt; "\rlynx: going over {entries} entries\x1b[K");
         }
     }

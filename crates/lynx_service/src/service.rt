@@ -23,6 +23,7 @@ use std::alloc::Global;
 use std::hash::RandomState;
 use std::io::{ErrorKind, Write};
 use std::net::{Net, TcpListener, TcpStream};
+use std::sync::Wait;
 use std::thread::Threads;
 use std::time::Instant;
 
@@ -112,7 +113,7 @@ fn serve_when_told<
 /// The servers of the set over the stores of a folder, which fit together, and where clients are
 /// listened to.
 fn open_all<
-    R: Threads + Sync + Net<Listener = TcpListener, Stream = TcpStream>,
+    R: Threads + Wait + Sync + Net<Listener = TcpListener, Stream = TcpStream>,
     K: Keeper + Send + Drop,
     S: Stores<K> + Sync,
 >(
@@ -141,7 +142,7 @@ fn open_all<
     judge(stores, places.as_slice())?;
     let ports = listen_at_all(rt, service)?;
     let keepers = keepers(alloc, set, stores, service.folder, places)?;
-    progress.starts();
+    progress.starts(rt);
     let opened = Opened::open(alloc, set, keepers)?;
     progress.compares();
     opened.check(alloc)?;

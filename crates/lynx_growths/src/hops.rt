@@ -1,12 +1,11 @@
 //! Calls on a hop, on an entry and on a history, which stay as they are.
-use crate::tried::{Called, Tried, ended, made_again};
+use crate::tried::{Called, Tried, done, done_if, ended, made_again, of_option};
 use lynx_cells::Cells;
-use lynx_entry::Entry;
-use lynx_fixtures::made::{entries, entry, program};
+use lynx_fixtures::made::{boxed, entries, entry, program};
 use lynx_fixtures::parts::EntryParts;
 use lynx_fixtures::payments::{AT_FIRST, PAID};
-use lynx_fixtures::texts::{PAYMENT, read};
-use lynx_foot::touches;
+use lynx_fixtures::texts::{PAYMENT, set_of};
+use lynx_foot::{Touch, touches};
 use lynx_hops::{HopFault, run_hop};
 use lynx_names::{Memory, ProgramId, ServerId};
 use lynx_rules::next_of;
@@ -15,7 +14,7 @@ use lynx_set::ChainSet;
 use std::alloc::Global;
 
 /// A call on a hop, an entry or a history of the payment.
-#[derive(Clone, Copy, Debug, PartialEq, Eq)]
+#[derive(Clone, Copy)]
 pub enum HopCall {
     /// Its first hop runs.
     Run,
@@ -30,56 +29,61 @@ pub enum HopCall {
 /// The first hop of a payment of nothing runs over no cells.
 fn run(alloc: Global, set: &ChainSet, pay: ProgramId) -> Called {
     match run_hop(alloc, set, pay, 0, &[0], &[], &Cells::new(alloc)) {
-        Ok(ran) => {
-            let _ = ran.spend();
-            Called::Done
-        }
+        Ok(ran) => done(ran.spend()),
         Err(HopFault::Memory) => Called::Refused,
         Err(HopFault::Refused(_)) => Called::Other,
     }
 }
 
-/// The cells are listed that the first hop of a payment reads and writes: it is one cell.
+/// Whether these are the cells that the first hop of a payment reads and writes: it is one cell.
+fn are_touches(found: &[Touch]) -> bool {
+    found.len() == 2 && found.iter().all(|touch| touch.key == 0)
+}
+
+/// The cells are listed that the first hop of a payment reads and writes.
 fn list_touches(alloc: Global, set: &ChainSet, pay: ProgramId) -> Called {
     match touches(alloc, set, pay, 0, &[30]) {
-        Ok(found) if found.len() == 2 && found.iter().all(|touch| touch.key == 0) => Called::Done,
-        Ok(_) => Called::Other,
+        Ok(found) => done_if(are_touches(found.as_slice())),
         Err(Memory) => Called::Refused,
     }
 }
 
 /// The message of an entry that sends one is made.
-fn next(alloc: Global, set: &ChainSet, entry: &Entry) -> Called {
-    match next_of(alloc, set, entry) {
-        Ok(Some(_)) => Called::Done,
-        Ok(None) => Called::Other,
-        Err(Memory) => Called::Refused,
-    }
+fn next(alloc: Global, set: &ChainSet) -> Result<Called, Memory> {
+    let paid = boxed(alloc, entry(alloc, EntryParts::Begun(PAID)))?;
+    Ok(of_option(next_of(alloc, set, &paid)))
 }
 
 /// A history is judged that is lawful.
-fn judge(alloc: Global, set: &ChainSet, history: &[Entry]) -> Called {
-    match first_unlawful(alloc, set, ServerId::first(), history) {
-        Ok(None) => Called::Done,
-        Ok(Some(_)) => Called::Other,
-        Err(Memory) => Called::Refused,
+fn judge(alloc: Global, set: &ChainSet) -> Result<Called, Memory> {
+    let history = entries(alloc, AT_FIRST)?;
+    match first_unlawful(alloc, set, ServerId::first(), history.as_slice()) {
+        Ok(found) => Ok(done_if(found.is_none())),
+        Err(Memory) => Ok(Called::Refused),
+    }
+}
+
+/// Makes it once.
+fn make(alloc: Global, call: HopCall, set: &ChainSet) -> Result<Called, Memory> {
+    let pay = program(1)?;
+    match call {
+        HopCall::Run => Ok(run(alloc, set, pay)),
+        HopCall::Touches => Ok(list_touches(alloc, set, pay)),
+        HopCall::Next => next(alloc, set),
+        HopCall::Unlawful => judge(alloc, set),
+    }
+}
+
+/// Makes it on that set, and again where memory was wanting to it.
+fn try_on(alloc: Global, call: HopCall, set: &ChainSet) -> Result<Tried, Memory> {
+    match make(alloc, call, set)? {
+        Called::Refused => Ok(made_again(true, make(alloc, call, set)?)),
+        answered => Ok(ended(answered)),
     }
 }
 
 /// Makes it, and again where memory was wanting to it.
 pub fn try_hop(alloc: Global, call: HopCall) -> Result<Tried, Memory> {
-    let set = read(alloc, PAYMENT)?;
-    let pay = program(1)?;
-    let paid = entry(alloc, EntryParts::Begun(PAID))?;
-    let history = entries(alloc, AT_FIRST)?;
-    let make = || match call {
-        HopCall::Run => run(alloc, &set, pay),
-        HopCall::Touches => list_touches(alloc, &set, pay),
-        HopCall::Next => next(alloc, &set, &paid),
-        HopCall::Unlawful => judge(alloc, &set, history.as_slice()),
-    };
-    match make() {
-        Called::Refused => Ok(made_again(true, make())),
-        answered => Ok(ended(answered)),
-    }
+    let set = set_of(alloc, PAYMENT)?;
+    try_on(alloc, call, &set)
 }

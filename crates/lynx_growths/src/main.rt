@@ -17,6 +17,7 @@ use std::time::Clock;
 mod hops;
 mod openings;
 mod parts;
+mod payments;
 mod servers;
 mod services;
 mod texts;

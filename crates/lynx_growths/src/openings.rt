@@ -1,9 +1,10 @@
 //! Calls that consume what they are given, and are given it anew.
-use crate::tried::{Called, Tried, ended, made_again, of_result};
+use crate::payments::{payee_keeper, payer, payer_keeper};
+use crate::tried::{Called, Tried, done, ended, made_again, of_result};
 use lynx_entry::Entry;
-use lynx_fixtures::made::{boxed, entries, server};
+use lynx_fixtures::made::{boxed, entries};
 use lynx_fixtures::payments::{AT_FIRST, AT_SECOND};
-use lynx_fixtures::texts::{PAYMENT, read};
+use lynx_fixtures::texts::{PAYMENT, set_of};
 use lynx_keep::{KeepFault, Keeper, MemoryKeeper};
 use lynx_names::{Memory, ServerId, TryCopy};
 use lynx_server::{OpenFault, Server, rebuild};
@@ -13,7 +14,7 @@ use lynx_world::{World, empty_keepers};
 use std::alloc::Global;
 
 /// A call that consumes what it is given.
-#[derive(Clone, Copy, Debug, PartialEq, Eq)]
+#[derive(Clone, Copy)]
 pub enum OpeningCall {
     /// A server is opened over what a keeper keeps.
     Open,
@@ -32,30 +33,18 @@ pub enum OpeningCall {
 }
 
 /// What an opening came to.
-fn opened<T: Drop>(answer: Result<T, OpenFault>) -> Called {
+fn opened(answer: Result<Server<MemoryKeeper>, OpenFault>) -> Called {
     match answer {
-        Ok(_) => Called::Done,
+        Ok(server) => done(server),
         Err(OpenFault::Memory) => Called::Refused,
         Err(_) => Called::Other,
     }
 }
 
-/// The payer's server after the payment.
-fn payer(alloc: Global, set: &ChainSet) -> Result<Server<MemoryKeeper>, Memory> {
-    rebuild(alloc, set, ServerId::first(), entries(alloc, AT_FIRST)?).map_err(|_| Memory)
-}
-
-/// The payee's server after it.
-fn payee(alloc: Global, set: &ChainSet) -> Result<Server<MemoryKeeper>, Memory> {
-    rebuild(alloc, set, server(1)?, entries(alloc, AT_SECOND)?).map_err(|_| Memory)
-}
-
 /// What both keep.
 fn keepers(alloc: Global, set: &ChainSet) -> Result<[MemoryKeeper; 2], Memory> {
-    Ok([
-        payer(alloc, set)?.into_keeper(),
-        payee(alloc, set)?.into_keeper(),
-    ])
+    let first = payer_keeper(alloc, set)?;
+    Ok([first, payee_keeper(alloc, set)?])
 }
 
 /// What both did.
@@ -67,7 +56,7 @@ fn histories(alloc: Global) -> Result<Vec<Vec<Entry>>, Memory> {
 }
 
 fn open(alloc: Global, set: &ChainSet) -> Result<Called, Memory> {
-    let keeper = payer(alloc, set)?.into_keeper();
+    let keeper = payer_keeper(alloc, set)?;
     Ok(opened(Server::open(alloc, set, ServerId::first(), keeper)))
 }
 
@@ -99,22 +88,27 @@ fn weave_both(alloc: Global, set: &ChainSet) -> Result<Called, Memory> {
     }
 }
 
-fn gather_both(alloc: Global, set: &ChainSet) -> Result<Called, Memory> {
-    let mut keepers = keepers(alloc, set)?;
+/// What these keep is gathered.
+fn gather_of(alloc: Global, set: &ChainSet, keepers: &mut [MemoryKeeper]) -> Called {
     if keepers.len() != usize::from(set.servers()) {
-        return Ok(Called::Other);
+        return Called::Other;
     }
-    match gather(alloc, set, &mut keepers, &[]) {
-        Ok(world) => Ok(of_result(boxed(alloc, Ok(world)))),
-        Err(GatherFault::Memory) => Ok(Called::Refused),
-        Err(_) => Ok(Called::Other),
+    match gather(alloc, set, keepers, &[]) {
+        Ok(world) => of_result(boxed(alloc, Ok(world))),
+        Err(GatherFault::Memory) => Called::Refused,
+        Err(_) => Called::Other,
     }
 }
 
+fn gather_both(alloc: Global, set: &ChainSet) -> Result<Called, Memory> {
+    let mut keepers = boxed(alloc, keepers(alloc, set))?;
+    Ok(gather_of(alloc, set, keepers.as_mut_slice()))
+}
+
 fn load(alloc: Global, set: &ChainSet) -> Result<Called, Memory> {
-    let mut keeper = payer(alloc, set)?.into_keeper();
+    let mut keeper = boxed(alloc, payer_keeper(alloc, set))?;
     match keeper.load(alloc) {
-        Ok(_) => Ok(Called::Done),
+        Ok(loaded) => Ok(done(loaded)),
         Err(KeepFault::Memory) => Ok(Called::Refused),
         Err(KeepFault::Failed) => Ok(Called::Other),
     }
@@ -133,11 +127,16 @@ fn make(alloc: Global, call: OpeningCall, set: &ChainSet) -> Result<Called, Memo
     }
 }
 
-/// Makes it, and again where memory was wanting to it.
-pub fn try_opening(alloc: Global, call: OpeningCall) -> Result<Tried, Memory> {
-    let set = read(alloc, PAYMENT)?;
-    match make(alloc, call, &set)? {
-        Called::Refused => Ok(made_again(true, make(alloc, call, &set)?)),
+/// Makes it on that set, and again where memory was wanting to it.
+fn try_on(alloc: Global, call: OpeningCall, set: &ChainSet) -> Result<Tried, Memory> {
+    match make(alloc, call, set)? {
+        Called::Refused => Ok(made_again(true, make(alloc, call, set)?)),
         answered => Ok(ended(answered)),
     }
+}
+
+/// Makes it, and again where memory was wanting to it.
+pub fn try_opening(alloc: Global, call: OpeningCall) -> Result<Tried, Memory> {
+    let set = set_of(alloc, PAYMENT)?;
+    try_on(alloc, call, &set)
 }

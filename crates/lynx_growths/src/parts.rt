@@ -1,14 +1,15 @@
 //! Calls that a server makes of its parts.
 ghost use Rattle.lynx_codec.specs.Entries.{IsEntryInRange};
 
+use crate::payments::payer_keeper;
 use crate::tried::{Called, Tried, ended, made_again, of_result};
-use crate::values::changes;
+use crate::values::{changes, is_zero};
 use lynx_cells::Changes;
 use lynx_entry::Entry;
-use lynx_fixtures::made::entries;
+use lynx_fixtures::made::{boxed, entries};
 use lynx_fixtures::payments::AT_FIRST;
-use lynx_fixtures::texts::{PAYMENT, read};
-use lynx_keep::{KeepFault, Keeper, MemoryKeeper};
+use lynx_fixtures::texts::{PAYMENT, set_of};
+use lynx_keep::{KeepFault, Keeper, Loaded, MemoryKeeper};
 use lynx_names::limits::MAX_SERVERS;
 use lynx_names::{Memory, ServerId, ServerList, TryCopy};
 use lynx_seq::Sequencer;
@@ -16,7 +17,7 @@ use lynx_server::rebuild;
 use std::alloc::Global;
 
 /// A call on a part of a server.
-#[derive(Clone, Copy, Debug, PartialEq, Eq)]
+#[derive(Clone, Copy)]
 pub enum PartCall {
     /// A sequencer draws numbers.
     Draw,
@@ -59,52 +60,72 @@ fn commit(alloc: Global, keeper: &mut MemoryKeeper, entry: &Entry, changes: &Cha
     }
 }
 
+/// Whether there is neither an entry nor a cell.
+fn is_nothing(alloc: Global, loaded: &Loaded) -> Result<bool, Memory> {
+    Ok(loaded.entries.is_empty() && is_zero(alloc, &loaded.cells)?)
+}
+
 /// Whether a keeper kept nothing yet.
 fn is_empty(alloc: Global, keeper: &mut MemoryKeeper) -> Result<bool, Memory> {
     match keeper.load(alloc) {
-        Ok(loaded) => Ok(loaded.entries.is_empty() && loaded.cells.list(alloc)?.is_empty()),
+        Ok(loaded) => is_nothing(alloc, &loaded),
         Err(_) => Err(Memory),
     }
 }
 
 /// An empty keeper keeps the entry, and again where memory was wanting to it.
-fn try_entry(alloc: Global, entry: &Entry, changes: &Changes) -> Result<Tried, Memory>
+fn try_changes(
+    alloc: Global,
+    keeper: &mut MemoryKeeper,
+    entry: &Entry,
+    changes: &Changes,
+) -> Result<Tried, Memory>
     requires { IsEntryInRange entry.now }
 {
-    let mut keeper = MemoryKeeper::new(alloc);
-    match commit(alloc, &mut keeper, entry, changes) {
+    match commit(alloc, keeper, entry, changes) {
         Called::Refused => {
-            let is_as_before = is_empty(alloc, &mut keeper)?;
-            Ok(made_again(is_as_before, commit(alloc, &mut keeper, entry, changes)))
+            let is_as_before = is_empty(alloc, keeper)?;
+            Ok(made_again(is_as_before, commit(alloc, keeper, entry, changes)))
         }
         answered => Ok(ended(answered)),
     }
 }
 
+/// An empty keeper keeps the entry with a change, and again where memory was wanting to it.
+fn try_entry(alloc: Global, entry: &Entry) -> Result<Tried, Memory>
+    requires { IsEntryInRange entry.now }
+{
+    let changes = changes(alloc)?;
+    let mut keeper = MemoryKeeper::new(alloc);
+    try_changes(alloc, &mut keeper, entry, &changes)
+}
+
 /// A keeper keeps the first entry of the payer.
 fn try_commit(alloc: Global) -> Result<Tried, Memory> {
-    let set = read(alloc, PAYMENT)?;
+    let set = set_of(alloc, PAYMENT)?;
     let history = entries(alloc, AT_FIRST)?;
     let payer = rebuild(alloc, &set, ServerId::first(), history).map_err(|_| Memory)?;
-    let changes = changes(alloc)?;
     // By its number and its type the entries of the payer are in range.
     let _ = payer.server().number();
     match payer.history().first() {
-        Some(entry) => try_entry(alloc, entry, &changes),
+        Some(entry) => try_entry(alloc, entry),
         None => Err(Memory),
+    }
+}
+
+/// The keeper is copied.
+fn copy_keeper(alloc: Global, keeper: &MemoryKeeper) -> Tried {
+    match of_result(keeper.copy(alloc)) {
+        Called::Refused => made_again(true, of_result(keeper.copy(alloc))),
+        answered => ended(answered),
     }
 }
 
 /// The payer's keeper is copied.
 fn try_copy(alloc: Global) -> Result<Tried, Memory> {
-    let set = read(alloc, PAYMENT)?;
-    let history = entries(alloc, AT_FIRST)?;
-    let payer = rebuild(alloc, &set, ServerId::first(), history).map_err(|_| Memory)?;
-    let keeper = payer.into_keeper();
-    match of_result(keeper.copy(alloc)) {
-        Called::Refused => Ok(made_again(true, of_result(keeper.copy(alloc)))),
-        answered => Ok(ended(answered)),
-    }
+    let set = set_of(alloc, PAYMENT)?;
+    let keeper = boxed(alloc, payer_keeper(alloc, &set))?;
+    Ok(copy_keeper(alloc, &keeper))
 }
 
 /// Makes it, and again where memory was wanting to it.

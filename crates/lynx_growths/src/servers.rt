@@ -1,19 +1,20 @@
 //! Calls on a server, over a keeper in memory.
-use crate::tried::{Called, Tried, ended, made_again};
+use crate::payments::server_after;
+use crate::tried::{Called, Tried, ended, made_again, of_option};
 use lynx_entry::{Answer, Delivered};
 use lynx_fixtures::cells::{Cell, are_cells};
-use lynx_fixtures::made::{entries, message, request, server};
+use lynx_fixtures::made::{boxed, entries, message, request, server};
 use lynx_fixtures::parts::{EntryParts, MessageParts};
 use lynx_fixtures::payments::{AT_FIRST, AT_SECOND, PAY, SEEDED, SENT};
-use lynx_fixtures::texts::{PAYMENT, read};
+use lynx_fixtures::texts::{PAYMENT, set_of};
 use lynx_keep::MemoryKeeper;
 use lynx_names::{Memory, Stamp};
-use lynx_server::{Server, rebuild};
+use lynx_server::Server;
 use lynx_set::ChainSet;
 use std::alloc::Global;
 
 /// A call on a server.
-#[derive(Clone, Copy, Debug, PartialEq, Eq)]
+#[derive(Clone, Copy)]
 pub enum ServerCall {
     /// The payment begins.
     Begin,
@@ -83,14 +84,30 @@ fn stand_before(call: ServerCall) -> Standing {
     }
 }
 
-/// A server that did this.
-fn server_after(
+/// A server that stands there.
+fn standing_at(
     alloc: Global,
     set: &ChainSet,
     standing: Standing,
-) -> Result<Server<MemoryKeeper>, Memory> {
-    let history = entries(alloc, standing.history)?;
-    rebuild(alloc, set, server(standing.number)?, history).map_err(|_| Memory)
+) -> Result<Box<Server<MemoryKeeper>>, Memory> {
+    let number = server(standing.number)?;
+    boxed(alloc, server_after(alloc, set, number, standing.history))
+}
+
+/// Whether a server did this.
+fn has_done(
+    alloc: Global,
+    server: &Server<MemoryKeeper>,
+    parts: &[EntryParts],
+) -> Result<bool, Memory> {
+    let history = entries(alloc, parts)?;
+    Ok(server.history() == history.as_slice())
+}
+
+/// Whether these are a server's cells.
+fn has_cells(alloc: Global, server: &Server<MemoryKeeper>, want: &[Cell]) -> Result<bool, Memory> {
+    let cells = server.cells().list(alloc)?;
+    Ok(are_cells(cells.as_slice(), want))
 }
 
 /// Whether a server stands there, and holds so many messages.
@@ -100,19 +117,17 @@ fn stands(
     standing: Standing,
     held: usize,
 ) -> Result<bool, Memory> {
-    let history = entries(alloc, standing.history)?;
-    let cells = server.cells().list(alloc)?;
     Ok(
-        server.history() == history.as_slice()
-            && are_cells(cells.as_slice(), standing.cells)
+        has_done(alloc, server, standing.history)?
+            && has_cells(alloc, server, standing.cells)?
             && server.held().len() == held
             && !server.is_stopped(),
     )
 }
 
 /// What a begin answered.
-fn begun(answer: &Answer) -> Called {
-    match answer {
+pub fn begun(answer: Answer) -> Called {
+    match &answer {
         Answer::Begun { again: false, .. } => Called::Done,
         Answer::Memory => Called::Refused,
         _ => Called::Other,
@@ -120,8 +135,8 @@ fn begun(answer: &Answer) -> Called {
 }
 
 /// What a delivery came to, which is to be held, or to run.
-fn came(delivered: &Delivered, is_held: bool) -> Called {
-    match delivered {
+fn came(delivered: Delivered, is_held: bool) -> Called {
+    match &delivered {
         Delivered::Held if is_held => Called::Done,
         Delivered::Done { .. } if !is_held => Called::Done,
         Delivered::Memory => Called::Refused,
@@ -132,7 +147,7 @@ fn came(delivered: &Delivered, is_held: bool) -> Called {
 /// The payment begins.
 fn begin(alloc: Global, server: &mut Server<MemoryKeeper>) -> Result<Called, Memory> {
     let asked = request(alloc, PAY)?;
-    Ok(begun(&server.begin(alloc, asked, Stamp::zero())))
+    Ok(begun(server.begin(alloc, asked, Stamp::zero())))
 }
 
 /// A message arrives.
@@ -143,24 +158,20 @@ fn deliver(
     is_held: bool,
 ) -> Result<Called, Memory> {
     let sent = message(alloc, parts)?;
-    Ok(came(&server.deliver(alloc, sent), is_held))
+    Ok(came(server.deliver(alloc, sent), is_held))
 }
 
 /// A held message is woken.
 fn wake(alloc: Global, server: &mut Server<MemoryKeeper>) -> Called {
     match server.wake(alloc) {
-        Some(woken) => came(&woken.delivered, false),
+        Some(woken) => came(woken.delivered, false),
         None => Called::Other,
     }
 }
 
 /// The message of the payment is asked for.
 fn due(alloc: Global, server: &Server<MemoryKeeper>) -> Called {
-    match server.messages_due(alloc, 0) {
-        Ok(Some(_)) => Called::Done,
-        Ok(None) => Called::Other,
-        Err(Memory) => Called::Refused,
-    }
+    of_option(server.messages_due(alloc, 0))
 }
 
 /// Makes the call once.
@@ -178,30 +189,60 @@ fn make(
     }
 }
 
-/// A server before the call, with the messages that it is to hold.
-fn ready(alloc: Global, set: &ChainSet, call: ServerCall) -> Result<Server<MemoryKeeper>, Memory> {
-    if call != ServerCall::Wake {
-        return server_after(alloc, set, stand_before(call));
+/// A message arrives, which is to be held, or to run.
+fn bring(
+    alloc: Global,
+    server: &mut Server<MemoryKeeper>,
+    parts: MessageParts,
+    is_held: bool,
+) -> Result<(), Memory> {
+    match deliver(alloc, server, parts, is_held)? {
+        Called::Done => Ok(()),
+        _ => Err(Memory),
     }
-    let mut server = server_after(alloc, set, BEFORE)?;
-    for (parts, is_held) in [(NEXT, true), (SENT, false)] {
-        if deliver(alloc, &mut server, parts, is_held)? != Called::Done {
-            return Err(Memory);
+}
+
+/// The messages arrive that a server is to hold before the call. How many it holds.
+fn hold(
+    alloc: Global,
+    call: ServerCall,
+    server: &mut Server<MemoryKeeper>,
+) -> Result<usize, Memory> {
+    if !matches!(call, ServerCall::Wake) {
+        return Ok(0);
+    }
+    bring(alloc, server, NEXT, true)?;
+    bring(alloc, server, SENT, false)?;
+    Ok(1)
+}
+
+/// Where a server stands before the messages arrive that it is to hold.
+fn stand_first(call: ServerCall) -> Standing {
+    match call {
+        ServerCall::Wake => BEFORE,
+        call => stand_before(call),
+    }
+}
+
+/// Makes the call at that server, and again where memory was wanting to it.
+fn try_at(
+    alloc: Global,
+    call: ServerCall,
+    server: &mut Server<MemoryKeeper>,
+) -> Result<Tried, Memory> {
+    let held = hold(alloc, call, server)?;
+    match make(alloc, call, server)? {
+        Called::Refused => {
+            let is_as_before = stands(alloc, server, stand_before(call), held)?;
+            Ok(made_again(is_as_before, make(alloc, call, server)?))
         }
+        answered => Ok(ended(answered)),
     }
-    Ok(server)
 }
 
 /// Makes the call, and again where memory was wanting to it.
 pub fn try_server(alloc: Global, call: ServerCall) -> Result<Tried, Memory> {
-    let set = read(alloc, PAYMENT)?;
-    let held = usize::from(call == ServerCall::Wake);
-    let mut server = ready(alloc, &set, call)?;
-    match make(alloc, call, &mut server)? {
-        Called::Refused => {
-            let is_as_before = stands(alloc, &server, stand_before(call), held)?;
-            Ok(made_again(is_as_before, make(alloc, call, &mut server)?))
-        }
-        answered => Ok(ended(answered)),
-    }
+    let set = set_of(alloc, PAYMENT)?;
+    let mut server = standing_at(alloc, &set, stand_first(call))?;
+    try_at(alloc, call, &mut server)
 }

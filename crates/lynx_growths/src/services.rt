@@ -1,15 +1,16 @@
 //! A client that is served, and a cluster at which a chain begins.
 ghost use Rattle.lynx_codec.specs.Ranges.{IsAnswerInRange};
 
+use crate::servers::begun;
 use crate::tried::{Called, Tried, ended, made_again};
 use crate::values::SEED_FORM;
-use lynx_cluster::{Cluster, Front, Gate, OpenGate, Session};
+use lynx_cluster::{CloseFault, Closed, Cluster, Front, Gate, OpenGate, Session};
 use lynx_codec::Looked;
 use lynx_entry::{Answer, Request};
 use lynx_fixtures::made::request;
 use lynx_fixtures::payments::SEED;
-use lynx_fixtures::texts::{PAYMENT, read};
-use lynx_keep::Keeper;
+use lynx_fixtures::texts::{PAYMENT, set_of};
+use lynx_keep::{Keeper, MemoryKeeper};
 use lynx_names::{ChainId, Memory};
 use lynx_port::{Desk, PortFault, serve};
 use lynx_world::empty_keepers;
@@ -20,7 +21,7 @@ use std::thread::Threads;
 use std::time::Clock;
 
 /// A call that is made for a client.
-#[derive(Clone, Copy, Debug, PartialEq, Eq)]
+#[derive(Clone, Copy)]
 pub enum ServiceCall {
     /// A client that asks once is served.
     Serve,
@@ -29,7 +30,7 @@ pub enum ServiceCall {
 }
 
 /// A desk that answers that the server stopped, and counts.
-#[derive(Drop)]
+#[derive(Clone, Copy)]
 struct Stopped {
     asked: u32,
 }
@@ -78,11 +79,7 @@ fn begin<R: Wait, K: Keeper, G: Gate>(
     session: &mut Session,
 ) -> Result<Called, Memory> {
     let asked = request(alloc, SEED)?;
-    Ok(match front.begin(rt, alloc, session, asked) {
-        Answer::Begun { again: false, .. } => Called::Done,
-        Answer::Memory => Called::Refused,
-        _ => Called::Other,
-    })
+    Ok(begun(front.begin(rt, alloc, session, asked)))
 }
 
 /// The seed begins, and again where memory was wanting to it.
@@ -101,29 +98,45 @@ fn begin_again<R: Wait, K: Keeper, G: Gate>(
     }
 }
 
+/// A cluster in memory that did nothing yet.
+fn start<R: Threads + Wait + Clock + Copy + Send + 'static>(
+    rt: R,
+    alloc: Global,
+) -> Result<Cluster<MemoryKeeper, OpenGate>, Memory> {
+    let set = set_of(alloc, PAYMENT)?;
+    let keepers = empty_keepers(alloc, &set)?;
+    match Cluster::start(rt, alloc, &set, keepers, OpenGate) {
+        Ok(cluster) => Ok(cluster),
+        Err(_) => Err(Memory),
+    }
+}
+
+/// How many entries the world of a closed cluster has.
+fn entries_of(closed: Result<Closed<MemoryKeeper>, CloseFault>) -> Result<usize, Memory> {
+    match closed {
+        Ok(closed) => Ok(closed.world.len()),
+        Err(_) => Err(Memory),
+    }
+}
+
 /// A session begins the seed at a cluster in memory, which is closed then: its audit is what says
 /// that nothing else began.
 fn try_begin<R: Threads + Wait + Clock + Copy + Send + 'static>(
     rt: R,
     alloc: Global,
 ) -> Result<Tried, Memory> {
-    let set = read(alloc, PAYMENT)?;
-    let keepers = empty_keepers(alloc, &set)?;
     let mut sessions = Vec::new(alloc);
     sessions.reserve(1)?;
-    let cluster = Cluster::start(rt, alloc, &set, keepers, OpenGate).map_err(|_| Memory)?;
+    let cluster = start(rt, alloc)?;
     let mut tried = Err(Memory);
     if let Some(mut session) = cluster.session(&rt, alloc) {
         tried = begin_again(&rt, alloc, cluster.front(), &mut session);
         sessions.push_reserved(session);
     }
-    match cluster.close(&rt, alloc, sessions) {
-        Ok(closed) if closed.world.len() == 1 => tried,
-        Ok(_) => {
-            tried?;
-            Ok(Tried::Changed)
-        }
-        Err(_) => Err(Memory),
+    let entries = entries_of(cluster.close(&rt, alloc, sessions))?;
+    match tried? {
+        _ if entries != 1 => Ok(Tried::Changed),
+        tried => Ok(tried),
     }
 }
 

@@ -1,10 +1,10 @@
 //! Calls on texts and sets, which stay as they are.
-use crate::tried::{Called, Tried, ended, made_again, of_result};
+use crate::tried::{Called, Tried, done, ended, made_again, of_result};
 use lynx_check::check;
 use lynx_draw::{Extent, draw};
 use lynx_fixtures::made::program;
 use lynx_fixtures::rows::PAYMENT;
-use lynx_fixtures::texts::{CROSSING, read};
+use lynx_fixtures::texts::{CROSSING, set_of};
 use lynx_foot::footprint;
 use lynx_graph::conflict_edges;
 use lynx_lines::parse_script;
@@ -14,7 +14,7 @@ use lynx_text::{FaultKind, TextFault, parse, print};
 use std::alloc::Global;
 
 /// A call on a text or a set.
-#[derive(Clone, Copy, Debug, PartialEq, Eq)]
+#[derive(Clone, Copy)]
 pub enum TextCall {
     Parse,
     Print,
@@ -30,7 +30,7 @@ pub enum TextCall {
 /// What was answered by a reader of texts.
 fn read_so<T: Drop>(answer: Result<T, TextFault>) -> Called {
     match answer {
-        Ok(_) => Called::Done,
+        Ok(made) => done(made),
         Err(fault) if fault.kind == FaultKind::Memory => Called::Refused,
         Err(_) => Called::Other,
     }
@@ -67,8 +67,8 @@ fn text_for(call: TextCall) -> &'static str {
 
 /// Makes it, and again where memory was wanting to it.
 pub fn try_text(alloc: Global, call: TextCall) -> Result<Tried, Memory> {
-    let set = read(alloc, text_for(call))?;
     let first = program(0)?;
+    let set = set_of(alloc, text_for(call))?;
     match make(alloc, call, &set, first) {
         Called::Refused => Ok(made_again(true, make(alloc, call, &set, first))),
         answered => Ok(ended(answered)),

@@ -4,7 +4,7 @@ ghost use Rattle.std.specs.Prelude.{◌≡◌, ◌↔◌, IsOk, IsTrue};
 use lynx_names::Memory;
 
 /// What a call answered.
-#[derive(Clone, Copy, Debug, PartialEq, Eq)]
+#[derive(Clone, Copy)]
 pub enum Called {
     /// What it is for was done.
     Done,
@@ -15,7 +15,7 @@ pub enum Called {
 }
 
 /// What came of a call.
-#[derive(Clone, Copy, Debug, PartialEq, Eq)]
+#[derive(Clone, Copy)]
 pub enum Tried {
     /// It was done.
     Done,
@@ -49,6 +49,30 @@ pub fn of_result<T: Drop>(answer: Result<T, Memory>) -> Called
     match answer {
         Ok(_) => Called::Done,
         Err(Memory) => Called::Refused,
+    }
+}
+
+/// What was answered by one that may also give nothing, where something was wanted.
+pub fn of_option<T: Drop>(answer: Result<Option<T>, Memory>) -> Called {
+    match answer {
+        Ok(Some(_)) => Called::Done,
+        Ok(None) => Called::Other,
+        Err(Memory) => Called::Refused,
+    }
+}
+
+/// What it is for was made, and is let go by one call: that keeps the proofs of those who make it
+/// short.
+pub fn done<T: Drop>(_made: T) -> Called {
+    Called::Done
+}
+
+/// What was answered by a call whose answer is as it should be, or isn't.
+pub fn done_if(is_right: bool) -> Called {
+    if is_right {
+        Called::Done
+    } else {
+        Called::Other
     }
 }
 

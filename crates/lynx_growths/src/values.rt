@@ -1,7 +1,9 @@
 //! Calls on cells, shards, entries, held messages, forms and links.
-use crate::tried::{Called, Tried, ended, made_again, of_result};
+ghost use Rattle.lynx_codec.specs.Ranges.{IsInRange};
+
+use crate::tried::{Called, Tried, done, done_if, ended, made_again, of_result};
 use lynx_cells::{Cells, Changes};
-use lynx_codec::{DecodeFault, Feed, encode};
+use lynx_codec::{DecodeFault, Feed, Item, encode};
 use lynx_fixtures::cells::are_cells;
 use lynx_fixtures::made::{answer, entry, message, request};
 use lynx_fixtures::parts::EntryParts;
@@ -13,7 +15,7 @@ use lynx_turn::HeldBuffer;
 use std::alloc::Global;
 
 /// A call on a value.
-#[derive(Clone, Copy, Debug, PartialEq, Eq)]
+#[derive(Clone, Copy)]
 pub enum ValueCall {
     /// A change of a cell is noted.
     Put,
@@ -51,15 +53,15 @@ pub const SEED_FORM: &[u8] = &[
 
 /// Changes that write 100 into the first cell of the first table.
 pub fn changes(alloc: Global) -> Result<Changes, Memory> {
-    let mut changes = Changes::new(alloc);
     let table = TableId::new(0).ok_or(Memory)?;
+    let mut changes = Changes::new(alloc);
     changes.put(table, 0, 100)?;
     Ok(changes)
 }
 
 fn try_put(alloc: Global) -> Result<Tried, Memory> {
-    let mut changes = Changes::new(alloc);
     let table = TableId::new(0).ok_or(Memory)?;
+    let mut changes = Changes::new(alloc);
     match of_result(changes.put(table, 0, 100)) {
         Called::Refused => {
             let is_as_before = changes.list().is_empty();
@@ -69,14 +71,51 @@ fn try_put(alloc: Global) -> Result<Tried, Memory> {
     }
 }
 
+/// Whether all cells are 0.
+pub fn is_zero(alloc: Global, cells: &Cells) -> Result<bool, Memory> {
+    Ok(cells.list(alloc)?.is_empty())
+}
+
+/// Room is made in cells that are 0, and again where memory was wanting to it.
+fn stage(alloc: Global, cells: &mut Cells, changes: &Changes) -> Result<Tried, Memory> {
+    match of_result(cells.stage(changes)) {
+        Called::Refused => {
+            let is_as_before = is_zero(alloc, cells)?;
+            Ok(made_again(is_as_before, of_result(cells.stage(changes))))
+        }
+        answered => Ok(ended(answered)),
+    }
+}
+
 fn try_stage(alloc: Global) -> Result<Tried, Memory> {
     let changes = changes(alloc)?;
     let mut cells = Cells::new(alloc);
-    match of_result(cells.stage(&changes)) {
-        Called::Refused => {
-            let is_as_before = cells.list(alloc)?.is_empty();
-            Ok(made_again(is_as_before, of_result(cells.stage(&changes))))
-        }
+    stage(alloc, &mut cells, &changes)
+}
+
+/// Writes the changes into the cells.
+fn write(cells: &mut Cells, changes: &Changes) -> Result<(), Memory> {
+    cells.stage(changes)?;
+    if !cells.is_staged(changes) {
+        return Err(Memory);
+    }
+    cells.apply(changes);
+    Ok(())
+}
+
+/// The cells after the changes are listed.
+fn list(alloc: Global, cells: &Cells) -> Called {
+    match cells.list(alloc) {
+        Ok(listed) => done_if(are_cells(listed.as_slice(), &[(0, 0, 100)])),
+        Err(Memory) => Called::Refused,
+    }
+}
+
+/// The cells are listed after the changes, and again where memory was wanting to it.
+fn list_after(alloc: Global, cells: &mut Cells, changes: &Changes) -> Result<Tried, Memory> {
+    write(cells, changes)?;
+    match list(alloc, cells) {
+        Called::Refused => Ok(made_again(true, list(alloc, cells))),
         answered => Ok(ended(answered)),
     }
 }
@@ -84,40 +123,33 @@ fn try_stage(alloc: Global) -> Result<Tried, Memory> {
 fn try_list(alloc: Global) -> Result<Tried, Memory> {
     let changes = changes(alloc)?;
     let mut cells = Cells::new(alloc);
-    cells.stage(&changes)?;
-    if !cells.is_staged(&changes) {
-        return Err(Memory);
-    }
-    cells.apply(&changes);
-    match cells.list(alloc) {
-        Ok(listed) if are_cells(listed.as_slice(), &[(0, 0, 100)]) => Ok(Tried::Done),
-        Ok(_) => Ok(Tried::Other),
-        Err(Memory) => Ok(made_again(true, of_result(cells.list(alloc)))),
-    }
+    list_after(alloc, &mut cells, &changes)
 }
 
 /// The ranges of a table at two servers.
+const RANGES: &[Range] = &[
+    Range {
+        low: 0,
+        high: 999,
+        server: 0,
+    },
+    Range {
+        low: 1000,
+        high: u64::MAX,
+        server: 1,
+    },
+];
+
+/// The ranges of that one table.
 fn ranges(alloc: Global) -> Result<Vec<Vec<Range>>, Memory> {
-    let table = [
-        Range {
-            low: 0,
-            high: 999,
-            server: 0,
-        },
-        Range {
-            low: 1000,
-            high: u64::MAX,
-            server: 1,
-        },
-    ];
     let mut tables = Vec::new(alloc);
-    tables.push(Vec::from_slice(alloc, &table)?)?;
+    tables.push(Vec::from_slice(alloc, RANGES)?)?;
     Ok(tables)
 }
 
 fn shards(alloc: Global) -> Result<Called, Memory> {
     match ShardMap::from_ranges(alloc, 2, ranges(alloc)?) {
-        Ok(_) => Ok(Called::Done),
+        Ok(shards) => Ok(done(shards)),
         Err(ShardFault::Memory) => Ok(Called::Refused),
         Err(_) => Ok(Called::Other),
     }
@@ -156,9 +188,10 @@ fn try_push(alloc: Global) -> Result<Tried, Memory> {
 /// The next item of the feed is taken.
 fn next(alloc: Global, feed: &mut Feed) -> Called {
     match feed.next(alloc) {
-        Ok(Some(_)) => Called::Done,
+        Ok(Some(item)) => done(item),
+        Ok(None) => Called::Other,
         Err(DecodeFault::Memory) => Called::Refused,
-        _ => Called::Other,
+        Err(_) => Called::Other,
     }
 }
 
@@ -171,16 +204,33 @@ fn try_next(alloc: Global) -> Result<Tried, Memory> {
     }
 }
 
+/// The request is written as a form.
+fn write_form(alloc: Global, item: &Item) -> Called
+    requires { IsInRange item.now }
+{
+    match encode(alloc, item) {
+        Ok(form) => done_if(form.as_slice() == SEED_FORM),
+        Err(Memory) => Called::Refused,
+    }
+}
+
+/// The request is written, and again where memory was wanting to it.
+fn write_again(alloc: Global, item: Item) -> Tried
+    requires { IsInRange item }
+{
+    match write_form(alloc, &item) {
+        Called::Refused => made_again(true, write_form(alloc, &item)),
+        answered => ended(answered),
+    }
+}
+
 fn try_encode(alloc: Global) -> Result<Tried, Memory> {
     let mut feed = Feed::new(alloc);
     feed.push(SEED_FORM)?;
-    let Ok(Some(item)) = feed.next(alloc) else {
-        return Err(Memory);
-    };
-    match encode(alloc, &item) {
-        Ok(form) if form.as_slice() == SEED_FORM => Ok(Tried::Done),
-        Ok(_) => Ok(Tried::Other),
-        Err(Memory) => Ok(made_again(true, of_result(encode(alloc, &item)))),
+    match feed.next(alloc) {
+        Ok(Some(item)) => Ok(write_again(alloc, item)),
+        Ok(None) => Err(Memory),
+        Err(_) => Err(Memory),
     }
 }
 

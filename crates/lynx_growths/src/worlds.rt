@@ -14,7 +14,7 @@ use std::alloc::Global;
 
 /// A call on a world after the seed and the payment; of a waking, after a second payment too, whose
 /// message came before that of the first and was held.
-#[derive(Clone, Copy, Debug, PartialEq, Eq)]
+#[derive(Clone, Copy)]
 pub enum WorldCall {
     /// The payment is given again.
     Begin,
@@ -87,33 +87,37 @@ fn deliver(index: u64) -> Result<Event, Memory> {
 }
 
 /// An event happens that is to be done.
-fn apply(alloc: Global, world: &mut World, event: Event) -> Result<(), Memory> {
-    match applied(alloc, world, event)? {
+fn apply(alloc: Global, world: &mut World, event: Result<Event, Memory>) -> Result<(), Memory> {
+    match applied(alloc, world, event?)? {
         Called::Done => Ok(()),
         _ => Err(Memory),
     }
 }
 
-/// The world before the call.
-fn world(alloc: Global, call: WorldCall) -> Result<Box<World>, Memory> {
+/// A world in which nothing happened yet.
+fn new_world(alloc: Global) -> Result<Box<World>, Memory> {
     let set = read(alloc, PAYMENT)?;
     let keepers = empty_keepers(alloc, &set)?;
-    let mut world = boxed(alloc, World::new(alloc, set, keepers))?;
-    apply(alloc, &mut world, begin(alloc, SEED)?)?;
-    apply(alloc, &mut world, begin(alloc, PAY)?)?;
-    if call == WorldCall::Wake {
-        apply(alloc, &mut world, begin(alloc, PAY_BEHIND)?)?;
-        apply(alloc, &mut world, deliver(2)?)?;
-        apply(alloc, &mut world, deliver(1)?)?;
+    boxed(alloc, World::new(alloc, set, keepers))
+}
+
+/// What happens in it before the call.
+fn live(alloc: Global, call: WorldCall, world: &mut World) -> Result<(), Memory> {
+    apply(alloc, world, begin(alloc, SEED))?;
+    apply(alloc, world, begin(alloc, PAY))?;
+    if !matches!(call, WorldCall::Wake) {
+        return Ok(());
     }
-    Ok(world)
+    apply(alloc, world, begin(alloc, PAY_BEHIND))?;
+    apply(alloc, world, deliver(2))?;
+    apply(alloc, world, deliver(1))
 }
 
 /// Whether the world is as it was before the call.
 fn is_as_before(alloc: Global, call: WorldCall, world: &World) -> Result<bool, Memory> {
     let cells = world.cells(alloc)?;
     let cells = cells.as_slice();
-    Ok(if call == WorldCall::Wake {
+    Ok(if matches!(call, WorldCall::Wake) {
         world.len() == 4 && are_cells(cells, &[(0, 0, 50), (0, 1000, 30)])
     } else {
         world.len() == 2 && are_cells(cells, &[(0, 0, 70)])
@@ -140,14 +144,20 @@ fn make(alloc: Global, call: WorldCall, world: &mut World) -> Result<Called, Mem
     }
 }
 
-/// Makes it, and again where memory was wanting to it.
-pub fn try_world(alloc: Global, call: WorldCall) -> Result<Tried, Memory> {
-    let mut world = world(alloc, call)?;
-    match make(alloc, call, &mut world)? {
+/// Makes it in that world, and again where memory was wanting to it.
+fn try_in(alloc: Global, call: WorldCall, world: &mut World) -> Result<Tried, Memory> {
+    live(alloc, call, world)?;
+    match make(alloc, call, world)? {
         Called::Refused => {
-            let is_as_before = is_as_before(alloc, call, &world)?;
-            Ok(made_again(is_as_before, make(alloc, call, &mut world)?))
+            let is_as_before = is_as_before(alloc, call, world)?;
+            Ok(made_again(is_as_before, make(alloc, call, world)?))
         }
         answered => Ok(ended(answered)),
     }
+}
+
+/// Makes it, and again where memory was wanting to it.
+pub fn try_world(alloc: Global, call: WorldCall) -> Result<Tried, Memory> {
+    let mut world = new_world(alloc)?;
+    try_in(alloc, call, &mut world)
 }

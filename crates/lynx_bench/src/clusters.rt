@@ -13,7 +13,7 @@ use std::fmt;
 use std::time::Duration;
 
 /// What a cluster is started for.
-#[derive(Clone, Copy, Debug)]
+#[derive(Clone, Copy)]
 pub enum ClusterWork {
     /// It carries a load.
     Carry(Load),
@@ -22,7 +22,7 @@ pub enum ClusterWork {
 }
 
 /// What a cluster did.
-#[derive(Clone, Copy, Debug)]
+#[derive(Clone, Copy)]
 pub enum ClusterDone {
     /// It carried a load, which took so long.
     Carried(Measured),

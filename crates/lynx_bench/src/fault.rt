@@ -2,23 +2,28 @@
 use crate::load_fault::LoadFault;
 use lynx_names::Memory;
 use lynx_store::StoreFault;
-use thiserror::Error;
 
 /// Why no work was done.
-#[derive(Clone, Copy, Debug, PartialEq, Eq, Error)]
+#[derive(Clone, Copy)]
 pub enum Fault {
-    #[error("out of memory")]
     Memory,
-    #[error("the store failed")]
     Store,
     /// Of a cluster, never for want of memory.
-    #[error("{0}")]
     Cluster(LoadFault),
 }
 
 impl Fault {
+    /// How it is told.
+    pub fn words(self) -> &'static str {
+        match self {
+            Fault::Memory => LoadFault::Memory.words(),
+            Fault::Store => "the store failed",
+            Fault::Cluster(fault) => fault.words(),
+        }
+    }
+
     /// The exit status.
-    pub fn status(&self) -> u8 {
+    pub fn status(self) -> u8 {
         match self {
             Fault::Memory => 3,
             Fault::Store => 4,

@@ -1,4 +1,5 @@
 //! A cluster that has nothing to do.
+use crate::load::closed_well;
 use crate::load_fault::LoadFault;
 use crate::starting::start;
 use lynx_cluster::Host;
@@ -11,6 +12,6 @@ use std::time::Duration;
 pub fn idle<R: Host>(rt: R, alloc: Global, servers: u8, seconds: u64) -> Result<(), LoadFault> {
     let cluster = start(rt, alloc, servers)?;
     thread::sleep(&rt, Duration::from_secs(seconds));
-    cluster.close(&rt, alloc, Vec::new(alloc))?;
+    closed_well(alloc, cluster.close(&rt, alloc, Vec::new(alloc)))?;
     Ok(())
 }

@@ -5,9 +5,9 @@ use crate::load_fault::LoadFault;
 use crate::payer::{Payer, begun_now, payers};
 use crate::starting::start;
 use crate::texts::{last_hop, payment, seed};
-use lynx_cluster::{Front, Gate, Host, Session};
+use lynx_cluster::{CloseFault, Closed, Front, Gate, Host, Session};
 use lynx_codec::Looked;
-use lynx_keep::Keeper;
+use lynx_keep::{Keeper, MemoryKeeper};
 use lynx_names::ChainId;
 use lynx_order::{Explained, explain};
 use lynx_world::World;
@@ -24,7 +24,7 @@ pub const MAX_LOOKS: u32 = 600_000;
 /// A load: payments by clients of which each has a server of its own, or some that it pays from in
 /// turn. A payment goes from an account of its origin to one of the next server, by two hops, or to
 /// another of its origin, by one, as it always does where there is one server.
-#[derive(Clone, Copy, Debug, PartialEq, Eq)]
+#[derive(Clone, Copy)]
 pub struct Load {
     /// Servers, 1 to 16.
     pub servers: u8,
@@ -38,7 +38,7 @@ pub struct Load {
 }
 
 /// How long a load took, by the monotonic clock.
-#[derive(Clone, Copy, Debug, PartialEq, Eq)]
+#[derive(Clone, Copy)]
 pub struct Measured {
     /// Payments that were answered as begun, each for the first time.
     pub begun: u64,
@@ -66,10 +66,9 @@ impl fmt::Display for Measured {
     }
 }
 
-/// What a load that was carried leaves.
-#[derive(Drop)]
+/// How many payments of a load began, and when.
+#[derive(Clone, Copy)]
 struct Carried {
-    sessions: Vec<Session>,
     begun: u64,
     times: Times,
 }
@@ -99,8 +98,7 @@ fn seed_all<R: Wait, K: Keeper, G: Gate>(
 ) -> Result<(), LoadFault> {
     for server in 0..load.servers {
         let request = seed(alloc, session.number(), server, load.servers, amount(load))?;
-        let answer = front.begin(rt, alloc, session, request);
-        begun_now(&answer)?;
+        begun_now(front.begin(rt, alloc, session, request))?;
     }
     Ok(())
 }
@@ -152,8 +150,22 @@ fn await_hop<R: Wait + Clock, K: Keeper, G: Gate>(
     Err(LoadFault::NotDone)
 }
 
-/// Begins a last payment from each server to the next.
+/// Begins a last payment from that server to the next.
 fn pay_last<R: Wait, K: Keeper, G: Gate>(
+    rt: &R,
+    alloc: Global,
+    front: &Front<K, G>,
+    session: &mut Session,
+    load: Load,
+    server: u8,
+) -> Result<ChainId, LoadFault> {
+    let number = u64::from(load.servers) + u64::from(server);
+    let request = payment(alloc, session.number(), number, server)?;
+    begun_now(front.begin(rt, alloc, session, request))
+}
+
+/// Begins a last payment from each server to the next.
+fn pay_last_of_all<R: Wait, K: Keeper, G: Gate>(
     rt: &R,
     alloc: Global,
     front: &Front<K, G>,
@@ -162,54 +174,78 @@ fn pay_last<R: Wait, K: Keeper, G: Gate>(
 ) -> Result<Vec<ChainId>, LoadFault> {
     let mut chains = Vec::new(alloc);
     for server in 0..load.servers {
-        let number = u64::from(load.servers) + u64::from(server);
-        let request = payment(alloc, session.number(), number, server)?;
-        let answer = front.begin(rt, alloc, session, request);
-        chains.push(begun_now(&answer)?)?;
+        chains.push(pay_last(rt, alloc, front, session, load, server)?)?;
     }
     Ok(chains)
 }
 
-/// Waits until these payments are done. Each is the last of its origin, and the next server runs
-/// the hops of one origin in its order, so then all are done.
-fn await_all<R: Wait + Clock, K: Keeper, G: Gate>(
+/// Looks at that hop of each of these chains until it is there. When that was.
+fn await_chains<R: Wait + Clock, K: Keeper, G: Gate>(
     rt: &R,
     alloc: Global,
     front: &Front<K, G>,
     session: &mut Session,
     chains: &[ChainId],
     hop: u8,
-) -> Result<(), LoadFault> {
+) -> Result<Instant, LoadFault> {
     for chain in chains {
         await_hop(rt, alloc, front, session, chain, hop)?;
     }
-    Ok(())
+    Ok(Instant::now(rt)?)
 }
 
-/// Seeds, pays, and waits until all is done.
-fn carry<R: Threads + Wait + Clock + Sync, K: Keeper + Send + Drop, G: Gate + Send + Sync + Drop>(
+/// Begins a last payment from each server, and waits until these are done. Each is the last of its
+/// origin, and the next server runs the hops of one origin in its order, so then all are done. When
+/// that was seen.
+fn await_all<R: Wait + Clock, K: Keeper, G: Gate>(
+    rt: &R,
+    alloc: Global,
+    front: &Front<K, G>,
+    session: &mut Session,
+    load: Load,
+) -> Result<Instant, LoadFault> {
+    let chains = pay_last_of_all(rt, alloc, front, session, load)?;
+    let hop = last_hop(load.servers);
+    await_chains(rt, alloc, front, session, chains.as_slice(), hop)
+}
+
+/// Has the clients make their payments: when they began, and when all had ended.
+fn pay_timed<
+    R: Threads + Wait + Clock + Sync,
+    K: Keeper + Send + Drop,
+    G: Gate + Send + Sync + Drop,
+>(
+    rt: &R,
+    alloc: Global,
+    front: &Front<K, G>,
+    payers: &mut [Payer],
+) -> Result<(Instant, Instant), LoadFault> {
+    let first = Instant::now(rt)?;
+    pay(rt, alloc, front, payers);
+    Ok((first, Instant::now(rt)?))
+}
+
+/// Seeds, pays, and waits until all is done. The sessions of the clients are added to the list.
+fn carry_by<
+    R: Threads + Wait + Clock + Sync,
+    K: Keeper + Send + Drop,
+    G: Gate + Send + Sync + Drop,
+>(
     rt: &R,
     alloc: Global,
     front: &Front<K, G>,
     load: Load,
+    session: &mut Session,
+    sessions: &mut Vec<Session>,
 ) -> Result<Carried, LoadFault>
     requires { 0 < load.servers }
 {
-    let mut session = front.session(rt, alloc).ok_or(LoadFault::Session)?;
-    seed_all(rt, alloc, front, &mut session, load)?;
+    seed_all(rt, alloc, front, session, load)?;
     let mut payers = payers(rt, alloc, front, load)?;
-    let mut sessions = Vec::new(alloc);
-    let first = Instant::now(rt)?;
-    pay(rt, alloc, front, payers.as_mut_slice());
-    let all_begun = Instant::now(rt)?;
-    let begun = collect(payers, &mut sessions)?;
-    let chains = pay_last(rt, alloc, front, &mut session, load)?;
-    let hop = last_hop(load.servers);
-    await_all(rt, alloc, front, &mut session, chains.as_slice(), hop)?;
-    let done = Instant::now(rt)?;
-    sessions.push(session)?;
+    let (first, all_begun) = pay_timed(rt, alloc, front, payers.as_mut_slice())?;
+    let begun = collect(payers, sessions)?;
+    let done = await_all(rt, alloc, front, session, load)?;
     Ok(Carried {
-        sessions,
         begun,
         times: Times {
             first,
@@ -217,6 +253,23 @@ fn carry<R: Threads + Wait + Clock + Sync, K: Keeper + Send + Drop, G: Gate + Se
             done,
         },
     })
+}
+
+/// Carries the load by clients with sessions of their own, and one more. All of these are added to
+/// the list, where nothing fails.
+fn carry<R: Threads + Wait + Clock + Sync, K: Keeper + Send + Drop, G: Gate + Send + Sync + Drop>(
+    rt: &R,
+    alloc: Global,
+    front: &Front<K, G>,
+    load: Load,
+    sessions: &mut Vec<Session>,
+) -> Result<Carried, LoadFault>
+    requires { 0 < load.servers }
+{
+    let mut session = front.session(rt, alloc).ok_or(LoadFault::Session)?;
+    let carried = carry_by(rt, alloc, front, load, &mut session, sessions);
+    sessions.push(session)?;
+    carried
 }
 
 /// Nothing, where an order of all chains explains the world.
@@ -242,6 +295,39 @@ fn check_sum(alloc: Global, world: &World, load: Load) -> Result<(), LoadFault> 
     }
 }
 
+/// What a cluster left that closed well, in a box, which is let go by one call.
+pub(crate) fn closed_well(
+    alloc: Global,
+    closed: Result<Closed<MemoryKeeper>, CloseFault>,
+) -> Result<Box<Closed<MemoryKeeper>>, LoadFault> {
+    match closed {
+        Ok(closed) => Ok(Box::new(alloc, closed)?),
+        Err(fault) => Err(LoadFault::from(fault)),
+    }
+}
+
+/// Audits the world of the closed cluster, and tells how long all took.
+fn audit<R: Clock>(
+    rt: &R,
+    alloc: Global,
+    load: Load,
+    carried: Carried,
+    world: &World,
+) -> Result<Measured, LoadFault> {
+    let Carried { begun, times } = carried;
+    let closed_at = Instant::now(rt)?;
+    check_order(alloc, world)?;
+    let explained_at = Instant::now(rt)?;
+    check_sum(alloc, world, load)?;
+    Ok(Measured {
+        begun,
+        begin: times.begun.duration_since(times.first),
+        done: times.done.duration_since(times.first),
+        close: closed_at.duration_since(times.done),
+        explain: explained_at.duration_since(closed_at),
+    })
+}
+
 /// Carries a load over a cluster that it starts over keepers in memory and closes, and measures how
 /// long it takes. All payments begin, all come to their ends, what the sessions were told stands,
 /// and an order of all chains explains what the servers did; else it is a fault.
@@ -250,22 +336,10 @@ pub fn measure<R: Host>(rt: R, alloc: Global, load: Load) -> Result<Measured, Lo
         return Err(LoadFault::Threads);
     }
     let cluster = start(rt, alloc, load.servers)?;
-    let (sessions, carried) = match carry(&rt, alloc, cluster.front(), load) {
-        Ok(carried) => (carried.sessions, Ok((carried.begun, carried.times))),
-        Err(fault) => (Vec::new(alloc), Err(fault)),
-    };
-    let closed = cluster.close(&rt, alloc, sessions);
-    let (begun, times) = carried?;
+    let mut sessions = Vec::new(alloc);
+    let carried = carry(&rt, alloc, cluster.front(), load, &mut sessions);
+    let closed = closed_well(alloc, cluster.close(&rt, alloc, sessions));
+    let carried = carried?;
     let closed = closed?;
-    let closed_at = Instant::now(&rt)?;
-    check_order(alloc, &closed.world)?;
-    let explained_at = Instant::now(&rt)?;
-    check_sum(alloc, &closed.world, load)?;
-    Ok(Measured {
-        begun,
-        begin: times.begun.duration_since(times.first),
-        done: times.done.duration_since(times.first),
-        close: closed_at.duration_since(times.done),
-        explain: explained_at.duration_since(closed_at),
-    })
+    audit(&rt, alloc, load, carried, &closed.world)
 }

@@ -3,50 +3,55 @@ use lynx_cluster::{CloseFault, StartFault};
 use lynx_names::Memory;
 use std::alloc::{AllocError, AllocFailed};
 use std::io;
-use thiserror::Error;
 
 /// Why nothing was measured. Where a cluster was started, it is gone, and its threads have ended.
-#[derive(Clone, Copy, Debug, PartialEq, Eq, Error)]
+#[derive(Clone, Copy)]
 pub enum LoadFault {
     /// No set has so many servers: they are 1 to 16.
-    #[error("a set has 1 to 16 servers")]
     Servers,
     /// There is no thread to pay in.
-    #[error("a load has a thread at least")]
     Threads,
     /// The cluster didn't start; never for want of memory.
-    #[error("the cluster didn't start")]
     Start,
     /// The cluster made no session.
-    #[error("the cluster made no session")]
     Session,
     /// A seed or a payment was answered otherwise than as begun now.
-    #[error("a chain wasn't begun")]
     NotBegun,
     /// The last hops weren't all there after [`MAX_LOOKS`](crate::load::MAX_LOOKS) looks at one of
     /// them.
-    #[error("the last hops aren't all done")]
     NotDone,
     /// The cluster didn't close well; never for want of memory.
-    #[error("the cluster didn't close")]
     Close,
     /// No order of all chains explains the world.
-    #[error("no order explains the world")]
     Cycle,
     /// The cells hold another sum than was seeded.
-    #[error("the cells don't hold what was seeded")]
     Sum,
     /// The clock can't be read.
-    #[error("the clock can't be read")]
     Clock,
     /// Want of memory.
-    #[error("out of memory")]
     Memory,
 }
 
 impl LoadFault {
+    /// How it is told.
+    pub fn words(self) -> &'static str {
+        match self {
+            LoadFault::Servers => "a set has 1 to 16 servers",
+            LoadFault::Threads => "a load has a thread at least",
+            LoadFault::Start => "the cluster didn't start",
+            LoadFault::Session => "the cluster made no session",
+            LoadFault::NotBegun => "a chain wasn't begun",
+            LoadFault::NotDone => "the last hops aren't all done",
+            LoadFault::Close => "the cluster didn't close",
+            LoadFault::Cycle => "no order explains the world",
+            LoadFault::Sum => "the cells don't hold what was seeded",
+            LoadFault::Clock => "the clock can't be read",
+            LoadFault::Memory => "out of memory",
+        }
+    }
+
     /// The exit status: 3 for want of memory, 4 for all else.
-    pub fn status(&self) -> u8 {
+    pub fn status(self) -> u8 {
         match self {
             LoadFault::Memory => 3,
             _ => 4,

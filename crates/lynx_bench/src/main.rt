@@ -14,6 +14,7 @@ use std::process::ExitCode;
 use std::rt::Env;
 use std::{env, fmt};
 
+mod chains;
 mod clusters;
 mod fault;
 mod forms;
@@ -32,11 +33,11 @@ mod texts;
 use clusters::ClusterWork;
 use fault::Fault;
 use lynx_cluster::Host;
-use measure::{Work, measure};
+use measure::{MemoryWork, Work, measure};
 use shape::Shape;
 
 /// What the words of the command line ask for.
-#[derive(Clone, Copy, Debug)]
+#[derive(Clone, Copy)]
 enum Job<'a> {
     /// Some work so many times.
     Work { work: Work<'a>, count: u64 },
@@ -44,13 +45,29 @@ enum Job<'a> {
     Cluster(ClusterWork),
 }
 
-/// The work that a word names.
-fn work_of(word: &str) -> Option<Work<'_>> {
-    match word {
-        "encode" => Some(Work::Encode),
-        "begin" => Some(Work::Begin),
-        "deliver" => Some(Work::Deliver),
-        "open" => Some(Work::Open),
+/// That work so many times.
+fn repeated<'a>(work: Work<'a>, count: &str) -> Option<Job<'a>> {
+    let count = count.parse().ok()?;
+    Some(Job::Work { work, count })
+}
+
+/// The work that a word names, so many times.
+fn work_of<'a>(word: &str, count: &str) -> Option<Job<'a>> {
+    let work = match word {
+        "encode" => MemoryWork::Encode,
+        "begin" => MemoryWork::Begin,
+        "deliver" => MemoryWork::Deliver,
+        "open" => MemoryWork::Open,
+        _ => return None,
+    };
+    repeated(Work::InMemory(work), count)
+}
+
+/// Weaving or explaining a world of that shape.
+fn shaped_work_of<'a>(work: &str, shape: Shape) -> Option<Work<'a>> {
+    match work {
+        "weave" => Some(Work::InMemory(MemoryWork::Weave { shape })),
+        "explain" => Some(Work::InMemory(MemoryWork::Explain { shape })),
         _ => None,
     }
 }
@@ -61,50 +78,43 @@ fn sized_work_of<'a>(work: &str, size: &'a str) -> Option<Work<'a>> {
     match work {
         "store" => Some(Work::Store { folder: size }),
         "open-store" => Some(Work::OpenStore { folder: size }),
-        "feed" => Some(Work::Feed {
+        "feed" => Some(Work::InMemory(MemoryWork::Feed {
             piece: size.parse().ok()?,
-        }),
-        "weave" => Some(Work::Weave {
-            shape: Shape::named(size)?,
-        }),
-        "explain" => Some(Work::Explain {
-            shape: Shape::named(size)?,
-        }),
-        _ => None,
+        })),
+        _ => shaped_work_of(work, Shape::named(size)?),
     }
 }
 
-/// That work so many times.
-fn repeated<'a>(work: Work<'a>, count: &str) -> Option<Job<'a>> {
-    let count = count.parse().ok()?;
-    Some(Job::Work { work, count })
+/// Such work so many times, or a cluster that does nothing for so many seconds.
+fn sized<'a>(work: &str, size: &'a str, count: &str) -> Option<Job<'a>> {
+    if work == "idle" {
+        return Some(Job::Cluster(ClusterWork::idle(size, count)?));
+    }
+    repeated(sized_work_of(work, size)?, count)
 }
 
-/// A cluster that carries a load.
-fn cluster<'a>(servers: &str, threads: &str, count: &str, across: &str) -> Option<Job<'a>> {
-    let work = ClusterWork::carry(servers, threads, count, across)?;
-    Some(Job::Cluster(work))
+/// A cluster that carries a load, of which so many of a hundred go across.
+fn cluster<'a>(work: &str, load: &[String], across: &str) -> Option<Job<'a>> {
+    match load {
+        [servers, threads, count] if work == "cluster" => Some(Job::Cluster(ClusterWork::carry(
+            servers.as_str(),
+            threads.as_str(),
+            count.as_str(),
+            across,
+        )?)),
+        _ => None,
+    }
 }
 
 /// What the words ask for, the program's name first.
 fn asked(words: &[String]) -> Option<Job<'_>> {
     match words {
-        [_, work, count] => repeated(work_of(work.as_str())?, count.as_str()),
-        [_, work, servers, seconds] if work.as_str() == "idle" => Some(Job::Cluster(
-            ClusterWork::idle(servers.as_str(), seconds.as_str())?,
-        )),
-        [_, work, size, count] => {
-            repeated(sized_work_of(work.as_str(), size.as_str())?, count.as_str())
+        [_, work, count] => work_of(work.as_str(), count.as_str()),
+        [_, work, size, count] => sized(work.as_str(), size.as_str(), count.as_str()),
+        [_, work, load @ .., across] if load.len() == 3 => {
+            cluster(work.as_str(), load, across.as_str())
         }
-        [_, work, servers, threads, count] if work.as_str() == "cluster" => {
-            cluster(servers.as_str(), threads.as_str(), count.as_str(), "100")
-        }
-        [_, work, servers, threads, count, across] if work.as_str() == "cluster" => cluster(
-            servers.as_str(),
-            threads.as_str(),
-            count.as_str(),
-            across.as_str(),
-        ),
+        [_, work, load @ ..] => cluster(work.as_str(), load, "100"),
         _ => None,
     }
 }
@@ -117,7 +127,7 @@ fn report<T: fmt::Display + Drop>(rt: &HostRuntime, done: Result<T, Fault>) -> u
             0
         }
         Err(fault) => {
-            let _ = eprintln!(rt; "lynx_bench: {fault}");
+            let _ = eprintln!(rt; "lynx_bench: {}", fault.words());
             fault.status()
         }
     }

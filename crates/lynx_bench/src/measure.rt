@@ -1,25 +1,23 @@
 //! The work that is measured: payments from one server to another, and their forms.
+use crate::chains::{Start, begin, deliver};
 use crate::fault::Fault;
 use crate::forms::{encode_all, feed_all};
 use crate::ring::{explain_all, weave_all};
-use crate::shape::Shape;
+use crate::shape::{Shape, set_of};
 use crate::stores::{open_all, pay_all};
-use lynx_entry::{Answer, Delivered, Request};
 use lynx_keep::MemoryKeeper;
-use lynx_names::{ClientId, Memory, ProgramId, ServerId, Stamp, Values};
+use lynx_names::{Memory, ServerId};
 use lynx_rules::next_of;
 use lynx_server::Server;
-use lynx_set::ChainSet;
-use lynx_text::parse;
 use std::alloc::Global;
 
 /// A program of two hops, the first with a need that is met.
 const SET: &str =
     "lynx 1\nservers 2\ntable acct\nshard 0 999 0\nshard 1000 18446744073709551615 1\nprogram pay n\nhop 0\nget x acct 0\nneed x >= n\nsub acct 0 n\nhop 1\nadd acct 1000 n\nend\n";
 
-/// What is measured.
-#[derive(Clone, Copy, Debug)]
-pub enum Work<'a> {
+/// What is measured over keepers in memory, or over none.
+#[derive(Clone, Copy)]
+pub enum MemoryWork {
     /// So many bytes of forms are written.
     Encode,
     /// About so many bytes of forms are read, in pieces of that size.
@@ -34,40 +32,37 @@ pub enum Work<'a> {
     Deliver,
     /// They begin, and then the first server is opened again.
     Open,
+}
+
+/// What is measured.
+#[derive(Clone, Copy)]
+pub enum Work<'a> {
+    InMemory(MemoryWork),
     /// So many payments from server to server over stores in that folder, or in memory.
     Store { folder: &'a str },
     /// The first server's store in that folder is opened so many times.
     OpenStore { folder: &'a str },
 }
 
-fn set(alloc: Global) -> Result<ChainSet, Memory> {
-    parse(alloc, SET.as_bytes()).map_err(|_| Memory)
-}
+/// A payment of nothing.
+const PAY_NOTHING: Start = Start {
+    server: 0,
+    program: 0,
+    argument: Some(0),
+};
 
-/// The request of that number, to pay nothing.
-fn request(alloc: Global, number: u64) -> Result<Request, Memory> {
-    let mut args = Values::new(alloc);
-    args.push(0)?;
-    Ok(Request {
-        client: ClientId::new(1),
-        number,
-        program: ProgramId::new(0).ok_or(Memory)?,
-        args,
-    })
-}
-
-/// A server of the set that has done nothing yet.
-fn server(alloc: Global, server: ServerId) -> Result<Server<MemoryKeeper>, Memory> {
-    let set = set(alloc)?;
-    Server::new(alloc, &set, server, MemoryKeeper::new(alloc))
+/// A server of the set that has done nothing yet, in a box, which is let go by one call.
+fn server(alloc: Global, server: ServerId) -> Result<Box<Server<MemoryKeeper>>, Memory> {
+    let set = set_of(alloc, SET)?;
+    let server = Server::new(alloc, &set, server, MemoryKeeper::new(alloc))?;
+    Ok(Box::new(alloc, server)?)
 }
 
 /// How many of so many requests begin a chain.
 fn begin_all(alloc: Global, server: &mut Server<MemoryKeeper>, count: u64) -> Result<u64, Memory> {
     let mut begun: u64 = 0;
     for number in 0..count {
-        let answer = server.begin(alloc, request(alloc, number)?, Stamp::zero());
-        if matches!(answer, Answer::Begun { .. }) {
+        if begin(alloc, server, PAY_NOTHING, number)? {
             begun = begun.wrapping_add(1);
         }
     }
@@ -82,10 +77,8 @@ fn deliver_all(
 ) -> Result<u64, Memory> {
     let mut done: u64 = 0;
     for entry in from.history() {
-        if let Some(message) = next_of(alloc, from.set(), entry)? {
-            if matches!(to.deliver(alloc, message), Delivered::Done { .. }) {
-                done = done.wrapping_add(1);
-            }
+        if deliver(alloc, to, next_of(alloc, from.set(), entry)?) {
+            done = done.wrapping_add(1);
         }
     }
     Ok(done)
@@ -99,35 +92,49 @@ fn open_again(alloc: Global, server: Server<MemoryKeeper>) -> Result<u64, Memory
     }
 }
 
-fn begin(alloc: Global, count: u64) -> Result<u64, Memory> {
+/// How many of so many requests begin a chain at the first server.
+fn measure_begins(alloc: Global, count: u64) -> Result<u64, Memory> {
     let mut server = server(alloc, ServerId::first())?;
     begin_all(alloc, &mut server, count)
 }
 
-fn deliver(alloc: Global, count: u64) -> Result<u64, Memory> {
-    let mut first = server(alloc, ServerId::first())?;
-    begin_all(alloc, &mut first, count)?;
+/// The first server, after so many requests.
+fn begun(alloc: Global, count: u64) -> Result<Box<Server<MemoryKeeper>>, Memory> {
+    let mut server = server(alloc, ServerId::first())?;
+    begin_all(alloc, &mut server, count)?;
+    Ok(server)
+}
+
+/// How many messages of so many chains run a hop at the second server.
+fn measure_deliveries(alloc: Global, count: u64) -> Result<u64, Memory> {
+    let first = begun(alloc, count)?;
     let mut second = server(alloc, ServerId::at(1))?;
     deliver_all(alloc, &first, &mut second)
 }
 
-fn open(alloc: Global, count: u64) -> Result<u64, Memory> {
-    let mut server = server(alloc, ServerId::first())?;
-    begin_all(alloc, &mut server, count)?;
-    open_again(alloc, server)
+/// How many entries the first server has when it was opened again.
+fn measure_opening(alloc: Global, count: u64) -> Result<u64, Memory> {
+    let server = begun(alloc, count)?;
+    open_again(alloc, Box::into_inner(server))
+}
+
+/// Does such work so many times, and counts what was done.
+fn measure_in_memory(alloc: Global, work: MemoryWork, count: u64) -> Result<u64, Memory> {
+    match work {
+        MemoryWork::Encode => encode_all(alloc, count),
+        MemoryWork::Feed { piece } => feed_all(alloc, piece, count),
+        MemoryWork::Weave { shape } => weave_all(alloc, shape, count),
+        MemoryWork::Explain { shape } => explain_all(alloc, shape, count),
+        MemoryWork::Begin => measure_begins(alloc, count),
+        MemoryWork::Deliver => measure_deliveries(alloc, count),
+        MemoryWork::Open => measure_opening(alloc, count),
+    }
 }
 
 /// Does the work so many times, and counts what was done.
 pub fn measure(rt: &HostRuntime, work: Work<'_>, count: u64) -> Result<u64, Fault> {
-    let alloc = rt.alloc();
     match work {
-        Work::Encode => Ok(encode_all(alloc, count)?),
-        Work::Feed { piece } => feed_all(alloc, piece, count).map_err(|_| Fault::Memory),
-        Work::Weave { shape } => Ok(weave_all(alloc, shape, count)?),
-        Work::Explain { shape } => Ok(explain_all(alloc, shape, count)?),
-        Work::Begin => Ok(begin(alloc, count)?),
-        Work::Deliver => Ok(deliver(alloc, count)?),
-        Work::Open => Ok(open(alloc, count)?),
+        Work::InMemory(work) => Ok(measure_in_memory(rt.alloc(), work, count)?),
         Work::Store { folder } => pay_all(rt, folder, count),
         Work::OpenStore { folder } => open_all(rt, folder, count),
     }

@@ -55,8 +55,8 @@ fn share_of(left: u64, threads: u8) -> u64
 }
 
 /// The chain that the answer says began now.
-pub(crate) fn begun_now(answer: &Answer) -> Result<ChainId, LoadFault> {
-    match answer {
+pub(crate) fn begun_now(answer: Answer) -> Result<ChainId, LoadFault> {
+    match &answer {
         Answer::Begun {
             chain,
             again: false,
@@ -104,8 +104,7 @@ impl Payer {
         } else {
             payment_within(alloc, client, number, origin, self.servers)?
         };
-        let answer = front.begin(rt, alloc, &mut self.session, request);
-        begun_now(&answer)?;
+        begun_now(front.begin(rt, alloc, &mut self.session, request))?;
         Ok(())
     }
 

@@ -1,24 +1,15 @@
 //! Servers in a ring and the chains that run there: their histories, woven to a world.
-use crate::shape::Shape;
-use lynx_entry::{Entry, Message, Request};
-use lynx_keep::{Keeper, MemoryKeeper};
-use lynx_names::{ClientId, Memory, ProgramId, ServerId, Stamp, TryCopy, Values};
+use crate::chains::{self, Start, last_sent};
+use crate::shape::{Shape, set_of};
+use lynx_entry::{Entry, Message};
+use lynx_keep::MemoryKeeper;
+use lynx_names::{Memory, ServerId, TryCopy};
 use lynx_order::{Explained, explain_by_search};
-use lynx_rules::next_of;
 use lynx_server::Server;
 use lynx_set::ChainSet;
 use lynx_weave::weave;
 use lynx_world::World;
 use std::alloc::Global;
-
-/// A chain that is to begin: at which server, by which program, and the argument that it is given,
-/// if it wants one.
-#[derive(Clone, Copy, Debug)]
-pub struct Start {
-    pub server: usize,
-    pub program: u8,
-    pub argument: Option<u64>,
-}
 
 /// The servers of the set.
 fn servers_of(alloc: Global, set: &ChainSet) -> Result<Vec<Server<MemoryKeeper>>, Memory> {
@@ -30,28 +21,6 @@ fn servers_of(alloc: Global, set: &ChainSet) -> Result<Vec<Server<MemoryKeeper>>
     Ok(ring)
 }
 
-/// The request of that number.
-pub fn request(alloc: Global, start: Start, number: u64) -> Result<Request, Memory> {
-    let mut args = Values::new(alloc);
-    if let Some(argument) = start.argument {
-        args.push(argument)?;
-    }
-    Ok(Request {
-        client: ClientId::new(1),
-        number,
-        program: ProgramId::new(start.program).ok_or(Memory)?,
-        args,
-    })
-}
-
-/// The message that the server's last entry sends.
-pub fn last_sent<K: Keeper>(alloc: Global, server: &Server<K>) -> Result<Option<Message>, Memory> {
-    match server.history().last() {
-        Some(entry) => next_of(alloc, server.set(), entry),
-        None => Ok(None),
-    }
-}
-
 /// A chain begins: the message that it sends.
 fn begin(
     alloc: Global,
@@ -59,32 +28,24 @@ fn begin(
     start: Start,
     number: u64,
 ) -> Result<Option<Message>, Memory> {
-    let request = request(alloc, start, number)?;
-    let Some(here) = ring.get_mut(start.server) else {
+    let Some(here) = ring.get_mut(usize::from(start.server)) else {
         return Ok(None);
     };
-    let _ = here.begin(alloc, request, Stamp::zero());
+    chains::begin(alloc, here, start, number)?;
     last_sent(alloc, here)
 }
 
 /// The message, if there is one, is delivered to that server.
-fn deliver(
-    alloc: Global,
-    ring: &mut [Server<MemoryKeeper>],
-    server: usize,
-    message: Option<Message>,
-) {
-    if let Some(message) = message {
-        if let Some(there) = ring.get_mut(server) {
-            let _ = there.deliver(alloc, message);
-        }
+fn deliver(alloc: Global, ring: &mut [Server<MemoryKeeper>], server: u8, message: Option<Message>) {
+    if let Some(there) = ring.get_mut(usize::from(server)) {
+        chains::deliver(alloc, there, message);
     }
 }
 
 /// The next server's number, the first one's behind the last.
-fn next_of_ring(servers: usize, server: usize) -> usize {
+fn next_of_ring(servers: usize, server: u8) -> u8 {
     let next = server.wrapping_add(1);
-    if next < servers { next } else { 0 }
+    if usize::from(next) < servers { next } else { 0 }
 }
 
 /// Each server in its turn begins its program, which goes on at the next, so many times in all.
@@ -93,7 +54,7 @@ fn pay_all(alloc: Global, ring: &mut [Server<MemoryKeeper>], count: u64) -> Resu
     for number in 0..count {
         let start = Start {
             server,
-            program: u8::try_from(server).map_err(|_| Memory)?,
+            program: server,
             argument: None,
         };
         let next = next_of_ring(ring.len(), server);
@@ -117,9 +78,9 @@ fn cross(alloc: Global, ring: &mut [Server<MemoryKeeper>], number: u64) -> Resul
         argument: None,
     };
     let to_right = begin(alloc, ring, right, number)?;
-    let to_left = begin(alloc, ring, left, number)?;
+    let to_left = begin(alloc, ring, left, number);
     deliver(alloc, ring, 1, to_right);
-    deliver(alloc, ring, 0, to_left);
+    deliver(alloc, ring, 0, to_left?);
     Ok(())
 }
 
@@ -133,12 +94,16 @@ fn touch_all(
     for number in 0..count {
         let start = Start {
             server: 0,
-            program: if shape == Shape::Alternating {
+            program: if matches!(shape, Shape::Alternating) {
                 (number % 2) as u8
             } else {
                 0
             },
-            argument: Some(if shape == Shape::Cells { number } else { 0 }),
+            argument: Some(if matches!(shape, Shape::Cells) {
+                number
+            } else {
+                0
+            }),
         };
         begin(alloc, ring, start, number)?;
     }
@@ -194,17 +159,25 @@ fn ran(
 }
 
 /// The world that is woven of so many entries of the set's servers.
-fn woven_over(alloc: Global, set: &ChainSet, shape: Shape, entries: u64) -> Result<World, Memory> {
+fn woven_over(
+    alloc: Global,
+    set: &ChainSet,
+    shape: Shape,
+    entries: u64,
+) -> Result<Box<World>, Memory> {
     let histories = ran(alloc, set, shape, entries)?;
     if histories.len() != usize::from(set.servers()) {
         return Err(Memory);
     }
-    weave(alloc, set, histories, &[]).map_err(|_| Memory)
+    match weave(alloc, set, histories, &[]) {
+        Ok(world) => Ok(Box::new(alloc, world)?),
+        Err(_) => Err(Memory),
+    }
 }
 
 /// The world that is woven of so many entries.
-fn woven(alloc: Global, shape: Shape, entries: u64) -> Result<World, Memory> {
-    let set = shape.set(alloc)?;
+fn woven(alloc: Global, shape: Shape, entries: u64) -> Result<Box<World>, Memory> {
+    let set = set_of(alloc, shape.text())?;
     woven_over(alloc, &set, shape, entries)
 }
 

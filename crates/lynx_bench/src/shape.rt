@@ -21,7 +21,7 @@ const CROSSING: &str =
     "lynx 1\nservers 2\ntable t\nshard 0 9 0\nshard 10 18446744073709551615 1\nprogram right\nhop 0\nset t 0 1\nhop 1\nset t 10 1\nend\nprogram left\nhop 1\nset t 10 1\nhop 0\nset t 0 1\nend\n";
 
 /// What a world's chains do.
-#[derive(Clone, Copy, Debug, PartialEq, Eq)]
+#[derive(Clone, Copy)]
 pub enum Shape {
     /// Each of two servers in turn pays to the other.
     Two,
@@ -51,13 +51,22 @@ impl Shape {
         }
     }
 
-    pub fn set(self, alloc: Global) -> Result<ChainSet, Memory> {
-        let text = match self {
+    /// The text of the set that such a world runs.
+    pub fn text(self) -> &'static str {
+        match self {
             Shape::Two => TWO,
             Shape::Sixteen => SIXTEEN,
             Shape::Adds | Shape::Alternating | Shape::Cells => ONE,
             Shape::Cycle => CROSSING,
-        };
-        parse(alloc, text.as_bytes()).map_err(|_| Memory)
+        }
+    }
+}
+
+/// The set of a text that is known to have no fault, in a box: that is let go by one call, which
+/// keeps the proofs of those who hold it short.
+pub fn set_of(alloc: Global, text: &str) -> Result<Box<ChainSet>, Memory> {
+    match parse(alloc, text.as_bytes()) {
+        Ok(set) => Ok(Box::new(alloc, set)?),
+        Err(_) => Err(Memory),
     }
 }

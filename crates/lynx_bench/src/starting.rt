@@ -29,7 +29,10 @@ pub(crate) fn start<R: Threads + Wait + Clock + Copy + Send + 'static>(
 ) -> Result<Cluster<MemoryKeeper, OpenGate>, LoadFault>
     ensures { OnOk result (0 < servers) }
 {
-    let set = set_for(alloc, servers)?;
     let keepers = keepers(alloc, servers)?;
-    Ok(Cluster::start(rt, alloc, &set, keepers, OpenGate)?)
+    let set = set_for(alloc, servers)?;
+    match Cluster::start(rt, alloc, &set, keepers, OpenGate) {
+        Ok(cluster) => Ok(cluster),
+        Err(fault) => Err(LoadFault::from(fault)),
+    }
 }

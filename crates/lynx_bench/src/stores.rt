@@ -1,14 +1,12 @@
 //! Payments over stores, in files or in memory, and the opening of a store.
+use crate::chains::{Start, begin, deliver, last_sent};
 use crate::fault::Fault;
 use crate::memory_stores::MemoryStores;
-use crate::ring::{Start, last_sent, request};
-use lynx_entry::Delivered;
+use crate::shape::set_of;
 use lynx_keep::Keeper;
-use lynx_names::{Memory, ServerId, Stamp};
+use lynx_names::{Memory, ServerId};
 use lynx_server::Server;
-use lynx_set::ChainSet;
 use lynx_store_files::{Files, Stores};
-use lynx_text::parse;
 use std::alloc::Global;
 
 /// A program that fills an account of the first server, and one that pays from it to one of the
@@ -32,11 +30,6 @@ const PAY: Start = Start {
     argument: Some(1),
 };
 
-/// The set of the payments.
-fn set(alloc: Global) -> Result<ChainSet, Memory> {
-    parse(alloc, SET.as_bytes()).map_err(|_| Memory)
-}
-
 /// The server over its store in the folder.
 fn served<K: Keeper + Drop, S: Stores<K>>(
     alloc: Global,
@@ -44,9 +37,12 @@ fn served<K: Keeper + Drop, S: Stores<K>>(
     folder: &str,
     server: ServerId,
 ) -> Result<Server<K>, Fault> {
-    let set = set(alloc)?;
+    let set = set_of(alloc, SET)?;
     let keeper = stores.open(folder, &set, server)?;
-    Server::open(alloc, &set, server, keeper).map_err(|_| Fault::Store)
+    match Server::open(alloc, &set, server, keeper) {
+        Ok(opened) => Ok(opened),
+        Err(_) => Err(Fault::Store),
+    }
 }
 
 /// Begins a payment at the one server, and delivers its message to the other. Whether it came
@@ -57,11 +53,9 @@ fn pay<K: Keeper>(
     payee: &mut Server<K>,
     number: u64,
 ) -> Result<bool, Memory> {
-    let _ = payer.begin(alloc, request(alloc, PAY, number)?, Stamp::zero());
-    match last_sent(alloc, payer)? {
-        Some(message) => Ok(matches!(payee.deliver(alloc, message), Delivered::Done { .. })),
-        None => Ok(false),
-    }
+    begin(alloc, payer, PAY, number)?;
+    let message = last_sent(alloc, payer)?;
+    Ok(deliver(alloc, payee, message))
 }
 
 /// Fills the account, and pays from it so many times. How many of the payments come to their end.
@@ -72,11 +66,7 @@ fn pay_often<K: Keeper>(
     count: u64,
 ) -> Result<u64, Memory> {
     let amount = count.saturating_add(1);
-    let _ = payer.begin(
-        alloc,
-        request(alloc, seed(amount), u64::MAX)?,
-        Stamp::zero(),
-    );
+    begin(alloc, payer, seed(amount), u64::MAX)?;
     let mut paid: u64 = 0;
     for number in 0..count {
         if pay(alloc, payer, payee, number)? {
@@ -96,9 +86,10 @@ fn pay_over<K: Keeper + Drop, S: Stores<K>>(
 ) -> Result<u64, Fault> {
     let mut payer = served(alloc, stores, folder, ServerId::first())?;
     let mut payee = served(alloc, stores, folder, ServerId::at(1))?;
-    let paid = pay_often(alloc, &mut payer, &mut payee, count)?;
+    let paid = pay_often(alloc, &mut payer, &mut payee, count);
     let payer = stores.close(payer.into_keeper());
     let payee = stores.close(payee.into_keeper());
+    let paid = paid?;
     payer?;
     payee?;
     Ok(paid)

@@ -30,8 +30,8 @@ fn next_of(server: u8, servers: u8) -> u8
     if next < servers { next } else { 0 }
 }
 
-/// The line of a server's shard.
-fn shard_line(alloc: Global, server: u8, servers: u8) -> Result<String, AllocError>
+/// Writes the line of a server's shard.
+fn write_shard(text: &mut String, server: u8, servers: u8) -> Result<(), AllocError>
     requires { server < servers }
 {
     let first = first_key(server);
@@ -40,70 +40,76 @@ fn shard_line(alloc: Global, server: u8, servers: u8) -> Result<String, AllocErr
     } else {
         u64::MAX
     };
-    format!(in alloc; "shard {first} {last} {server}\n")
+    write!(text, "shard {first} {last} {server}\n")
 }
 
-/// The program that pays from a server to the next. A lone server pays itself in one hop: with a
-/// second one there it would be busy until that is done.
-fn pay_text(alloc: Global, server: u8, servers: u8) -> Result<String, AllocError>
+/// Writes the lines of a program up to where it takes from the account that a server pays from.
+fn write_taking(text: &mut String, name: &str, server: u8) -> Result<(), AllocError> {
+    let from = first_key(server);
+    write!(
+        text,
+        "program {name}{server} n\nhop {server}\nget x acct {from}\n"
+    )?;
+    write!(text, "need x >= n\nsub acct {from} n\n")
+}
+
+/// Writes the program that pays from a server to the next. A lone server pays itself in one hop:
+/// with a second one there it would be busy until that is done.
+fn write_pay(text: &mut String, server: u8, servers: u8) -> Result<(), AllocError>
     requires { server < servers }
 {
     let next = next_of(server, servers);
-    let hop = if next == server {
-        String::new(alloc)
-    } else {
-        format!(in alloc; "hop {next}\n")?
-    };
-    let from = first_key(server);
-    let to = first_key(next) + 1;
-    format!(in alloc;
-        "program pay{server} n\nhop {server}\nget x acct {from}\nneed x >= n\nsub acct {from} n\n{hop}add acct {to} n\nend\n"
-    )
+    write_taking(text, "pay", server)?;
+    if next != server {
+        write!(text, "hop {next}\n")?;
+    }
+    write!(text, "add acct {} n\nend\n", first_key(next) + 1)
 }
 
-/// The program that pays within a server.
-fn move_text(alloc: Global, server: u8) -> Result<String, AllocError> {
-    let from = first_key(server);
-    let to = from + 1;
-    format!(in alloc;
-        "program move{server} n\nhop {server}\nget x acct {from}\nneed x >= n\nsub acct {from} n\nadd acct {to} n\nend\n"
-    )
+/// Writes the program that pays within a server.
+fn write_move(text: &mut String, server: u8) -> Result<(), AllocError> {
+    write_taking(text, "move", server)?;
+    write!(text, "add acct {} n\nend\n", first_key(server) + 1)
 }
 
-/// The program that fills the account that a server pays from.
-fn seed_text(alloc: Global, server: u8) -> Result<String, AllocError> {
+/// Writes the program that fills the account that a server pays from.
+fn write_seed(text: &mut String, server: u8) -> Result<(), AllocError> {
     let account = first_key(server);
-    format!(in alloc; "program seed{server} n\nhop {server}\nadd acct {account} n\nend\n")
+    write!(
+        text,
+        "program seed{server} n\nhop {server}\nadd acct {account} n\nend\n"
+    )
 }
 
-/// The text of the set for so many servers.
-fn text_for(alloc: Global, servers: u8) -> Result<String, AllocError> {
-    let mut text = format!(in alloc; "lynx 1\nservers {servers}\ntable acct\n")?;
+/// Writes the text of the set for so many servers.
+fn write_set(text: &mut String, servers: u8) -> Result<(), AllocError> {
+    write!(text, "lynx 1\nservers {servers}\ntable acct\n")?;
     for server in 0..servers {
-        text.push_str(shard_line(alloc, server, servers)?.as_str())?;
+        write_shard(text, server, servers)?;
     }
     for server in 0..servers {
-        text.push_str(pay_text(alloc, server, servers)?.as_str())?;
+        write_pay(text, server, servers)?;
     }
     for server in 0..servers {
-        text.push_str(move_text(alloc, server)?.as_str())?;
+        write_move(text, server)?;
     }
     for server in 0..servers {
-        text.push_str(seed_text(alloc, server)?.as_str())?;
+        write_seed(text, server)?;
     }
-    Ok(text)
+    Ok(())
 }
 
 /// The set for so many servers, 1 to 16. Any other number is a fault.
-pub(crate) fn set_for(alloc: Global, servers: u8) -> Result<ChainSet, LoadFault>
+pub(crate) fn set_for(alloc: Global, servers: u8) -> Result<Box<ChainSet>, LoadFault>
     ensures { OnOk result (0 < servers) }
 {
     if servers == 0 {
         return Err(LoadFault::Servers);
     }
-    let text = text_for(alloc, servers)?;
+    let mut text = String::new(alloc);
+    write_set(&mut text, servers)?;
     match parse(alloc, text.as_bytes()) {
-        Ok(set) => Ok(set),
+        Ok(set) => Ok(Box::new(alloc, set)?),
         Err(fault) if fault.kind == FaultKind::Memory => Err(LoadFault::Memory),
         Err(_) => Err(LoadFault::Servers),
     }

@@ -1,6 +1,6 @@
 //! Calls on a server, over a keeper in memory.
 use crate::payments::server_after;
-use crate::tried::{Called, Tried, ended, made_again, of_option};
+use crate::tried::{Called, Tried, done, ended, made_again, of_option};
 use lynx_entry::{Answer, Delivered};
 use lynx_fixtures::cells::{Cell, are_cells};
 use lynx_fixtures::made::{boxed, entries, message, request, server};
@@ -135,13 +135,20 @@ pub fn begun(answer: Answer) -> Called {
 }
 
 /// What a delivery came to, which is to be held, or to run.
-fn came(delivered: Delivered, is_held: bool) -> Called {
-    match &delivered {
+fn come_to(delivered: &Delivered, is_held: bool) -> Called {
+    match delivered {
         Delivered::Held if is_held => Called::Done,
         Delivered::Done { .. } if !is_held => Called::Done,
         Delivered::Memory => Called::Refused,
         _ => Called::Other,
     }
+}
+
+/// What it came to, where it is let go.
+fn came(delivered: Delivered, is_held: bool) -> Called {
+    let called = come_to(&delivered, is_held);
+    done(delivered);
+    called
 }
 
 /// The payment begins.

@@ -215,11 +215,11 @@ fn write_form(alloc: Global, item: &Item) -> Called
 }
 
 /// The request is written, and again where memory was wanting to it.
-fn write_again(alloc: Global, item: Item) -> Tried
-    requires { IsInRange item }
+fn write_again(alloc: Global, item: &Item) -> Tried
+    requires { IsInRange item.now }
 {
-    match write_form(alloc, &item) {
-        Called::Refused => made_again(true, write_form(alloc, &item)),
+    match write_form(alloc, item) {
+        Called::Refused => made_again(true, write_form(alloc, item)),
         answered => ended(answered),
     }
 }
@@ -228,7 +228,11 @@ fn try_encode(alloc: Global) -> Result<Tried, Memory> {
     let mut feed = Feed::new(alloc);
     feed.push(SEED_FORM)?;
     match feed.next(alloc) {
-        Ok(Some(item)) => Ok(write_again(alloc, item)),
+        Ok(Some(item)) => {
+            let tried = write_again(alloc, &item);
+            done(item);
+            Ok(tried)
+        }
         Ok(None) => Err(Memory),
         Err(_) => Err(Memory),
     }

@@ -13,9 +13,6 @@ const LOG_PAGES: usize = 8;
 /// The files of one store, which stop.
 pub type Disks = Files<Fuse<File>>;
 
-/// A database on them.
-pub type Database = Connection<FileStore<Fuse<File>>>;
-
 /// Files that hold nothing yet, whose log passes so many calls on, and whose database so many.
 pub fn blank_disks(alloc: Global, log: u64, db: u64) -> Disks {
     Files {

@@ -1,5 +1,4 @@
-//! Keepers and servers over stores on disks in memory.
-use crate::disks::{Database, blank_disks, connect};
+//! Keepers and servers over stores in memory.
 use lynx_entry::Answer;
 use lynx_fixtures::made::{request, server};
 use lynx_fixtures::parts::RequestParts;
@@ -9,12 +8,11 @@ use lynx_keep::Keeper;
 use lynx_names::{Memory, Stamp};
 use lynx_server::{OpenFault, Server};
 use lynx_store::{SqlKeeper, StoreFault};
-use sqlite::FileStore;
-use sqlite_disk::{Fuse, Memory as File};
+use sqlite::{Connection, MemStore};
 use std::alloc::Global;
 
-/// A keeper over such a store.
-pub type Store = SqlKeeper<FileStore<Fuse<File>>>;
+/// A keeper in memory.
+pub type Store = SqlKeeper<MemStore>;
 
 /// Why a test has no server.
 #[derive(Clone, Copy, Debug, PartialEq, Eq)]
@@ -31,16 +29,21 @@ impl From<Memory> for Fault {
     }
 }
 
-/// A database without tables.
-pub fn blank(alloc: Global) -> Result<Database, Fault> {
-    match connect(alloc, blank_disks(alloc, u64::MAX, u64::MAX)) {
+/// A database in memory without tables.
+pub fn blank(alloc: Global) -> Result<Connection<MemStore>, Fault> {
+    match Connection::open_in_memory(alloc) {
         Ok(conn) => Ok(conn),
         Err(_) => Err(Fault::Database),
     }
 }
 
 /// A keeper over the store of a server of that set, made where there is none.
-pub fn keeper(alloc: Global, conn: Database, text: &str, number: u8) -> Result<Store, Fault> {
+pub fn keeper(
+    alloc: Global,
+    conn: Connection<MemStore>,
+    text: &str,
+    number: u8,
+) -> Result<Store, Fault> {
     let set = set_of(alloc, text)?;
     match SqlKeeper::open(alloc, conn, &set, server(number)?) {
         Ok(keeper) => Ok(keeper),
@@ -68,7 +71,7 @@ fn over<K: Keeper + Drop>(
 /// A server over its store, in a box.
 pub fn served(
     alloc: Global,
-    conn: Database,
+    conn: Connection<MemStore>,
     text: &str,
     number: u8,
 ) -> Result<Box<Server<Store>>, Fault> {
@@ -76,7 +79,7 @@ pub fn served(
 }
 
 /// The connection of a server.
-pub fn closed(server: Box<Server<Store>>) -> Database {
+pub fn closed(server: Box<Server<Store>>) -> Connection<MemStore> {
     Box::into_inner(server).into_keeper().into_connection()
 }
 
@@ -105,12 +108,12 @@ fn began<K: Keeper + Drop>(
 }
 
 /// The store of server 0 after these begins.
-pub fn after(alloc: Global, asked: &[RequestParts]) -> Result<Database, Fault> {
+pub fn after(alloc: Global, asked: &[RequestParts]) -> Result<Connection<MemStore>, Fault> {
     let server = served(alloc, blank(alloc)?, PAYMENT, 0)?;
     Ok(closed(began(alloc, server, asked)?))
 }
 
 /// The store of server 0 after the worked payment: two entries, and one cell of 70.
-pub fn paid(alloc: Global) -> Result<Database, Fault> {
+pub fn paid(alloc: Global) -> Result<Connection<MemStore>, Fault> {
     after(alloc, &[SEED, PAY])
 }

@@ -1,5 +1,4 @@
 //! Listings of stores.
-use crate::disks::Database;
 use crate::made::{Fault, after, begins, blank, closed, paid, served};
 use lynx_fixtures::full::Full;
 use lynx_fixtures::made::message;
@@ -7,6 +6,7 @@ use lynx_fixtures::parts::RequestParts;
 use lynx_fixtures::payments::{PAY, SEED, SENT};
 use lynx_fixtures::texts::PAYMENT;
 use lynx_show::{ShowFault, show_store};
+use sqlite::{Connection, MemStore};
 use std::alloc::Global;
 use std::io;
 use std::io::Write;
@@ -31,7 +31,7 @@ impl Write for Page {
 }
 
 /// Whether a database is listed so.
-fn is_listed(alloc: Global, mut conn: Database, wanted: &str) -> bool {
+fn is_listed(alloc: Global, mut conn: Connection<MemStore>, wanted: &str) -> bool {
     let mut page = Page {
         bytes: Vec::new(alloc),
     };

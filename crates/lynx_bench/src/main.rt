@@ -2,7 +2,8 @@
 //! `feed PIECE` write and read so many bytes of forms, `store FOLDER` pays so many times over two
 //! stores there (`:memory:`: in memory), `open-store FOLDER` opens the first of them so many times,
 //! `weave SHAPE` weaves so many entries of two servers (`2`), of sixteen (`16`), or of one (`adds`,
-//! `alternating`, `cells`, `cycle`), and `explain SHAPE` then explains the world.
+//! `alternating`, `cells`, `cycle`), and `explain SHAPE` then explains the world; `cut SHAPE` finds
+//! how much fits together once the first server has lost the latter half.
 //!
 //! Two kinds of work are of a cluster in memory, with a thread for each server:
 //! `cluster SERVERS THREADS COUNT [ACROSS]` pays so many times by so many threads, ACROSS of 100
@@ -63,10 +64,11 @@ fn work_of<'a>(word: &str, count: &str) -> Option<Job<'a>> {
     repeated(Work::InMemory(work), count)
 }
 
-/// Weaving or explaining a world of that shape.
+/// Weaving, cutting or explaining a world of that shape.
 fn shaped_work_of<'a>(work: &str, shape: Shape) -> Option<Work<'a>> {
     match work {
         "weave" => Some(Work::InMemory(MemoryWork::Weave { shape })),
+        "cut" => Some(Work::InMemory(MemoryWork::Cut { shape })),
         "explain" => Some(Work::InMemory(MemoryWork::Explain { shape })),
         _ => None,
     }
@@ -140,7 +142,7 @@ fn obey<R: Host>(host: &HostRuntime, rt: R, words: &[String]) -> u8 {
         Some(Job::Cluster(work)) => report(host, work.run(rt, host.alloc())),
         None => {
             let _ = eprintln!(host;
-                "lynx_bench: begin, deliver, open, encode, feed and the size of a piece, store or open-store and a folder, or weave or explain and 2, 16, adds, alternating, cells or cycle; and a count; or cluster, servers (1 to 16), threads (1 to 255), a count and, if not 100, how many of 100 payments go to another server; or idle, servers and seconds"
+                "lynx_bench: begin, deliver, open, encode, feed and the size of a piece, store or open-store and a folder, or weave, cut or explain and 2, 16, adds, alternating, cells or cycle; and a count; or cluster, servers (1 to 16), threads (1 to 255), a count and, if not 100, how many of 100 payments go to another server; or idle, servers and seconds"
             );
             2
         }

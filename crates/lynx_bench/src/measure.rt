@@ -2,7 +2,7 @@
 use crate::chains::{Start, begin, deliver};
 use crate::fault::Fault;
 use crate::forms::{encode_all, feed_all};
-use crate::ring::{explain_all, weave_all};
+use crate::ring::{cut_all, explain_all, weave_all};
 use crate::shape::{Shape, set_of};
 use crate::stores::{open_all, pay_all};
 use lynx_keep::MemoryKeeper;
@@ -24,6 +24,8 @@ pub enum MemoryWork {
     Feed { piece: usize },
     /// So many entries of that shape come to be, and are woven.
     Weave { shape: Shape },
+    /// The same, but the first server loses the latter half of its own: what fits is found.
+    Cut { shape: Shape },
     /// The same, and the world is explained.
     Explain { shape: Shape },
     /// So many chains begin at the first server.
@@ -124,6 +126,7 @@ fn measure_in_memory(alloc: Global, work: MemoryWork, count: u64) -> Result<u64,
         MemoryWork::Encode => encode_all(alloc, count),
         MemoryWork::Feed { piece } => feed_all(alloc, piece, count),
         MemoryWork::Weave { shape } => weave_all(alloc, shape, count),
+        MemoryWork::Cut { shape } => cut_all(alloc, shape, count),
         MemoryWork::Explain { shape } => explain_all(alloc, shape, count),
         MemoryWork::Begin => measure_begins(alloc, count),
         MemoryWork::Deliver => measure_deliveries(alloc, count),

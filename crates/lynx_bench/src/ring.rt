@@ -7,7 +7,7 @@ use lynx_names::{Memory, ServerId, TryCopy};
 use lynx_order::{Explained, explain_by_search};
 use lynx_server::Server;
 use lynx_set::ChainSet;
-use lynx_weave::weave;
+use lynx_weave::{cut, weave};
 use lynx_world::World;
 use std::alloc::Global;
 
@@ -185,6 +185,38 @@ fn woven(alloc: Global, shape: Shape, entries: u64) -> Result<Box<World>, Memory
 pub fn weave_all(alloc: Global, shape: Shape, entries: u64) -> Result<u64, Memory> {
     let world = woven(alloc, shape, entries)?;
     Ok(world.len() as u64)
+}
+
+/// The first server loses the latter half of its history.
+fn lose_half(histories: &mut [Vec<Entry>]) {
+    if let Some(first) = histories.first_mut() {
+        let half = first.len() / 2;
+        first.truncate(half);
+    }
+}
+
+/// How many of these entries fit together.
+fn fitting(alloc: Global, set: &ChainSet, histories: Vec<Vec<Entry>>) -> Result<u64, Memory> {
+    if histories.len() != usize::from(set.servers()) {
+        return Err(Memory);
+    }
+    let Ok(counts) = cut(alloc, set, histories) else {
+        return Err(Memory);
+    };
+    let mut fitting: u64 = 0;
+    for count in counts.as_slice() {
+        fitting = fitting.saturating_add(*count as u64);
+    }
+    Ok(fitting)
+}
+
+/// How many of so many entries fit together, where the first server has lost the latter half of its
+/// own.
+pub fn cut_all(alloc: Global, shape: Shape, entries: u64) -> Result<u64, Memory> {
+    let set = set_of(alloc, shape.text())?;
+    let mut histories = ran(alloc, &set, shape, entries)?;
+    lose_half(histories.as_mut_slice());
+    fitting(alloc, &set, histories)
 }
 
 /// How many chains the order has that explains the world, or the cycle that tells why none does.

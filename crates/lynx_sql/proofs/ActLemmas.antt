@@ -126,7 +126,7 @@ adds_or_fails old new act (Ok count) fits has h = adds old new act count fits ha
 
 -- ---- one after another
 
-goes_on_still : (s : State) → IsTrue s.is_open → IsTrue s.in_transaction → GoesOn s s
+pub goes_on_still : (s : State) → IsTrue s.is_open → IsTrue s.in_transaction → GoesOn s s
 goes_on_still s up inside =
     record { shown = record { was_open = up; is_open = up; now_is = refl; committed_is = refl; mode = inside }; schema = refl; catalog = refl }
 

@@ -29,7 +29,7 @@ on_ok (Ok x) f p = f p
 on_ok (Err e) f p = tt
 
 -- the row at the next place comes last
-place_end : (k n : ℕ) (body : List ℕ) (bodies : List (List ℕ)) → n ≡ k + length bodies → put_row (entry_row n body) (entry_rows k bodies) ≡ entry_rows k (bodies ++ body ∷ [])
+pub place_end : (k n : ℕ) (body : List ℕ) (bodies : List (List ℕ)) → n ≡ k + length bodies → put_row (entry_row n body) (entry_rows k bodies) ≡ entry_rows k (bodies ++ body ∷ [])
 place_end k n body [] at = ap (λ m. entry_row m body ∷ []) (omega arith)
 place_end k n body (b ∷ bodies) at =
     let low : k < n = omega arith in rw (lower_id k n low) (ap (λ rows. entry_row k b ∷ rows) (place_end (k + 1) n body bodies (omega arith)))

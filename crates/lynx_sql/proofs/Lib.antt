@@ -7,6 +7,7 @@ pub mod EntryLemmas
 pub mod ActLemmas
 pub mod CellChanges
 pub mod CommitLemmas
+pub mod BatchLemmas
 pub mod TextLemmas
 pub mod UpgradeLemmas
 pub mod StoredLemmas

@@ -1,5 +1,5 @@
 -- The rows of `acted`.
-use Rattle.std.specs.Prelude.{◌≡◌, ℕ, ◌<◌, ◌^◌, ℤ, pos, List, [], ◌∷◌, ◌++◌, map, Option, Some, None, Vec, IsPermutation}
+use Rattle.std.specs.Prelude.{◌≡◌, ℕ, ◌+◌, ◌<◌, ◌≤◌, ◌^◌, ℤ, pos, List, [], ◌∷◌, ◌++◌, map, Option, Some, None, Vec, IsPermutation}
 use Rattle.std.specs.Prelude.{◌<ℤ◌}
 use Rattle.std.specs.Int.{w64, to_be_bytes}
 use Rattle.std.specs.List.{AllByRecursion}
@@ -65,6 +65,11 @@ with_acted None acted = None
 with_acted (Some acts) None = Some acts
 with_acted (Some acts) (Some act) = Some (acts ++ act ∷ [])
 
+-- more hops, where the store keeps hops
+abbrev pub with_acts : Option (List Acted) → List Acted → Option (List Acted)
+with_acts None more = None
+with_acts (Some acts) more = Some (acts ++ more)
+
 -- the hop that is added to a store of a version
 abbrev pub noted : StoreVersion → Option Acted → List Acted
 noted One act = []
@@ -77,3 +82,10 @@ pub record ArePlaced (acts : List Acted) (places : ℕ) : Type 0 where
   pub rise : IsAscending (λ act later. act.place < later.place) acts
   pub low : AllByRecursion (λ act. act.place < places) acts
   pub fit : AllByRecursion (λ act. act.index < 2 ^ 64) acts
+
+-- each hop is of a later entry than the one before it, and all are of so many entries from a place
+-- on
+pub record AreNext (acts : List Acted) (place count : ℕ) : Type 0 where
+  pub rise : IsAscending (λ act later. act.place < later.place) acts
+  pub high : AllByRecursion (λ act. place ≤ act.place) acts
+  pub low : AllByRecursion (λ act. act.place < place + count) acts

@@ -1,9 +1,10 @@
 -- What the tables of a store hold.
-use Rattle.std.specs.Prelude.{ℕ, ◌==◌, if◌then◌else◌, List, [], ◌∷◌, ◌++◌, Option, Some}
+use Rattle.std.specs.Prelude.{ℕ, ◌==◌, if◌then◌else◌, List, [], ◌∷◌, ◌++◌, map, Option, Some}
+use Rattle.std.specs.Global.{Vec}
 use Rattle.lynx_cells.specs.Database.{Database, ChangeSet, applied, empty_database}
 use Rattle.lynx_sql.specs.declared.acts.Acted.{Acted}
 use Rattle.lynx_sql.specs.declared.version.StoreVersion.{StoreVersion}
-use Rattle.lynx_sql.specs.Acts.{no_acts, with_acted}
+use Rattle.lynx_sql.specs.Acts.{no_acts, with_acted, with_acts}
 
 -- the three texts of `meta`: the version of the tables, the server's number and the set
 pub record Title : Type 0 where
@@ -37,6 +38,20 @@ with_body contents body changes acted =
       bodies = contents.bodies ++ body ∷ [];
       cells = applied changes contents.cells;
       acted = with_acted contents.acted acted;
+    }
+
+-- the bodies that vectors hold
+abbrev pub bodies_in : List (Vec ℕ) → List (List ℕ)
+bodies_in bodies = map (λ (body : Vec ℕ). body.items) bodies
+
+-- more entries at the next places, with the changes of their cells, and with their hops where the
+-- store keeps hops
+abbrev pub with_bodies : Contents → List (List ℕ) → ChangeSet → List Acted → Contents
+with_bodies contents bodies changes acts =
+    record contents {
+      bodies = contents.bodies ++ bodies;
+      cells = applied changes contents.cells;
+      acted = with_acts contents.acted acts;
     }
 
 -- a new store of a version

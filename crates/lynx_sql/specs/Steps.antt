@@ -16,7 +16,7 @@ use Rattle.lynx_sql.specs.Contents.{Title, Contents, title_of, with_text}
 use Rattle.lynx_sql.specs.Tables.{store_schema, acted_tree, cell_tree, entry_tree, meta_tree}
 use Rattle.lynx_sql.specs.Rows.{meta_row, meta_rows, entry_row, entry_rows}
 use Rattle.lynx_sql.specs.Cells.{HoldsCells}
-use Rattle.lynx_sql.specs.Acts.{HoldsActs, HoldsActed, ArePlaced, acts_in, version_of, no_acts, with_acted, noted}
+use Rattle.lynx_sql.specs.Acts.{HoldsActs, HoldsActed, ArePlaced, acts_in, version_of, no_acts, with_acted, with_acts, noted}
 
 -- what holds of a call that is made within a transaction, as long as the disk is clean
 abbrev pub InTransaction : State → State → Type 0 → Type 0
@@ -47,6 +47,17 @@ pub record AddsEntry (old new : State) (place : ℕ) (body : List ℕ) : Type 0 
   pub on : GoesOn old new
   pub meta : new.now.trees meta_tree ≡ old.now.trees meta_tree
   pub entries : new.now.trees entry_tree ≡ put_row (entry_row place body) (old.now.trees entry_tree)
+  pub cells : new.now.trees cell_tree ≡ old.now.trees cell_tree
+  pub acted : new.now.trees acted_tree ≡ old.now.trees acted_tree
+
+-- `entry` holds what it held and these bodies after it, the first of them at the place, and the
+-- other tables are as they were
+pub record AddsEntries (old new : State) (place : ℕ) (bodies : List (List ℕ)) : Type 0 where
+  pub on : GoesOn old new
+  pub meta : new.now.trees meta_tree ≡ old.now.trees meta_tree
+  pub entries : (before : List (List ℕ)) → place ≡ length before
+      → old.now.trees entry_tree ≡ entry_rows 0 before
+      → new.now.trees entry_tree ≡ entry_rows 0 (before ++ bodies)
   pub cells : new.now.trees cell_tree ≡ old.now.trees cell_tree
   pub acted : new.now.trees acted_tree ≡ old.now.trees acted_tree
 
@@ -82,6 +93,17 @@ pub record NotesActed (old new : State) (version : StoreVersion) (act : Option A
       → HoldsActed (old.now.trees acted_tree) before
       → HoldsActed (new.now.trees acted_tree) (with_acted before act)
   pub fit : AllByRecursion (λ act. act.index < 2 ^ 64) (noted version act)
+
+-- where stores of the version keep hops, these are kept too
+pub record NotesActs (old new : State) (version : StoreVersion) (acts : List Acted) : Type 0 where
+  pub on : GoesOn old new
+  pub meta : new.now.trees meta_tree ≡ old.now.trees meta_tree
+  pub entries : new.now.trees entry_tree ≡ old.now.trees entry_tree
+  pub cells : new.now.trees cell_tree ≡ old.now.trees cell_tree
+  pub acted : (before : Option (List Acted)) → version_of before ≡ version
+      → HoldsActed (old.now.trees acted_tree) before
+      → HoldsActed (new.now.trees acted_tree) (with_acts before acts)
+  pub fit : version ≡ Two → AllByRecursion (λ act. act.index < 2 ^ 64) acts
 
 -- `meta` has another text under a number
 pub record SetsText (old new : State) (id : ℕ) (text : List ℕ) : Type 0 where

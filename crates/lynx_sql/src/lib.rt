@@ -4,11 +4,13 @@
 #![tactic(auto)]
 
 pub use acts::Acted;
+pub use batch::write_entries;
 pub use reading::{StoredRows, read_rows};
 pub use rising::Rising;
 pub use version::StoreVersion;
 
 pub mod acts;
+pub mod batch;
 pub mod cells;
 pub mod commit;
 pub mod entries;

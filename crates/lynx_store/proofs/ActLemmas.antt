@@ -1,5 +1,5 @@
 -- The hops of entries, one after another.
-use Rattle.std.proofs.Common.{◌≡◌, ◌⊎◌, inl, inr, ℕ, zero, suc, ◌+◌, ◌<◌, ◌≤◌, List, [], ◌∷◌, ◌++◌, length, map, take, get_or, slice_get, Option, Some, None, refl, sym, ap, subst, ◌∙◌, arith}
+use Rattle.std.proofs.Common.{◌≡◌, ◌⊎◌, inl, inr, ℕ, zero, suc, ◌+◌, ◌<◌, ◌≤◌, List, [], ◌∷◌, ◌++◌, length, map, slice_get, Option, Some, None, refl, sym, ap, subst, ◌∙◌, arith}
 use Rattle.std.specs.Prelude.{◌^◌, ◌≢◌, IfSome, Vec}
 use Rattle.std.specs.List.{AllByRecursion}
 use Rattle.sqlite_trees.specs.Tree.{IsAscending}
@@ -13,7 +13,6 @@ use Rattle.lynx_sql.specs.declared.version.StoreVersion.TheVariants.{One, Two}
 use Rattle.lynx_sql.specs.Acts.{ArePlaced, ShowActed, acts_in, with_acted, shown_act}
 use Rattle.std.specs.declared.alloc.Global.{Global}
 use Rattle.sqlite.specs.Order.{Row}
-use Rattle.std.proofs.lemmas.List.{length-take-le, take_more}
 use Rattle.lynx_store.specs.Acts.{act_at, acted_of, acts_from, with_act, added, ShowsAt}
 
 before_added : (first last : Option Acted) (acts : List Acted) → with_act first (added acts last) ≡ added (with_act first acts) last
@@ -47,7 +46,7 @@ acted-append Two entries entry at is =
 -- ---- places
 
 -- from a place on, below so many, and of a chain whose index is a number of 64 bits
-abbrev Lies : ℕ → ℕ → Acted → Type 0
+abbrev pub Lies : ℕ → ℕ → Acted → Type 0
 Lies from places act = (from ≤ act.place) × ((act.place < places) × (act.index < 2 ^ 64))
 
 earlier : (from places : ℕ) (acts : List Acted) → AllByRecursion (Lies (from + 1) places) acts → AllByRecursion (Lies from places) acts
@@ -62,7 +61,7 @@ later from places (act ∷ acts) all =
     let low : from < act.place = omega (arith, all.0.0) in
     (low, later from places acts all.1)
 
-abbrev Lie : ℕ → ℕ → List Acted → Type 0
+abbrev pub Lie : ℕ → ℕ → List Acted → Type 0
 Lie from places acts = AllByRecursion (Lies from places) acts × IsAscending (λ act other. act.place < other.place) acts
 
 -- one more hop before hops of later places
@@ -89,14 +88,14 @@ before place places (Hop ran) acts low formed lie =
     let act : Acted = record { origin = ran.message.chain.origin; index = ran.message.chain.index; hop = ran.message.hop; place = place } in
     one_before place places act acts refl low formed.0.0.1 lie
 
-lie_from : (place places : ℕ) (entries : History) → place + length entries ≤ places → AllByRecursion HasForm entries
+pub lie_from : (place places : ℕ) (entries : History) → place + length entries ≤ places → AllByRecursion HasForm entries
     → Lie place places (acts_from place entries)
 lie_from place places [] room formed = (tt, tt)
 lie_from place places (entry ∷ entries) room formed =
     before place places entry (acts_from (place + 1) entries) (omega (arith, room)) formed.0
     (lie_from (place + 1) places entries (omega (arith, room)) formed.1)
 
-lows : (from places : ℕ) (acts : List Acted) → AllByRecursion (Lies from places) acts → AllByRecursion (λ act. act.place < places) acts
+pub lows : (from places : ℕ) (acts : List Acted) → AllByRecursion (Lies from places) acts → AllByRecursion (λ act. act.place < places) acts
 lows from places [] all = tt
 lows from places (act ∷ acts) all = (all.0.1.0, lows from places acts all.1)
 
@@ -125,14 +124,6 @@ pub at_place : (place : ℕ) (entry : Entry) (act : Option Acted) → act ≡ ac
 at_place place entry act is = subst (λ found. IfSome found (λ own. own.place ≡ place)) (sym is) (of_place place entry)
 
 -- ---- loops
-
--- the hops of one more of the entries
-pub acts_next : (entries : History) (i : ℕ) (entry : Entry) (place : ℕ) → place ≡ i → i < length entries → entry ≡ get_or entries i entry
-    → added (acts_from 0 (take i entries)) (act_at place entry) ≡ acts_from 0 (take (i + 1) entries)
-acts_next entries i entry place at low is =
-    let counted : length (take i entries) ≡ i = length-take-le i entries (omega (arith, low)) in
-    sym (ap (acts_from 0) (take_more entries i entry low ∙ ap (λ x. take i entries ++ x ∷ []) (sym is))
-    ∙ acts-append 0 (take i entries) entry place (omega (arith, at, counted)))
 
 below_or : (k n : ℕ) → k < n + 1 → (k < n) ⊎ (k ≡ n)
 below_or zero zero less = inr refl

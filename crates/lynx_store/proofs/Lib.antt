@@ -2,6 +2,7 @@ mod Apart
 pub mod CrashLemmas
 pub mod ActLemmas
 pub mod Kept
+pub mod Batches
 pub mod RowsRead
 pub mod Told
 pub mod Upgraded

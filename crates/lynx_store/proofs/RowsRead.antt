@@ -1,5 +1,6 @@
 -- Rows that were read, one after another.
-use Rattle.std.proofs.Common.{◌≡◌, ◌⊎◌, inl, inr, ℕ, zero, suc, ◌+◌, ◌<◌, ◌≤◌, pos, List, [], ◌∷◌, ◌++◌, length, map, take, get_or, refl, sym, ap, ◌∙◌, arith}
+use Rattle.std.proofs.Common.{◌≡◌, ◌⊎◌, inl, inr, ℕ, zero, suc, ◌+◌, ◌<◌, ◌≤◌, ◌^◌, pos, List, [], ◌∷◌, ◌++◌, length, map, take, get_or, slice_get, Some, refl, sym, ap, ◌∙◌, arith}
+use Rattle.std.proofs.lemmas.Bool.{cases_lt}
 use Rattle.std.proofs.lemmas.List.{take_more}
 use Rattle.std.proofs.lemmas.Nat.{from_be_bytes-to_be_bytes_8}
 use Rattle.std.specs.Int.{w64, from_be_bytes, to_be_bytes}
@@ -20,8 +21,10 @@ use Rattle.lynx_sql.specs.declared.version.StoreVersion.TheVariants.{One, Two}
 use Rattle.lynx_sql.specs.Reading.{ShowRows}
 use Rattle.lynx_sql.specs.Shown.{AreCells, FitsRow, row_of, entry_in}
 use Rattle.lynx_sql.specs.Contents.{Title}
+use Rattle.lynx_store.specs.Salvages.{HasEntryAt, IsLongestShown}
 use Rattle.lynx_store.specs.Stored.{bodies_of, contents_of, title_for, version_text, IsOfNoVersion, IsOfOtherSet, IsOfOtherVersion, Owner, ShowsTitle, Tells}
 use Rattle.lynx_store.proofs.Kept.{bodies-append, length-bodies}
+use Rattle.lynx_store.proofs.Told.{as_many}
 
 pub take_whole : {A : Type 0} (xs : List A) (i : ℕ) → length xs ≤ i → take i xs ≡ xs
 take_whole [] zero h = refl
@@ -45,6 +48,11 @@ shown_more entries entry row at is same =
     ap (λ r. shown_entries 0 (bodies_of entries) ++ r ∷ []) same
     ∙ shown-append 0 (bodies_of entries) (form_of entry) at (omega (arith, is, length-bodies entries))
     ∙ ap (shown_entries 0) (bodies-append entries entry)
+
+-- the rows that the entries so far show
+pub shown_so_far : (rows : List Row) (entries : History) (index : ℕ) → length entries ≡ index → take index rows ≡ shown_entries 0 (bodies_of entries)
+    → take (length entries) rows ≡ shown_entries 0 (bodies_of entries)
+shown_so_far rows entries index counted shown = ap (λ n. take n rows) counted ∙ shown
 
 rows-append : (cells : List (ℕ × ℕ × ℕ)) (cell : ℕ × ℕ × ℕ) → map row_of cells ++ row_of cell ∷ [] ≡ map row_of (cells ++ cell ∷ [])
 rows-append [] cell = refl
@@ -109,6 +117,35 @@ one_state rows owner ours theirs formed shown tells =
     same_entries ours.entries theirs.entries formed tells.formed (same_bodies 0 _ _ (sym shown.entries ∙ tells.shown.entries)) in
     same_kept ours.entries theirs.entries ours.cells theirs.cells entries (sym shown.cells ∙ tells.shown.cells)
 
+-- rows that show entries go on with one behind any fewer
+more_at : (place : ℕ) (entries : History) (count : ℕ) → AllByRecursion HasForm entries → count < length entries
+    → (entry : Entry) × HasForm entry × (slice_get (shown_entries place (bodies_of entries)) count ≡ Some (Int (pos (place + count)) ∷ Blob (form_of entry) ∷ []))
+more_at place [] count formed low = absurd (omega (arith, low))
+more_at place (e ∷ entries) zero formed low = (e, formed.0, ap (λ n. Some (Int (pos n) ∷ Blob (form_of e) ∷ [])) (let n : place ≡ place + 0 = omega arith in n))
+more_at place (e ∷ entries) (suc count) formed low =
+    let more = more_at (place + 1) entries count formed.1 (omega (arith, low)) in
+    (more.0, more.1, more.2 ∙ ap (λ n. Some (Int (pos n) ∷ Blob (form_of more.0) ∷ [])) (let n : (place + 1) + count ≡ place + suc count = omega arith in n))
+
+-- of rows that show these entries, all of them are the longest front
+pub all_shown : (rows : List Row) (entries found : History) → AllByRecursion HasForm entries → length entries < 2 ^ 32
+    → rows ≡ shown_entries 0 (bodies_of entries) → IsLongestShown rows found → entries ≡ found
+all_shown rows entries found formed few shown longest =
+    let many : length rows ≡ length entries = ap length shown ∙ as_many 0 entries in
+    elim (cases_lt (length found) (length entries)) [
+      | inl fewer ↦
+          let more = more_at 0 entries (length found) formed fewer in
+          let same : 0 + length found ≡ length found = omega arith in
+          let on : HasEntryAt rows (length found) = record {
+            entry = more.0;
+            formed = more.1;
+            there = ap (λ all. slice_get all (length found)) shown ∙ more.2 ∙ ap (λ n. Some (Int (pos n) ∷ Blob (form_of more.0) ∷ [])) same;
+          } in
+          absurd (omega (arith, longest.longest on, few, fewer))
+      | inr past ↦
+          same_shown rows entries found formed longest.formed shown
+          (sym (take_whole rows (length found) (omega (arith, many, past))) ∙ longest.shown)
+    ]
+
 one_version : (a b : StoreVersion) → version_text a ≡ version_text b → a ≡ b
 one_version One One same = refl
 one_version Two Two same = refl
@@ -122,6 +159,10 @@ one_title owner other same =
     let server : owner.server ≡ other.server = let e = same in cc in
     let set : owner.set ≡ other.set = let e = same in cc in
     λ i. record { version = version i; server = server i; set = set i }
+
+-- a heading is of one owner
+pub one_heading : (rows : List Row) (owner other : Owner) → ShowsTitle rows (title_for owner) → ShowsTitle rows (title_for other) → owner ≡ other
+one_heading rows owner other shown tells = one_title owner other (sym shown ∙ tells)
 
 -- rows tell one owner
 pub one_owner : (rows : StoredRows) (owner other : Owner) (ours theirs : KeptState) → ShowRows rows (contents_of owner ours)

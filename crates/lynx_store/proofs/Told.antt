@@ -1,5 +1,6 @@
 -- What rows and bodies are where they tell something.
-use Rattle.std.proofs.Common.{◌≡◌, ℕ, zero, suc, ◌+◌, ◌<◌, pos, List, [], ◌∷◌, ◌++◌, length, map, get_or, Option, Some, refl, sym, ap, subst, ◌∙◌, arith, append-nil}
+use Rattle.std.proofs.Common.{◌≡◌, ℕ, zero, suc, ◌+◌, ◌<◌, pos, List, [], ◌∷◌, ◌++◌, length, map, get_or, slice_get, Option, Some, refl, sym, ap, subst, ◌∙◌, arith, append-nil}
+use Rattle.std.proofs.lemmas.Option.{slice_get-get_or}
 use Rattle.std.specs.List.{AllByRecursion}
 use Rattle.sqlite_value.specs.declared.value.Value.TheVariants.{Int, Blob}
 use Rattle.sqlite.specs.Order.{Row}
@@ -8,6 +9,7 @@ use Rattle.lynx_entry.specs.Entry.{History}
 use Rattle.lynx_keep.specs.Stored.{form_of, HasForm}
 use Rattle.lynx_sql.specs.Rows.{shown_entries}
 use Rattle.lynx_sql.specs.Shown.{AreCells, FitsRow, row_of}
+use Rattle.lynx_store.specs.Salvages.{HasEntryAt}
 use Rattle.lynx_store.specs.Stored.{bodies_of}
 
 -- the form of an entry, with nothing behind it
@@ -41,6 +43,17 @@ row_at rows entries i row shown formed low is =
     let many : length rows ≡ length entries = ap length shown ∙ as_many 0 entries in
     let same : 0 + i ≡ i = omega arith in
     subst (IsEntryRow row) same (row_from 0 entries i row formed (omega (arith, many, low)) (is ∙ ap (λ all. get_or all i row) shown))
+
+-- a row that isn't that of an entry at the place
+pub no_entry_at : (rows : List Row) (index place count : ℕ) (row : Row) → place ≡ index → count ≡ index → index < length rows → row ≡ get_or rows index row
+    → ((entry : Entry) → HasForm entry → row ≡ Int (pos place) ∷ Blob (form_of entry) ∷ [] → ⊥) → HasEntryAt rows count → ⊥
+no_entry_at rows index place count row at counted low is none on =
+    let here : slice_get rows index ≡ Some row = slice_get-get_or rows index row low ∙ ap Some (sym is) in
+    let there : slice_get rows index ≡ Some (Int (pos count) ∷ Blob (form_of on.entry) ∷ []) = ap (slice_get rows) (sym counted) ∙ on.there in
+    let both : Some row ≡ Some (Int (pos count) ∷ Blob (form_of on.entry) ∷ []) = sym here ∙ there in
+    let same : row ≡ Int (pos count) ∷ Blob (form_of on.entry) ∷ [] = cc in
+    let places : count ≡ place = counted ∙ sym at in
+    none on.entry on.formed (same ∙ ap (λ n. Int (pos n) ∷ Blob (form_of on.entry) ∷ []) places)
 
 -- a row among those of cells is that of a cell
 pub record IsCellRow (row : Row) : Type 0 where

@@ -1,5 +1,5 @@
 //! The hops that entries are of.
-ghost use Rattle.std.specs.Prelude.{◌≡◌, ◌↔◌, ◌<◌, ◌≤◌, ◌^◌, length, IfNone, IfOk, IfSome, IsTrue, OnOk, map};
+ghost use Rattle.std.specs.Prelude.{◌≡◌, ◌↔◌, ◌+◌, ◌<◌, ◌≤◌, ◌^◌, length, IfNone, IfOk, IfSome, IsTrue, OnOk, map};
 ghost use Rattle.lynx_store.specs.Acts.{act_at, acted_of, acts_from, added, AreApart, ShowsAt, hop_cmp, hop_in};
 ghost use Rattle.lynx_sql.specs.Acts.{ShowActed, shown_act};
 ghost use Rattle.std.specs.BTreeSet.{IsFromIterResult};
@@ -46,22 +46,30 @@ fn push_act(acts: &mut Vec<Acted>, act: Option<Acted>) -> Result<(), Memory>
     }
 }
 
+/// The hops of entries at the places from this one on.
+pub(crate) fn acts_from(alloc: Global, place: u32, entries: &[Entry]) -> Result<Vec<Acted>, Memory>
+    requires { place + length entries.now < 2 ^ 32 }
+    ensures { IfOk result (λ acts. acts.items ≡ acts_from place entries.now) }
+{
+    let mut acts = Vec::new(alloc);
+    let mut next = place;
+    for entry in entries {
+        push_act(&mut acts, act_at(next, entry))?;
+        next += 1;
+    }
+    Ok(acts)
+}
+
 /// The hops of the entries, by place. None where there are 2^32 entries or more.
 pub(crate) fn acts_of(alloc: Global, entries: &[Entry]) -> Result<Option<Vec<Acted>>, Memory>
     ensures some { IfOk result
         (λ found. IfSome found (λ acts. acts.items ≡ acts_from 0 entries.now)) }
     ensures none { IfOk result (λ found. IfNone found (2 ^ 32 ≤ length entries.now)) }
 {
-    let mut acts = Vec::new(alloc);
-    let mut place = 0u32;
-    for entry in entries {
-        push_act(&mut acts, act_at(place, entry))?;
-        if place == u32::MAX {
-            return Ok(None);
-        }
-        place += 1;
+    if u32::try_from(entries.len()).is_err() {
+        return Ok(None);
     }
-    Ok(Some(acts))
+    Ok(Some(acts_from(alloc, 0, entries)?))
 }
 
 /// A hop: the chain's origin and index, and its number.

@@ -52,7 +52,7 @@ fn version_in(text: &[u8]) -> Option<StoreVersion>
 
 /// The heading that the rows of `meta` tell. Damaged where they are no three texts, OtherVersion
 /// where the first is that of no version.
-fn heading_in(alloc: Global, rows: &[Row]) -> Result<Heading, StoreFault>
+pub(crate) fn heading_in(alloc: Global, rows: &[Row]) -> Result<Heading, StoreFault>
     ensures ok { IfOk result
         (λ heading. ShowsTitle rows.now (title_for (owner_in heading))) }
     ensures damaged { IsErrOf result StoreFault.Damaged → (title : Title)
@@ -95,7 +95,7 @@ fn set_in(alloc: Global, text: &[u8]) -> Result<ChainSet, StoreFault>
 
 /// The set and the server of a heading, which is one of the set's, as its version is.
 #[tactic(auto, using(crate::proofs::Kept::same_owner))]
-fn owner_of(alloc: Global, heading: &Heading) -> Result<(ChainSet, ServerId), StoreFault>
+pub(crate) fn owner_of(alloc: Global, heading: &Heading) -> Result<(ChainSet, ServerId), StoreFault>
     ensures ok { IfOk result (λ owner. owner_in heading.now ≡ owner_for owner.1 owner.0) }
     ensures set { IfOk result (λ owner. IsServerOf owner.1 owner.0) }
     ensures damaged { IsErrOf result StoreFault.Damaged → (server : ℕ) (chains : Set)

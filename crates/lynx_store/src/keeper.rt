@@ -1,4 +1,4 @@
-ghost use Rattle.std.specs.Prelude.{◌≡◌, ◌<◌, ◌≤◌, ◌^◌, ℕ, IsErrOf, IfOk, None, length};
+ghost use Rattle.std.specs.Prelude.{◌≡◌, ◌+◌, ◌-◌, ◌<◌, ◌≤◌, ◌^◌, ℕ, IsErrOf, IfOk, None, Some, length, min};
 ghost use Rattle.sqlite_trees.specs.View.{doubt};
 ghost use Rattle.sqlite.specs.Tree.{Trees};
 ghost use Rattle.sqlite.specs.Held.{state};
@@ -26,16 +26,16 @@ use std::alloc::Global;
 /// given back what was written to it, so far.
 #[derive(Drop)]
 pub struct SqlKeeper<S: Rising> {
-    conn: Connection<S>,
+    pub(crate) conn: Connection<S>,
     heading: Heading,
     /// How many entries are kept: the place of the next one.
-    count: u32,
+    pub(crate) count: u32,
     faults: u64,
     cause: Option<Cause>,
 }
 
 /// Why the database failed.
-fn cause_of(error: &Error) -> Cause {
+pub(crate) fn cause_of(error: &Error) -> Cause {
     match error {
         Error::SqliteFailure(ErrorCode::DiskFull) => Cause::Full,
         Error::SqliteFailure(ErrorCode::SystemIoFailure) => Cause::Disk,
@@ -118,6 +118,20 @@ impl<S: Rising> SqlKeeper<S> {
         }
     }
 
+    /// Counts a failure of the store, and notes why it came.
+    pub(crate) fn fail(&mut self, cause: Cause) -> KeepFault
+        ensures noted { self.new ≡ record self.old {
+          faults = min (self.old.faults + 1) (2 ^ 64 - 1);
+          cause = Some cause;
+        } }
+        ensures counts { self.old.faults ≤ self.new.faults }
+        ensures failed { result ≡ KeepFault.Failed }
+    {
+        self.faults = self.faults.saturating_add(1);
+        self.cause = Some(cause);
+        KeepFault::Failed
+    }
+
     /// How many entries it keeps.
     pub fn entries(&self) -> u32
         ensures { result ≡ self.now.count }
@@ -152,9 +166,7 @@ impl<S: Rising> Keeper for SqlKeeper<S> {
     fn commit(&mut self, alloc: Global, entry: &Entry, changes: &Changes) -> Result<(), KeepFault> {
         let body = body_of(alloc, entry)?;
         if self.count == u32::MAX {
-            self.faults = self.faults.saturating_add(1);
-            self.cause = Some(Cause::NoPlace);
-            return Err(KeepFault::Failed);
+            return Err(self.fail(Cause::NoPlace));
         }
         let acted = act_at(self.count, entry);
         match write_entry(&mut self.conn, self.count, body.as_slice(), changes, acted) {
@@ -162,11 +174,7 @@ impl<S: Rising> Keeper for SqlKeeper<S> {
                 self.count += 1;
                 Ok(())
             }
-            Err(error) => {
-                self.faults = self.faults.saturating_add(1);
-                self.cause = Some(cause_of(&error));
-                Err(KeepFault::Failed)
-            }
+            Err(error) => Err(self.fail(cause_of(&error))),
         }
     }
 
@@ -174,19 +182,13 @@ impl<S: Rising> Keeper for SqlKeeper<S> {
         match read(alloc, &mut self.conn, &self.heading) {
             Ok(loaded) => {
                 let Ok(count) = u32::try_from(loaded.entries.len()) else {
-                    self.faults = self.faults.saturating_add(1);
-                    self.cause = Some(Cause::NoPlace);
-                    return Err(KeepFault::Failed);
+                    return Err(self.fail(Cause::NoPlace));
                 };
                 self.count = count;
                 Ok(loaded)
             }
             Err(KeepFault::Memory) => Err(KeepFault::Memory),
-            Err(KeepFault::Failed) => {
-                self.faults = self.faults.saturating_add(1);
-                self.cause = Some(Cause::Unread);
-                Err(KeepFault::Failed)
-            }
+            Err(KeepFault::Failed) => Err(self.fail(Cause::Unread)),
         }
     }
 

@@ -20,7 +20,7 @@ use sqlite::types::ValueRef;
 use std::alloc::Global;
 
 /// The entry of a row, None where the row isn't that of an entry at the place.
-fn entry_at(alloc: Global, row: &Row, place: u32) -> Result<Option<Entry>, Memory>
+pub fn entry_at(alloc: Global, row: &Row, place: u32) -> Result<Option<Entry>, Memory>
     ensures some { IfOk result (λ found. IfSome found (λ entry.
         (row.now ≡ Int (pos place) ∷ Blob (form_of entry) ∷ []) × HasForm entry)) }
     ensures none { IfOk result (λ found. IfNone found ((entry : Entry) → HasForm entry

@@ -12,7 +12,7 @@ ghost use Rattle.lynx_keep.specs.Kept.{KeptState};
 use lynx_cells::Changes;
 use lynx_entry::Entry;
 use lynx_keep::{Cause, KeepFault, Keeper, Loaded};
-use lynx_store::{SqlKeeper, StoreFault};
+use lynx_store::{BatchKeeper, SqlKeeper, StoreFault};
 use sqlite::{FileStore, Files};
 use sqlite_disk::Disk;
 use std::alloc::Global;
@@ -102,4 +102,15 @@ impl<D: Disk> Keeper for FileKeeper<D> {
 
     ghost weaker = { λ keeper kept other left. leaves_either (recovers keeper.keeper.conn.store)
         (owner_in keeper.keeper.heading) kept other left };
+}
+
+impl<D: Disk> BatchKeeper for FileKeeper<D> {
+    fn commit_all(
+        &mut self,
+        alloc: Global,
+        entries: &[Entry],
+        changes: &Changes,
+    ) -> Result<(), KeepFault> {
+        self.keeper.commit_all(alloc, entries, changes)
+    }
 }

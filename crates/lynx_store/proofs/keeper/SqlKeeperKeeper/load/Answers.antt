@@ -12,9 +12,10 @@ returns-in-Err-Memory-clause-memory g c clean is kept keeps =
 
 pub returns-in_default-clause-stop : goal.returns-in_default-clause-stop
 returns-in_default-clause-stop g c clean kept keeps =
-    leaves_kept (g.S.Store.recovers c.read.new.conn.store) (g.S.Store.view c.args.self.now.conn.store).committed (owner_in c.args.self.now.heading) kept kept
-    (λ db may. g.met.S.Store.settled c.args.self.now.conn.store db keeps.tables.is_open (c.read.ensures.stop clean db may))
-    keeps.tables.tables
+    let noted = c.fail.ensures.noted in
+    rw noted (leaves_kept (g.S.Store.recovers c.read.new.conn.store) (g.S.Store.view c.args.self.now.conn.store).committed (owner_in c.args.self.now.heading) kept kept
+    (λ db may. g.met.S.Store.settled c.args.self.now.conn.store db keeps.tables.is_open (c.read.ensures.stop (rw noted at clean) db may))
+    keeps.tables.tables)
 
 pub returns-in-Ok-try_from-clause-stop : goal.returns-in-Ok-try_from-clause-stop
 returns-in-Ok-try_from-clause-stop g c clean kept keeps =
@@ -30,6 +31,7 @@ returns-in-Err-Memory-clause-stop g c clean kept keeps =
 
 pub returns-in-Err-Failed-clause-stop : goal.returns-in-Err-Failed-clause-stop
 returns-in-Err-Failed-clause-stop g c clean kept keeps =
-    leaves_kept (g.S.Store.recovers c.read.new.conn.store) (g.S.Store.view c.args.self.now.conn.store).committed (owner_in c.args.self.now.heading) kept kept
-    (λ db may. g.met.S.Store.settled c.args.self.now.conn.store db keeps.tables.is_open (c.read.ensures.stop clean db may))
-    keeps.tables.tables
+    let noted = c.fail-in-Err-Failed.ensures.noted in
+    rw noted (leaves_kept (g.S.Store.recovers c.read.new.conn.store) (g.S.Store.view c.args.self.now.conn.store).committed (owner_in c.args.self.now.heading) kept kept
+    (λ db may. g.met.S.Store.settled c.args.self.now.conn.store db keeps.tables.is_open (c.read.ensures.stop (rw noted at clean) db may))
+    keeps.tables.tables)

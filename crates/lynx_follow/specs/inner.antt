@@ -1,0 +1,2 @@
+-- What no public clause names.
+pub mod Reading

@@ -1,0 +1,155 @@
+//! A store that follows a server.
+ghost use Rattle.std.specs.Prelude.{◌≡◌, ◌++◌, ◌↔◌, All, IfOk, IsErrOf, IsTrue, OnOk};
+ghost use Rattle.lynx_codec.specs.Entries.{IsEntryInRange};
+ghost use Rattle.lynx_entry.specs.Entry.{History};
+ghost use Rattle.lynx_keep.specs.Kept.{HasRisen};
+ghost use Rattle.lynx_rules.specs.Tables.{tables_of};
+ghost use Rattle.lynx_server.specs.Keeping.{kept_of};
+ghost use Rattle.lynx_follow.specs.Following.{Follows, Opens};
+ghost use Rattle.lynx_follow.specs.inner.Reading.{ReadsBack};
+
+use crate::redoing::redo_all;
+use lynx_cells::{Cells, Changes};
+use lynx_entry::Entry;
+use lynx_keep::{Cause, KeepFault, Keeper};
+use lynx_names::Memory;
+use lynx_server::OpenFault;
+use lynx_set::ChainSet;
+use lynx_store::BatchKeeper;
+use std::alloc::Global;
+
+/// A store that follows a server, and the cells that its entries leave. It doesn't hold the
+/// entries.
+#[derive(Drop)]
+pub struct Follower<K> {
+    pub(crate) keeper: K,
+    pub(crate) cells: Cells,
+    /// How many entries it keeps.
+    pub(crate) count: u64,
+}
+
+/// A store that can follow on, and the entries that it keeps.
+#[derive(Drop)]
+pub struct Opened<K> {
+    pub follower: Follower<K>,
+    pub entries: Vec<Entry>,
+}
+
+/// Whether two servers' cells hold the same.
+fn same_cells(alloc: Global, left: &Cells, right: &Cells) -> Result<bool, Memory>
+    ensures { IfOk result (λ same. IsTrue same ↔ (left.now.database ≡ right.now.database)) }
+{
+    let left = left.list(alloc)?;
+    let right = right.list(alloc)?;
+    Ok(left == right)
+}
+
+/// The cells that entries leave.
+fn cells_of(alloc: Global, set: &ChainSet, entries: &[Entry]) -> Result<Cells, Memory>
+    ensures { IfOk result (λ cells. cells.database ≡ tables_of set.now entries.now) }
+{
+    let mut cells = Cells::new(alloc);
+    let mut changes = Changes::new(alloc);
+    redo_all(alloc, set, entries, &mut cells, &mut changes)?;
+    Ok(cells)
+}
+
+/// What a keeper keeps: entries, and the cells that they leave.
+#[derive(Drop)]
+pub(crate) struct ReadBack {
+    entries: Vec<Entry>,
+    cells: Cells,
+}
+
+/// Reads what the keeper keeps, and looks whether its cells are those of its entries.
+fn read_back<K: Keeper>(
+    alloc: Global,
+    set: &ChainSet,
+    keeper: &mut K,
+) -> Result<ReadBack, OpenFault>
+    ensures { ReadsBack K.terms set.now keeper.old keeper.new result }
+{
+    let loaded = keeper.load(alloc)?;
+    let entries = loaded.entries.as_slice();
+    let cells = cells_of(alloc, set, entries)?;
+    if !same_cells(alloc, &cells, &loaded.cells)? {
+        return Err(OpenFault::Damaged {
+            place: entries.len() as u64,
+        });
+    }
+    Ok(ReadBack {
+        entries: loaded.entries,
+        cells,
+    })
+}
+
+impl<K: BatchKeeper> Follower<K> {
+    /// A store that goes on with what its keeper keeps, and what that is. Damaged, at the count of
+    /// its entries, where its cells aren't those that they leave. The entries are read and gone
+    /// over once, and each takes the work of its hop; whether they are lawful isn't looked at.
+    pub fn open(alloc: Global, set: &ChainSet, mut keeper: K) -> Result<Opened<K>, OpenFault>
+    where
+        K: Drop,
+        ensures { Opens K.terms set.now keeper result }
+    {
+        let read = read_back(alloc, set, &mut keeper)?;
+        let follower = Follower {
+            keeper,
+            cells: read.cells,
+            count: read.entries.len() as u64,
+        };
+        Ok(Opened {
+            follower,
+            entries: read.entries,
+        })
+    }
+
+    /// Keeps what the server did next, all of these entries or none, in one transaction. A stop at
+    /// any moment leaves what was kept, or that with all of them. After an error it is let go, and
+    /// is to be opened again: what it has of the cells may be more than what is kept.
+    pub fn follow(
+        &mut self,
+        alloc: Global,
+        set: &ChainSet,
+        entries: &[Entry],
+    ) -> Result<(), KeepFault>
+        requires range { All IsEntryInRange entries.now }
+        ensures ok { OnOk result ((front : History) → Follows K.terms set.now front self.old
+            → Follows K.terms set.now (front ++ entries.now) self.new) }
+        ensures sound { K.terms.sound self.new.keeper → K.terms.sound self.old.keeper }
+        ensures stop { K.terms.sound self.new.keeper → (front : History)
+            → Follows K.terms set.now front self.old
+            → K.terms.leaves self.new.keeper (kept_of set.now front)
+            (kept_of set.now (front ++ entries.now)) }
+        ensures failed { IsErrOf result KeepFault.Failed
+            → HasRisen (K.terms.counted self.old.keeper) (K.terms.counted self.new.keeper) }
+    {
+        let Some(count) = self.count.checked_add(entries.len() as u64) else {
+            return Err(KeepFault::Memory);
+        };
+        let mut changes = Changes::new(alloc);
+        redo_all(alloc, set, entries, &mut self.cells, &mut changes)?;
+        self.keeper.commit_all(alloc, entries, &changes)?;
+        self.count = count;
+        Ok(())
+    }
+
+    /// How many entries it keeps.
+    pub fn count(&self) -> u64
+        ensures { result ≡ self.now.count }
+    {
+        self.count
+    }
+
+    /// Why its store failed last, if it has.
+    pub fn cause(&self) -> Option<Cause> {
+        self.keeper.cause()
+    }
+
+    /// Gives back the keeper.
+    pub fn into_keeper(self) -> K
+        ensures { result ≡ self.keeper }
+    {
+        self.keeper
+    }
+}

@@ -17,6 +17,7 @@ use lynx_set::ChainSet;
 use lynx_weave::{ServerCounts, weave_since};
 use lynx_world::World;
 use std::alloc::Global;
+use std::mem;
 use std::sync::Wait;
 use std::thread::Threads;
 
@@ -42,6 +43,15 @@ fn first_uncounted(set: &ChainSet, counts: &[ServerCounts]) -> Option<ServerId>
 }
 
 impl<K: Keeper + Drop, G: Gate + Drop> Cluster<K, G> {
+    /// Stops the workers and waits for each to end: messages aren't delivered any more. Who begins
+    /// at the front still does.
+    pub fn halt<R: Threads + Wait>(&mut self, rt: &R, alloc: Global)
+        ensures { self.new ≡ self.old }
+    {
+        let workers = mem::replace(&mut self.workers, Vec::new(alloc));
+        stop_all(rt, &self.stop, &self.front.bells, workers);
+    }
+
     /// Stops the workers and waits for each to end, then checks all that the sessions were told:
     /// [`Front::close`]. Chains that haven't ended stay as they are.
     pub fn close<R: Threads + Wait>(
@@ -59,7 +69,7 @@ impl<K: Keeper + Drop, G: Gate + Drop> Cluster<K, G> {
             stop,
             workers,
         } = self;
-        stop_all(rt, &stop, workers);
+        stop_all(rt, &stop, &front.bells, workers);
         front.close(alloc, sessions)
     }
 }
@@ -77,6 +87,7 @@ impl<K: Keeper + Drop, G: Gate + Drop> Front<K, G> {
             starts,
             posts,
             gate: _,
+            bells: _,
             sessions: made,
         } = self;
         if let Some(session) = first_absent(alloc, made.into_inner(), sessions.as_slice())? {

@@ -5,6 +5,7 @@ ghost use Rattle.lynx_cluster.specs.Calls.{AnswersBegin};
 ghost use Rattle.lynx_cluster.specs.Clusters.{IsOf, home_of};
 ghost use Rattle.lynx_cluster.specs.Looks.{Looks};
 
+use crate::bells::Bells;
 use crate::gate::{Gate, Passage, tell_answer};
 use crate::post::Post;
 use crate::session::Session;
@@ -31,6 +32,7 @@ pub struct Front<K: Keeper, G: Gate> {
     pub(crate) starts: Vec<u64>,
     pub(crate) posts: Vec<Arc<Post<K>>>,
     pub(crate) gate: Arc<G>,
+    pub(crate) bells: Arc<Bells>,
     pub(crate) sessions: Mutex<u64>,
 }
 
@@ -192,7 +194,15 @@ impl<K: Keeper, G: Gate> Front<K, G> {
         tell_answer(&*self.gate, &state, program, &answer);
         drop(state);
         self.gate.leave(server, Passage::Begin);
+        if self.owes_more(program, &answer) {
+            self.bells.ring(server);
+        }
         answer
+    }
+
+    /// A chain of that program began so that its next hop is owed: its server's worker has work.
+    fn owes_more(&self, program: ProgramId, answer: &Answer) -> bool {
+        matches!(answer, Answer::Begun { .. }) && self.set.hop(program, 1).is_some()
     }
 
     /// The program of the chain, by its entry at its origin, whose lock is taken and given back.

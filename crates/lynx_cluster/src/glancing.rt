@@ -1,6 +1,7 @@
 //! What is seen of a running cluster by whoever has no session: nothing is noted of it, and no
 //! audit asks for it.
-ghost use Rattle.std.specs.Prelude.{◌≡◌, IfOk};
+ghost use Rattle.std.specs.Prelude.{◌≡◌, All, IfOk, drop, take};
+ghost use Rattle.lynx_codec.specs.Entries.{IsEntryInRange};
 ghost use Rattle.lynx_server.specs.Acts.{act_of};
 ghost use Rattle.lynx_cluster.specs.Glances.{glance_of, last_of};
 ghost use Rattle.lynx_cluster.specs.Looks.{looked_at};
@@ -45,16 +46,41 @@ fn glance_of<K: Keeper>(state: &Server<K>) -> Glance
     }
 }
 
+/// Copies of the entries.
+fn copies_of(alloc: Global, entries: &[Entry]) -> Result<Vec<Entry>, Memory>
+    ensures { IfOk result (λ copies. copies.items ≡ entries.now) }
+{
+    let mut copies = Vec::with_capacity(alloc, entries.len())?;
+    for entry in entries {
+        copies.push(entry.copy(alloc)?)?;
+    }
+    Ok(copies)
+}
+
 /// Copies of the last entries of a history, so many at most.
 fn last_of(alloc: Global, history: &[Entry], most: usize) -> Result<Vec<Entry>, Memory>
     ensures { IfOk result (λ entries. entries.items ≡ last_of most history.now) }
 {
-    let last = &history[history.len().saturating_sub(most)..];
-    let mut entries = Vec::with_capacity(alloc, last.len())?;
-    for entry in last {
-        entries.push(entry.copy(alloc)?)?;
-    }
-    Ok(entries)
+    copies_of(alloc, &history[history.len().saturating_sub(most)..])
+}
+
+/// Copies of the entries of a server from a place on, so many at most.
+fn entries_from<K: Keeper>(
+    alloc: Global,
+    state: &Server<K>,
+    from: usize,
+    most: usize,
+) -> Result<Vec<Entry>, Memory>
+    ensures entries { IfOk result (λ entries. entries.items
+        ≡ take most (drop from state.now.history)) }
+    ensures range { IfOk result (λ entries. All IsEntryInRange entries.items) }
+{
+    // A lawful entry is in range where the server's number is.
+    let _ = state.server().number();
+    let history = state.history();
+    let start = from.min(history.len());
+    let end = start.saturating_add(most).min(history.len());
+    copies_of(alloc, &history[start..end])
 }
 
 /// What there is of that hop of the chain.
@@ -110,6 +136,28 @@ impl<K: Keeper, G: Gate> Front<K, G> {
             return Ok(Vec::new(alloc));
         }
         last_of(alloc, state.history(), most)
+    }
+
+    /// Copies of the entries of that server from a place on, so many at most, made under its lock;
+    /// none where there is no such server.
+    pub fn entries_from<R: Wait>(
+        &self,
+        rt: &R,
+        alloc: Global,
+        server: ServerId,
+        from: usize,
+        most: usize,
+    ) -> Result<Vec<Entry>, Memory>
+        ensures { IfOk result (λ entries. All IsEntryInRange entries.items) }
+    {
+        let Some(post) = self.posts.as_slice().get(server.index()) else {
+            return Ok(Vec::new(alloc));
+        };
+        let state = post.lock(rt);
+        if !is_of(&state, &self.set, server) {
+            return Ok(Vec::new(alloc));
+        }
+        entries_from(alloc, &state, from, most)
     }
 
     /// What there is of that hop of the chain at that server, under its lock: absent also where

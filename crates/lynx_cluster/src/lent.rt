@@ -5,6 +5,7 @@ ghost use Rattle.lynx_server.specs.Owed.{Acknowledges};
 ghost use Rattle.lynx_set.specs.Lookups.{server_at};
 ghost use Rattle.lynx_cluster.specs.inner.Serving.{AddsFound, AreOwed, AreOwedBetween, AreRising, HearsOf, IsDueOf, IsNotedIn, IsSender, NotesDone, OwesOnlyAt, Serves, TellsDone, was_done};
 
+use crate::bells::Bells;
 use crate::cluster::is_of;
 use crate::gate::{Gate, Passage, tell_delivery};
 use crate::post::Post;
@@ -38,6 +39,7 @@ pub struct Lent<K: Keeper, G: Gate> {
     server: ServerId,
     post: Arc<Post<K>>,
     gate: Arc<G>,
+    bells: Arc<Bells>,
 }
 
 /// The hop of the message was done.
@@ -245,12 +247,14 @@ impl<K: Keeper, G: Gate> Lent<K, G> {
         server: ServerId,
         post: Arc<Post<K>>,
         gate: Arc<G>,
+        bells: Arc<Bells>,
     ) -> Lent<K, G> {
         Lent {
             set,
             server,
             post,
             gate,
+            bells,
         }
     }
 
@@ -431,5 +435,13 @@ impl<K: Keeper, G: Gate> Steps for Lent<K, G> {
             self.gate.leave(self.server, Passage::Deliver);
         }
         served
+    }
+
+    fn rest<R: Wait + Clock>(&self, rt: &R, most: Duration) {
+        self.bells.wait(rt, self.server, most);
+    }
+
+    fn ring(&self, to: ServerId) {
+        self.bells.ring(to);
     }
 }

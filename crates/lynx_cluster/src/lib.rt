@@ -17,6 +17,7 @@ pub use worker::Worker;
 
 mod absent;
 mod beginning;
+mod bells;
 pub mod closing;
 pub mod cluster;
 pub mod fault;

@@ -1,16 +1,21 @@
 //! How a worker rests that has nothing to do.
+use crate::steps::Steps;
+use std::sync::Wait;
 use std::thread;
 use std::time::{Clock, Duration};
 
-/// Turns without work after which a worker no longer just gives its processor away, but sleeps a
-/// millisecond, ..
+/// Turns without work after which a worker no longer just gives its processor away, but rests for a
+/// millisecond where it awaits an acknowledgement, ..
 const YIELDS: u32 = 32;
 
-/// .. after which it sleeps four, ..
-const SHORT_SLEEPS: u32 = 128;
+/// .. after which it rests for four, ..
+const SHORT_RESTS: u32 = 128;
 
-/// .. and after which it sleeps sixteen.
-const MIDDLE_SLEEPS: u32 = 256;
+/// .. and after which it rests for sixteen.
+const MIDDLE_RESTS: u32 = 256;
+
+/// Milliseconds for which a worker rests, at most, that awaits nothing.
+const LONG_MILLIS: u64 = 250;
 
 /// Microseconds for which a worker rests after a turn in which it did something: what comes
 /// meanwhile is then served, and told of, together.
@@ -21,17 +26,27 @@ pub(crate) fn pause<R: Clock>(rt: &R) {
     thread::sleep(rt, Duration::from_micros(PAUSE_MICROS));
 }
 
-/// Rests after so many turns without work, the longer the more. So what comes to a server that was
-/// busy just now is served at once, and to one that has done nothing for a second within 16
-/// milliseconds, and a cluster that has nothing to do takes next to no time.
-pub(crate) fn rest<R: Clock>(rt: &R, idle: u32) {
+/// The milliseconds for which a worker rests after so many turns without work. What it sent and
+/// heard nothing of it may have to send again.
+fn millis_of(idle: u32, awaits: bool) -> u64 {
+    if !awaits {
+        LONG_MILLIS
+    } else if idle < SHORT_RESTS {
+        1
+    } else if idle < MIDDLE_RESTS {
+        4
+    } else {
+        16
+    }
+}
+
+/// Rests after so many turns without work, until it is rung for: a chain began that goes on
+/// elsewhere, or a parcel came. So a cluster that has nothing to do takes next to no time, and what
+/// comes is served at once.
+pub(crate) fn rest<R: Wait + Clock, S: Steps>(rt: &R, steps: &S, idle: u32, awaits: bool) {
     if idle < YIELDS {
         thread::yield_now();
-    } else if idle < SHORT_SLEEPS {
-        thread::sleep(rt, Duration::from_millis(1));
-    } else if idle < MIDDLE_SLEEPS {
-        thread::sleep(rt, Duration::from_millis(4));
     } else {
-        thread::sleep(rt, Duration::from_millis(16));
+        steps.rest(rt, Duration::from_millis(millis_of(idle, awaits)));
     }
 }

@@ -113,6 +113,16 @@ impl Route {
         }
     }
 
+    /// The server to which it leads.
+    pub(crate) fn to(&self) -> ServerId {
+        self.to
+    }
+
+    /// Whether a message lags, or nothing was heard of one that was sent.
+    pub(crate) fn awaits(&self) -> bool {
+        self.lags_at.is_some() || self.unheard.first().is_some()
+    }
+
     /// Sends a message, if the route doesn't lag. Where its ring is full, or there is no memory to
     /// note it, the route lags from there on. Whether it was sent.
     pub(crate) fn send(&mut self, ends: &mut Ends, due: Due) -> bool

@@ -4,6 +4,7 @@ ghost use Rattle.lynx_weave.specs.Servers.{AreServersOf};
 ghost use Rattle.lynx_cluster.specs.Starting.{IsStarted, IsUnstarted, Starts, start_of};
 ghost use Rattle.lynx_cluster.specs.inner.Opening.{IsLate};
 
+use crate::bells::Bells;
 use crate::cluster::{Cluster, Front};
 use crate::fault::StartFault;
 use crate::gate::Gate;
@@ -71,13 +72,15 @@ impl<K: Keeper + Drop> Opened<K> {
         let Posted { posts, starts } = post_all(alloc, servers)?;
         let gate = Arc::new(alloc, gate)?;
         let stop = Arc::new(alloc, AtomicBool::new(false))?;
-        let lents = lend_all(alloc, &set, posts.as_slice(), &gate)?;
-        let workers = start_all(rt, alloc, set.servers(), lents, &stop)?;
+        let bells = Arc::new(alloc, Bells::new(alloc, set.servers())?)?;
+        let lents = lend_all(alloc, &set, posts.as_slice(), &gate, &bells)?;
+        let workers = start_all(rt, alloc, set.servers(), lents, &bells, &stop)?;
         let front = Front {
             set,
             starts,
             posts,
             gate,
+            bells,
             sessions: Mutex::new(0),
         };
         Ok(Cluster {

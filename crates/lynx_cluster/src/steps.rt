@@ -5,7 +5,8 @@ use lynx_names::{ChainId, Memory, ServerId};
 use std::alloc::Global;
 use std::collections::VecDeque;
 use std::sync::Wait;
-use std::time::Clock;
+use std::thread;
+use std::time::{Clock, Duration};
 
 /// A message that a server owes: the place in its history of the entry that sends it, and the
 /// server that it is for.
@@ -90,4 +91,12 @@ pub trait Steps {
         alloc: Global,
         inbox: &mut VecDeque<Arrived>,
     ) -> Served;
+
+    /// Rests for so long at most, less where the worker is rung for.
+    fn rest<R: Wait + Clock>(&self, rt: &R, most: Duration) {
+        thread::sleep(rt, most);
+    }
+
+    /// Rings for the worker of that server, to which something was sent.
+    fn ring(&self, _to: ServerId) {}
 }

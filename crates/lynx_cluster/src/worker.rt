@@ -83,8 +83,12 @@ impl<S: Steps> Worker<S> {
         let mut is_busy = false;
         for due in owed.dues {
             self.reached = due.place.saturating_add(1);
-            if let Some(route) = self.routes.get_mut(due.to.index()) {
-                is_busy |= route.send(&mut self.ends, due);
+            let to = due.to;
+            if let Some(route) = self.routes.get_mut(to.index())
+                && route.send(&mut self.ends, due)
+            {
+                self.steps.ring(to);
+                is_busy = true;
             }
         }
         if let Some(len) = owed.end {
@@ -99,7 +103,10 @@ impl<S: Steps> Worker<S> {
         for route in self.routes.iter_mut() {
             if let Some(from) = route.lags_at(&mut self.ends) {
                 let owed = self.steps.owed(rt, alloc, from, TURN_MESSAGES);
-                is_busy |= route.catch_up(&mut self.ends, owed, self.reached);
+                if route.catch_up(&mut self.ends, owed, self.reached) {
+                    self.steps.ring(route.to());
+                    is_busy = true;
+                }
             }
         }
         is_busy
@@ -109,7 +116,10 @@ impl<S: Steps> Worker<S> {
     fn send_again<R: Wait + Clock>(&mut self, rt: &R, alloc: Global) -> bool {
         let mut is_busy = false;
         for route in self.routes.iter_mut() {
-            is_busy |= route.send_again(rt, alloc, &self.steps, &mut self.ends);
+            if route.send_again(rt, alloc, &self.steps, &mut self.ends) {
+                self.steps.ring(route.to());
+                is_busy = true;
+            }
         }
         is_busy
     }
@@ -170,6 +180,9 @@ impl<S: Steps> Worker<S> {
     fn serve<R: Wait + Clock>(&mut self, rt: &R, alloc: Global) -> bool {
         let served = self.steps.serve(rt, alloc, &mut self.inbox);
         tell(&mut self.ends, served.receipts.as_slice());
+        for receipt in served.receipts.as_slice() {
+            self.steps.ring(receipt.to);
+        }
         self.hear(served.heard);
         served.is_busy
     }
@@ -194,6 +207,11 @@ impl<S: Steps> Worker<S> {
         has_sent || has_caught_up || has_served || has_sent_again
     }
 
+    /// Whether something that was sent may have to be sent again, or lags.
+    fn awaits(&self) -> bool {
+        self.routes.iter().any(Route::awaits)
+    }
+
     /// Turn after turn, with rests between them, until it is to stop.
     pub fn run<R: Wait + Clock>(mut self, rt: &R, alloc: Global, stop: &AtomicBool)
     where
@@ -208,7 +226,7 @@ impl<S: Steps> Worker<S> {
                 idle = 0;
                 pause(rt);
             } else {
-                rest(rt, idle);
+                rest(rt, &self.steps, idle, self.awaits());
                 idle = idle.saturating_add(1);
             }
         }

@@ -2,6 +2,7 @@
 ghost use Rattle.std.specs.Prelude.{IfErr};
 ghost use Rattle.lynx_cluster.specs.inner.Opening.{IsLate};
 
+use crate::bells::Bells;
 use crate::fault::StartFault;
 use crate::gate::Gate;
 use crate::lent::Lent;
@@ -19,8 +20,14 @@ use std::thread::{JoinHandle, Threads};
 use std::time::Clock;
 
 /// Stops the workers, and waits for each to end.
-pub(crate) fn stop_all<R: Threads>(rt: &R, stop: &AtomicBool, workers: Vec<JoinHandle<()>>) {
+pub(crate) fn stop_all<R: Threads>(
+    rt: &R,
+    stop: &AtomicBool,
+    bells: &Bells,
+    workers: Vec<JoinHandle<()>>,
+) {
     stop.store(true, Ordering::SeqCst);
+    bells.ring_all();
     for worker in workers {
         worker.join(rt);
     }
@@ -80,6 +87,7 @@ pub(crate) fn start_all<
     alloc: Global,
     servers: u8,
     lents: Vec<Lent<K, G>>,
+    bells: &Bells,
     stop: &Arc<AtomicBool>,
 ) -> Result<Vec<JoinHandle<()>>, StartFault>
     ensures { IfErr result IsLate }
@@ -88,7 +96,7 @@ pub(crate) fn start_all<
     let mut workers = Vec::new(alloc);
     for (lent, ends) in lents.into_iter().zip(ends) {
         if let Err(fault) = start_next(rt, alloc, lent, ends, stop, &mut workers) {
-            stop_all(&rt, stop, workers);
+            stop_all(&rt, stop, bells, workers);
             return Err(fault);
         }
     }
@@ -102,13 +110,15 @@ fn lend<K: Keeper + Drop, G: Gate + Drop>(
     server: ServerId,
     post: &Arc<Post<K>>,
     gate: &Arc<G>,
+    bells: &Arc<Bells>,
 ) -> Result<Lent<K, G>, StartFault>
     ensures { IfErr result IsLate }
 {
     let set = set.copy(alloc)?;
     let post = Arc::try_clone(post)?;
     let gate = Arc::try_clone(gate)?;
-    Ok(Lent::new(set, server, post, gate))
+    let bells = Arc::try_clone(bells)?;
+    Ok(Lent::new(set, server, post, gate, bells))
 }
 
 /// What each worker is lent.
@@ -117,13 +127,15 @@ pub(crate) fn lend_all<K: Keeper + Drop, G: Gate + Drop>(
     set: &ChainSet,
     posts: &[Arc<Post<K>>],
     gate: &Arc<G>,
+    bells: &Arc<Bells>,
 ) -> Result<Vec<Lent<K, G>>, StartFault>
     ensures { IfErr result IsLate }
 {
     let mut lents = Vec::new(alloc);
     for number in 0..set.servers() {
         if let Some(post) = posts.get(usize::from(number)) {
-            lents.push(lend(alloc, set, ServerId::at(number), post, gate)?)?;
+            let server = ServerId::at(number);
+            lents.push(lend(alloc, set, server, post, gate, bells)?)?;
         }
     }
     Ok(lents)

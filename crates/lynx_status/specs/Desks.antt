@@ -1,16 +1,18 @@
 -- What a request of HTTP is answered.
-use Rattle.std.specs.Prelude.{ℕ, Bool, ◌⊎◌, List, [], codes, Result}
+use Rattle.std.specs.Prelude.{◌≡◌, ℕ, Bool, ◌⊎◌, List, [], codes, None, Result, Some}
 use Rattle.http.specs.declared.request.Request.{Request}
 use Rattle.http_server.specs.declared.response.Response.{Response}
 use Rattle.http_server.specs.Response.{IsResponse}
 use Rattle.lynx_status.specs.declared.asking.Asked.{Asked}
 use Rattle.lynx_status.specs.declared.asking.Refusal.{Refusal}
+use Rattle.lynx_status.specs.declared.copies.CopyCommand.{CopyCommand}
 use Rattle.lynx_status.specs.declared.reply.Content.TheVariants.{Text}
 use Rattle.lynx_status.specs.declared.reply.Reply.{Reply}
 use Rattle.lynx_status.specs.Asking.{IsAsked}
-use Rattle.lynx_status.specs.Questions.{host_of, method_of, target_of}
+use Rattle.lynx_status.specs.Commands.{ObeysCommand, command_in, command_refused}
+use Rattle.lynx_status.specs.Questions.{has_origin, host_of, method_of, target_of}
 use Rattle.lynx_status.specs.Replies.{Replies, fields_for}
-use Rattle.lynx_status.specs.Watching.{Finds, Tells}
+use Rattle.lynx_status.specs.Watching.{Finds, Obeys, Tells}
 
 -- memory is wanting: it says so, or says nothing but the status
 abbrev pub IsUnable : Bool → Response → Type 0
@@ -24,16 +26,36 @@ IsSent is_ending reply response =
     IsResponse reply.status (fields_for reply.content reply.status is_ending) reply.body.items
     response
 
-module _ {W : Type 0} (tells : Tells W) (finds : Finds W) (set_of : W → List ℕ) where
-  -- what it asks for is answered
-  abbrev pub Answered : List ℕ → W → Result Asked Refusal → Bool → Response → W → Type 0
-  Answered version old question is_ending response new =
-      (reply : Reply) × Replies tells finds set_of version old question reply new
-      × IsSent is_ending reply response
+module _ {W : Type 0} (tells : Tells W) (finds : Finds W) (obeys : Obeys W) (set_of : W → List ℕ)
+  where
+    -- what it commands is done, or refused
+    abbrev pub Obeyed : W → Request (List ℕ) → Reply → W → Type 0
+    Obeyed old request reply new =
+        (command : CopyCommand)
+        × (command_in (method_of request) (target_of request) ≡ Some command)
+        × ObeysCommand obeys old command (command_refused (host_of request) (has_origin request))
+        reply new
 
-  -- .. or memory is wanting
-  abbrev pub Answers : List ℕ → W → Request (List ℕ) → Response → W → Type 0
-  Answers version old request response new =
-      (question : Result Asked Refusal) × (is_ending : Bool)
-      × IsAsked (method_of request) (host_of request) (target_of request) question
-      × (Answered version old question is_ending response new ⊎ IsUnable is_ending response)
+    -- it commands nothing, and what it asks for is answered, or refused
+    abbrev pub Answered : List ℕ → W → Request (List ℕ) → Reply → W → Type 0
+    Answered version old request reply new =
+        (question : Result Asked Refusal)
+        × (command_in (method_of request) (target_of request) ≡ None)
+        × IsAsked (method_of request) (host_of request) (target_of request) question
+        × Replies tells finds set_of version old question reply new
+
+    -- what it commands, or what it asks for
+    abbrev pub RepliesTo : List ℕ → W → Request (List ℕ) → Reply → W → Type 0
+    RepliesTo version old request reply new =
+        Obeyed old request reply new ⊎ Answered version old request reply new
+
+    -- it has its reply
+    abbrev pub Responds : List ℕ → W → Request (List ℕ) → Bool → Response → W → Type 0
+    Responds version old request is_ending response new =
+        (reply : Reply) × RepliesTo version old request reply new × IsSent is_ending reply response
+
+    -- .. or memory is wanting
+    abbrev pub Answers : List ℕ → W → Request (List ℕ) → Response → W → Type 0
+    Answers version old request response new =
+        (is_ending : Bool)
+        × (Responds version old request is_ending response new ⊎ IsUnable is_ending response)

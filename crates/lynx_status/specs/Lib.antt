@@ -1,7 +1,9 @@
 pub mod Asking
 pub mod Begins
 pub mod Chains
+pub mod Commands
 pub mod Commits
+pub mod Copies
 pub mod Counts
 pub mod Deliveries
 pub mod Desks

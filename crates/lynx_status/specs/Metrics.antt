@@ -6,6 +6,7 @@ use Rattle.std.specs.Prelude.{false}
 use Rattle.lynx_status.specs.declared.figures.Figures.{Figures}
 use Rattle.lynx_status.specs.declared.figures.ServerFigures.{ServerFigures}
 use Rattle.lynx_status.specs.declared.gauges.Gauge.TheVariants.{Running, Entries, Room, Owed, Held, Clock}
+use Rattle.lynx_status.specs.Copies.{copies_text}
 use Rattle.lynx_status.specs.Families.{begins_lines, deliveries_lines, gauge_text, head, single}
 use Rattle.lynx_status.specs.Histograms.{commits_lines, filled}
 
@@ -59,4 +60,4 @@ abbrev pub metrics_text : Figures → ℕ → List ℕ → List ℕ
 metrics_text figures hash version =
     gauges_text figures.servers.items ++ begins_text figures.servers.items
     ++ deliveries_text figures.servers.items ++ commits_text figures.servers.items
-    ++ service_text figures ++ build_text hash version
+    ++ service_text figures ++ copies_text figures.copies.items ++ build_text hash version

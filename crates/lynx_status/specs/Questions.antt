@@ -1,9 +1,9 @@
 -- What of a request says what it asks for.
-use Rattle.std.specs.Prelude.{ℕ, List, [], ◌∷◌, codes, ◌||◌, is_some, Option, Some, None, if◌then◌else◌}
+use Rattle.std.specs.Prelude.{ℕ, Bool, List, [], ◌∷◌, codes, ◌||◌, is_some, Option, Some, None, if◌then◌else◌}
 use Rattle.http.specs.declared.request.Request.{Request}
 use Rattle.http.specs.Request.{head_of}
 use Rattle.http_header.specs.FieldValue.{FieldValue}
-use Rattle.http_header.specs.HeaderMap.{Entries, get_all}
+use Rattle.http_header.specs.HeaderMap.{Entries, get, get_all}
 use Rattle.http_uri.specs.declared.uri.Uri.{Uri}
 use Rattle.http_uri.specs.Uri.{uri_authority, uri_path, uri_query}
 
@@ -29,3 +29,7 @@ host_of request = host_in (head_of request).headers
 
 abbrev pub target_of : Request (List ℕ) → List ℕ
 target_of request = target_in (head_of request).uri
+
+-- a page of a browser asks, which says where it is from
+abbrev pub has_origin : Request (List ℕ) → Bool
+has_origin request = is_some (get (head_of request).headers (codes "origin"))

@@ -3,7 +3,7 @@ use Rattle.std.specs.Prelude.{◌≡◌, ℕ, Bool, ◌==◌, List, [], ◌∷�
 use Rattle.lynx_status.specs.declared.asking.Asked.{Asked}
 use Rattle.lynx_status.specs.declared.asking.Asked.TheVariants.{Health, Metrics, Status, Set, Chain}
 use Rattle.lynx_status.specs.declared.asking.Refusal.{Refusal}
-use Rattle.lynx_status.specs.declared.asking.Refusal.TheVariants.{NoHost, OtherHost, OtherMethod, NotFound}
+use Rattle.lynx_status.specs.declared.asking.Refusal.TheVariants.{NoHost, OtherHost, OtherOrigin, OtherMethod, NotFound}
 use Rattle.lynx_status.specs.declared.chain.ChainFigures.{ChainFigures}
 use Rattle.lynx_status.specs.declared.figures.Figures.{Figures}
 use Rattle.lynx_status.specs.declared.reply.Content.{Content}
@@ -54,12 +54,14 @@ pub record IsReply (status : ℕ) (content : Content) (body : List ℕ) (reply :
 abbrev pub refusal_status : Refusal → ℕ
 refusal_status NoHost = 400
 refusal_status OtherHost = 403
+refusal_status OtherOrigin = 403
 refusal_status OtherMethod = 405
 refusal_status NotFound = 404
 
 abbrev pub refusal_text : Refusal → List ℕ
 refusal_text NoHost = codes "no host\n"
 refusal_text OtherHost = codes "other host\n"
+refusal_text OtherOrigin = codes "other origin\n"
 refusal_text OtherMethod = codes "other method\n"
 refusal_text NotFound = codes "not found\n"
 

@@ -32,7 +32,10 @@ pub enum Refusal {
     /// Its host isn't 127.0.0.1, localhost or [::1]: who asks was led here by another name.
     #[error("other host")]
     OtherHost,
-    /// Its method isn't GET.
+    /// It would command, and comes from a page in a browser: it has a field Origin.
+    #[error("other origin")]
+    OtherOrigin,
+    /// Its method isn't GET, and it commands nothing.
     #[error("other method")]
     OtherMethod,
     /// There is nothing at its path.

@@ -1,14 +1,16 @@
 //! Who answers over HTTP.
-ghost use Rattle.std.specs.Prelude.{◌≡◌};
-ghost use Rattle.lynx_status.specs.Desks.{IsUnable};
+ghost use Rattle.std.specs.Prelude.{◌≡◌, IfOk};
+ghost use Rattle.lynx_status.specs.Desks.{IsUnable, RepliesTo};
 
 use crate::answering::reply_to;
+use crate::commanding::{command_of, obey, refusal_of};
 use crate::question::question_of;
-use crate::reply::{Content, fill};
+use crate::reply::{Content, Reply, fill};
 use crate::watched::Watched;
 use bytes::Bytes;
 use http::{Request, StatusCode};
 use http_server::{Response, Service};
+use lynx_names::Memory;
 use std::alloc::{AllocError, Global};
 
 /// Answers what is asked of a service over HTTP/1.1. It fails never: where memory is wanting it
@@ -46,21 +48,38 @@ impl<W: Watched> StatusDesk<W> {
             version,
         }
     }
+
+    /// What is answered to the request: to a command what came of it, to another what it asks for.
+    fn reply_to(&mut self, request: &Request<Bytes>) -> Result<Reply, Memory>
+        ensures replies { IfOk result (λ reply. RepliesTo W.tells W.finds W.obeys W.set_of
+            self.old.version.now self.old.watched request.now reply self.new.watched) }
+        ensures version { self.new.version.now ≡ self.old.version.now }
+    {
+        match command_of(request) {
+            Some(command) => {
+                let refused = refusal_of(request);
+                obey(self.alloc, &mut self.watched, command, refused)
+            }
+            None => {
+                let question = question_of(request);
+                reply_to(self.alloc, &mut self.watched, self.version, question)
+            }
+        }
+    }
 }
 
 impl<W: Watched> Service for StatusDesk<W> {
     ghost use Rattle.lynx_status.specs.Desks.{Answers};
 
-    ghost answers = { λ old request response new. Answers W.tells W.finds W.set_of old.version.now
-        old.watched request response new.watched };
+    ghost answers = { λ old request response new. Answers W.tells W.finds W.obeys W.set_of
+        old.version.now old.watched request response new.watched };
 
     fn call(
         &mut self,
         request: &Request<Bytes>,
         response: &mut Response,
     ) -> Result<(), AllocError> {
-        let question = question_of(request);
-        let reply = reply_to(self.alloc, &mut self.watched, self.version, question);
+        let reply = self.reply_to(request);
         let is_ending = self.watched.is_ending();
         let Ok(reply) = reply else {
             tell_memory(response, is_ending);

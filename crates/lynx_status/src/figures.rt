@@ -4,6 +4,7 @@ ghost use Rattle.lynx_status.specs.Figures.{all_run};
 
 use crate::begins::Begins;
 use crate::commits::CommitTimes;
+use crate::copies::CopyFigures;
 use crate::deliveries::Deliveries;
 use lynx_names::{ServerId, Stamp};
 
@@ -12,6 +13,8 @@ use lynx_names::{ServerId, Stamp};
 pub struct Figures {
     /// Those of each server of its set, in order.
     pub servers: Vec<ServerFigures>,
+    /// Those of the stores that follow the servers, in order; none where no folder follows.
+    pub copies: Vec<CopyFigures>,
     /// Connections of clients that are open.
     pub connections: u64,
     /// Sessions that were made.

@@ -3,6 +3,7 @@ ghost use Rattle.std.specs.Prelude.{◌≡◌, ◌++◌, IfOk, OnOk};
 ghost use Rattle.std.specs.String.{string_bytes};
 ghost use Rattle.lynx_status.specs.Metrics.{begins_text, build_text, commits_text, deliveries_text, gauges_text, hash_text, metrics_text, service_text};
 
+use crate::copies::put_copies;
 use crate::figures::{Figures, ServerFigures};
 use crate::gauges::{Gauge, put_gauge, put_head, put_single};
 use crate::outcomes::{put_begins, put_deliveries};
@@ -130,6 +131,7 @@ pub fn metrics_text(
     put_deliveries_family(&mut text, servers)?;
     put_commits_family(&mut text, servers)?;
     put_service(&mut text, figures)?;
+    put_copies(&mut text, figures.copies.as_slice())?;
     put_build(&mut text, hash, version)?;
     Ok(text.into_bytes())
 }

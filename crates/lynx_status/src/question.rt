@@ -10,7 +10,7 @@ use http::{HeaderMap, Request, Uri, header};
 
 /// The value of the one field Host. None where there is none, or more than one: of these only a
 /// request at HTTP/1.0 that has none comes here, since `http1` refuses the others.
-fn host_in(headers: &HeaderMap) -> Option<&[u8]>
+pub(crate) fn host_in(headers: &HeaderMap) -> Option<&[u8]>
     ensures { option_copied result ≡ host_in headers.now }
 {
     let mut hosts = headers.get_all(header::HOST).iter();
@@ -22,7 +22,7 @@ fn host_in(headers: &HeaderMap) -> Option<&[u8]>
 }
 
 /// The path of a target, nothing where the target names a host or has a query.
-fn target_in(uri: &Uri) -> &str
+pub(crate) fn target_in(uri: &Uri) -> &str
     ensures { result.now ≡ target_in uri.now }
 {
     if uri.authority().is_some() || uri.query().is_some() {

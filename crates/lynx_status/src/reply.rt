@@ -52,7 +52,7 @@ impl Refusal {
     {
         match self {
             Refusal::NoHost => StatusCode::BAD_REQUEST,
-            Refusal::OtherHost => StatusCode::FORBIDDEN,
+            Refusal::OtherHost | Refusal::OtherOrigin => StatusCode::FORBIDDEN,
             Refusal::OtherMethod => StatusCode::METHOD_NOT_ALLOWED,
             Refusal::NotFound => StatusCode::NOT_FOUND,
         }
@@ -65,6 +65,7 @@ impl Refusal {
         match self {
             Refusal::NoHost => b"no host\n",
             Refusal::OtherHost => b"other host\n",
+            Refusal::OtherOrigin => b"other origin\n",
             Refusal::OtherMethod => b"other method\n",
             Refusal::NotFound => b"not found\n",
         }

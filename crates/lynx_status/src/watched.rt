@@ -1,5 +1,6 @@
 //! Who knows what a status tells.
 use crate::chain::ChainFigures;
+use crate::copies::{CopyCommand, CopyDone};
 use crate::figures::Figures;
 use crate::recent::RecentEntry;
 use lynx_names::{ChainId, Memory};
@@ -7,13 +8,15 @@ use lynx_names::{ChainId, Memory};
 /// A service that is looked at: what it says of itself, at the moment at which it is asked.
 pub trait Watched {
     ghost use Rattle.std.specs.Prelude.{◌≡◌, ℕ, List, IfOk};
-    ghost use Rattle.lynx_status.specs.Watching.{Finds, Tells};
+    ghost use Rattle.lynx_status.specs.Watching.{Finds, Obeys, Tells};
 
-    // Which figures it may tell, and what it may find of a chain, each from one state of it to the
-    // next; and the text of its set.
+    // Which figures it may tell, what it may find of a chain, and what may come of a command, each
+    // from one state of it to the next; and the text of its set.
     ghost tells: { Tells Self };
 
     ghost finds: { Finds Self };
+
+    ghost obeys: { Obeys Self };
 
     ghost set_of: { Self → List ℕ };
 
@@ -27,6 +30,10 @@ pub trait Watched {
 
     /// The last entries of all servers, stamps rising: a hundred say.
     fn recent(&mut self) -> Result<Vec<RecentEntry>, Memory>;
+
+    /// Has the stores of the folder that follows closed, or opened again.
+    fn obey(&mut self, command: CopyCommand) -> CopyDone
+        ensures { obeys self.old command result self.new };
 
     /// The text of the set.
     fn set_text(&self) -> &[u8]

@@ -9,4 +9,4 @@ returns-clause-ok g c =
     let ending = c.is_ending-is_ending.result in
     let response = c.fill-filled.new.response in
     let sent = subst (λ (body : List ℕ). IsResponse reply.status (fields_for reply.content reply.status ending) body response) c.as_slice-body.ensures.value c.in-Ok-filled.ensures in
-    (c.question_of-question.result, ending, c.question_of-question.ensures, inl (reply, c.in-Ok.ensures, sent))
+    (ending, inl (reply, c.in-Ok.ensures.replies, sent))

@@ -1,6 +1,8 @@
 //! Accepting clients, so many at a time, and beside them those that watch.
 ghost use Rattle.std.specs.Thread.{IsSend, IsSync};
 
+use crate::copy_room::CopyRoom;
+use crate::copying::Copier;
 use crate::hall::Hall;
 use crate::limits::RETRY_MILLIS;
 use crate::log::Log;
@@ -9,8 +11,9 @@ use crate::talking::{knock, talk};
 use crate::tally::Tally;
 use crate::watching::{WatchPort, watch_all};
 use lynx_cluster::{Front, Session};
-use lynx_keep::Keeper;
 use lynx_notice::Board;
+use lynx_store::BatchKeeper;
+use lynx_store_files::Stores;
 use std::alloc::Global;
 use std::net::{Net, SocketAddr, TcpListener, TcpStream};
 use std::sync::Wait;
@@ -53,6 +56,14 @@ fn let_in<R: Wait + Clock>(
     Some(stream)
 }
 
+/// There is no thread that would copy.
+fn tell_uncopied(log: Log, copies: Option<&CopyRoom>) {
+    log.no_copy_thread();
+    if let Some(room) = copies {
+        room.leave_all();
+    }
+}
+
 /// Nobody is let in any more, nor told that there is a service; whoever accepts those that watch is
 /// knocked at until it sees so.
 fn close_doors<R: Wait + Clock + Net<Listener = TcpListener, Stream = TcpStream>>(
@@ -71,11 +82,13 @@ fn close_doors<R: Wait + Clock + Net<Listener = TcpListener, Stream = TcpStream>
 /// Serves clients at the listener until one asks for the end and all have gone, and gives their
 /// sessions back. Each has a thread of its own. One for which there is no thread is hung up on, and
 /// so is each beyond [`MAX_CLIENTS`](crate::limits::MAX_CLIENTS). Beside them those are answered
-/// that watch. Once the end is asked for, the board's notice is taken down.
+/// that watch, and the folder that follows gets what servers did. Once the end is asked for, the
+/// board's notice is taken down.
 pub(crate) fn serve_clients<
     'x,
     R: Threads + Wait + Clock + Copy + Sync + Net<Listener = TcpListener, Stream = TcpStream>,
-    K: Keeper + Send + Drop,
+    K: BatchKeeper + Send + Drop,
+    S: Stores<K> + Sync,
 >(
     rt: &'x R,
     alloc: Global,
@@ -83,6 +96,7 @@ pub(crate) fn serve_clients<
     ports: &Ports,
     board: &Board<'x>,
     log: Log,
+    copier: Option<&'x Copier<'x, K, S>>,
 ) -> Vec<Session>
 where
     R: Send,
@@ -90,13 +104,19 @@ where
     let shared = Hall::new(alloc);
     let hall = &shared;
     let port = ports.address;
-    let status = Status::new(rt, alloc, front, hall, board.set);
+    let copies = copier.map(|copier| copier.folder.room);
+    let status = Status::new(rt, alloc, front, hall, copies, board.set);
     thread::scope(
         thread::scope_env(),
         rt,
         |scope| -> ()
-            requires { IsSync R.row × IsSend R.row × IsSend K.row }
+            requires { IsSync R.row × IsSend R.row × IsSend K.row × IsSync S.row }
         {
+            if let Some(copier) = copier
+                && scope.spawn(move || copier.run(rt, front, hall)).is_err()
+            {
+                tell_uncopied(log, copies);
+            }
             let mut watched_at = None;
             if let Some(watch) = &ports.watch {
                 let shared = status.share();

@@ -33,6 +33,52 @@ pub enum StoreWord {
     Store,
 }
 
+/// Why a store can't follow a server.
+#[derive(Clone, Copy, Debug, PartialEq, Eq, Error)]
+pub enum CopyWord {
+    #[error("other-set")]
+    OtherSet,
+    #[error("other-version")]
+    OtherVersion,
+    /// What it keeps isn't a front of what the server did.
+    #[error("other-history")]
+    OtherHistory,
+    #[error("damaged")]
+    Damaged,
+    #[error("store")]
+    Store,
+    #[error("memory")]
+    Memory,
+}
+
+impl From<StoreFault> for CopyWord {
+    fn from(fault: StoreFault) -> CopyWord {
+        match fault {
+            StoreFault::OtherSet => CopyWord::OtherSet,
+            StoreFault::OtherVersion => CopyWord::OtherVersion,
+            StoreFault::Damaged => CopyWord::Damaged,
+            StoreFault::Store => CopyWord::Store,
+            StoreFault::Memory => CopyWord::Memory,
+        }
+    }
+}
+
+impl From<OpenFault> for CopyWord {
+    fn from(fault: OpenFault) -> CopyWord {
+        match fault {
+            OpenFault::Damaged { .. } => CopyWord::Damaged,
+            OpenFault::Store => CopyWord::Store,
+            OpenFault::Memory => CopyWord::Memory,
+        }
+    }
+}
+
+impl From<Memory> for CopyWord {
+    fn from(_: Memory) -> CopyWord {
+        CopyWord::Memory
+    }
+}
+
 /// What is wrong with what servers did, or with what clients were told of it. What it prints is one
 /// word, which tells no place.
 #[derive(Clone, Copy, Debug, PartialEq, Eq, Error)]
@@ -59,6 +105,12 @@ pub enum ServeFault {
     /// The store of that server can't be opened, or could not be closed.
     #[error("store {server}: {word}")]
     Store { server: u8, word: StoreWord },
+    /// The store that is to follow that server can't.
+    #[error("copy {server}: {word}")]
+    Copy { server: u8, word: CopyWord },
+    /// The folder that is to follow is the one that is served.
+    #[error("copy: same folder")]
+    SameFolder,
     /// The port can't be listened at.
     #[error("cannot listen")]
     Listen,
@@ -92,6 +144,15 @@ impl ServeFault {
         };
         let server = server.number();
         ServeFault::Store { server, word }
+    }
+
+    /// Why the store that is to follow that server can't.
+    pub(crate) fn of_copy(server: ServerId, word: CopyWord) -> ServeFault {
+        let server = server.number();
+        match word {
+            CopyWord::Memory => ServeFault::Memory,
+            word => ServeFault::Copy { server, word },
+        }
     }
 
     /// The store of that server isn't there, where others have entries.

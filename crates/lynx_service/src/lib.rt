@@ -6,10 +6,10 @@
 pub use closing::last_words;
 pub use desk::ClientDesk;
 pub use ending::Ending;
-pub use fault::{CloseWord, Damage, ServeFault, StoreWord};
+pub use fault::{CloseWord, CopyWord, Damage, ServeFault, StoreWord};
 pub use limits::{
-    MAX_CLIENTS, MAX_CLOSING_SECONDS, MAX_IDLE_SECONDS, MAX_SHUT_SECONDS, MAX_WATCH_SECONDS,
-    MAX_WATCHERS, MAX_WRITE_SECONDS,
+    COPY_RETRY_SECONDS, MAX_CLIENTS, MAX_CLOSING_SECONDS, MAX_IDLE_SECONDS, MAX_SHUT_SECONDS,
+    MAX_WATCH_SECONDS, MAX_WATCHERS, MAX_WRITE_SECONDS, MOST_COPIED,
 };
 pub use log::Log;
 pub use progress::Progress;
@@ -17,6 +17,9 @@ pub use service::{Service, StatusPort, serve_stores};
 
 mod accepting;
 pub mod closing;
+mod copies;
+mod copy_room;
+mod copying;
 pub mod desk;
 pub mod ending;
 pub mod fault;

@@ -29,3 +29,20 @@ pub(crate) const TICK_MILLIS: u64 = 250;
 /// Milliseconds that go by after a connection could not be taken, for want of file handles say,
 /// before the next is.
 pub(crate) const RETRY_MILLIS: u64 = 20;
+
+/// Entries that are taken of a server at once for the folder that follows, and kept there in one
+/// transaction, at most.
+pub const MOST_COPIED: usize = 1_000;
+
+/// Milliseconds after which a server that has added nothing more is looked at again for the folder
+/// that follows.
+pub(crate) const COPY_MILLIS: u64 = 100;
+
+/// Seconds after which a store of the folder that follows is opened again that failed.
+pub const COPY_RETRY_SECONDS: u64 = 60;
+
+/// Milliseconds between two looks whether the stores of the folder that follows are closed, ..
+pub(crate) const PAUSE_LOOK_MILLIS: u64 = 10;
+
+/// .. and such looks, at most.
+pub(crate) const MOST_PAUSE_LOOKS: u32 = 1_000;

@@ -1,4 +1,5 @@
 //! The log of a service: a line on standard error for each event of its life.
+use crate::fault::CopyWord;
 use jiff::Timestamp;
 use lynx_keep::Cause;
 use lynx_names::ServerId;
@@ -119,6 +120,48 @@ impl Log {
                 "event=stopped server={server} file=server-{server}.lynx cause=\"{cause}\""
             ),
             None => format!(in alloc; "event=stopped server={server} file=server-{server}.lynx"),
+        };
+        self.write(words);
+    }
+
+    /// The store that follows the server does, from so many entries on.
+    pub(crate) fn copying(&self, server: ServerId, entries: u64) {
+        let alloc = self.rt.alloc();
+        let server = server.number();
+        self.write(format!(in alloc; "event=copying server={server} entries={entries}"));
+    }
+
+    /// There is no thread that would copy: the folder that follows lacks what is done from now on,
+    /// until the end.
+    pub(crate) fn no_copy_thread(&self) {
+        if self.is_kept {
+            self.write(format!(in self.rt.alloc(); "event=copy-failed fault=no-thread"));
+        } else {
+            let _ = eprintln!(self.rt; "lynx: copy: no thread");
+        }
+    }
+
+    /// All stores that follow are closed.
+    pub(crate) fn copy_paused(&self) {
+        self.write(format!(in self.rt.alloc(); "event=copy-paused"));
+    }
+
+    /// The store that follows the server failed, for that cause if it is known. Where no log is
+    /// wanted a line tells it all the same, since nothing else does.
+    pub(crate) fn copy_failed(&self, server: ServerId, word: CopyWord, cause: Option<Cause>) {
+        let alloc = self.rt.alloc();
+        let server = server.number();
+        if !self.is_kept {
+            let _ = eprintln!(self.rt; "lynx: copy {server}: {word}");
+            return;
+        }
+        let words = match cause {
+            Some(cause) => format!(in alloc;
+                "event=copy-failed server={server} file=server-{server}.lynx fault={word} cause=\"{cause}\""
+            ),
+            None => format!(in alloc;
+                "event=copy-failed server={server} file=server-{server}.lynx fault={word}"
+            ),
         };
         self.write(words);
     }

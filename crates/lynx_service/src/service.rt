@@ -7,6 +7,9 @@ ghost use Rattle.lynx_service.specs.Services.{AppendsSome, HasServed};
 
 use crate::accepting::{Ports, serve_clients};
 use crate::closing::{end, end_unheard};
+use crate::copies::CopyFolder;
+use crate::copy_room::CopyRoom;
+use crate::copying::Copier;
 use crate::fault::ServeFault;
 use crate::log::Log;
 use crate::opening::{judge, keepers, listen_at_all, open_there, places};
@@ -17,7 +20,9 @@ use lynx_keep::Keeper;
 use lynx_lines::write_bytes;
 use lynx_notice::Board;
 use lynx_order::Explained;
+use lynx_server::Server;
 use lynx_set::ChainSet;
+use lynx_store::BatchKeeper;
 use lynx_store_files::Stores;
 use std::alloc::Global;
 use std::hash::RandomState;
@@ -36,6 +41,8 @@ pub struct Service<'a> {
     pub port: u16,
     /// Where the status of the service is told, if it is.
     pub status: Option<StatusPort>,
+    /// The folder whose stores follow those of the servers, if any does. It is another one.
+    pub copy: Option<&'a str>,
 }
 
 /// A port of 127.0.0.1 at which a service tells its status over HTTP.
@@ -80,7 +87,8 @@ fn write_listening<W: Write>(
 /// end nothing is told on the board.
 fn serve_when_told<
     R: Host + Net<Listener = TcpListener, Stream = TcpStream>,
-    K: Keeper + Send + Drop,
+    K: BatchKeeper + Send + Drop,
+    S: Stores<K> + Sync,
     W: Write,
 >(
     rt: &R,
@@ -89,6 +97,7 @@ fn serve_when_told<
     ports: &Ports,
     board: &Board<'_>,
     log: Log,
+    copier: Option<&Copier<'_, K, S>>,
     writer: &mut W,
 ) -> (Vec<Session>, Result<(), ServeFault>)
     ensures { OnOk result.1 (AppendsSome (W.contents writer.old) (W.contents writer.new)) }
@@ -97,7 +106,7 @@ fn serve_when_told<
     let sessions = match written {
         Ok(()) => {
             log.listening(ports.address, ports.watch_address());
-            let sessions = serve_clients(rt, alloc, cluster.front(), ports, board, log);
+            let sessions = serve_clients(rt, alloc, cluster.front(), ports, board, log, copier);
             let front = cluster.front();
             log.closing(front.gate().all_owed(front.set()));
             sessions
@@ -149,6 +158,53 @@ fn open_all<
     Ok((opened, ports))
 }
 
+/// Tells which servers go on, and behind how much.
+fn tell_opened<K: Keeper>(log: Log, servers: &[Server<K>]) {
+    for server in servers {
+        log.opened(server.server(), server.history().len());
+    }
+}
+
+/// The stores of the folder that is to follow, if one is, opened behind these servers.
+fn open_copier<'a, K: BatchKeeper + Drop, S: Stores<K>>(
+    alloc: Global,
+    set: &'a ChainSet,
+    stores: &'a S,
+    service: Service<'a>,
+    servers: &[Server<K>],
+    room: &'a CopyRoom,
+    log: Log,
+) -> Result<Option<Copier<'a, K, S>>, ServeFault> {
+    let Some(folder) = service.copy else {
+        return Ok(None);
+    };
+    let folder = CopyFolder {
+        alloc,
+        stores,
+        set,
+        folder,
+        room,
+        log,
+    };
+    Ok(Some(Copier::open(folder, servers)?))
+}
+
+/// Ends the workers of a cluster, so that its servers do nothing more, and has all that they did in
+/// the folder that follows, if one does.
+fn finish<R: Host, K: BatchKeeper + Send + Drop, S: Stores<K>>(
+    rt: &R,
+    alloc: Global,
+    cluster: &mut Cluster<K, Tally<R>>,
+    copier: Option<Copier<'_, K, S>>,
+)
+    ensures { cluster.new ≡ cluster.old }
+{
+    cluster.halt(rt, alloc);
+    if let Some(copier) = copier {
+        copier.finish(rt, cluster.front());
+    }
+}
+
 /// Serves clients over the stores of a folder, until one of them asks for the end: opens the stores
 /// that are there, side by side; listens at the port; makes the stores of a new folder; looks
 /// whether all stores fit together; tells on the board where it listens and what it serves, and
@@ -162,11 +218,17 @@ fn open_all<
 /// older copy, say. Where the folder has stores with entries, and that of another server isn't
 /// there, that is damage.
 ///
+/// Where a folder is to follow, what its stores keep is at all times a front of what the servers
+/// did, a tenth of a second and a thousand entries behind where its disk keeps up, and in the end
+/// all of it. A store there that isn't of this set, or keeps what its server didn't do, is told
+/// before anybody is served, and left as it is. One that fails later is told in the log, and opened
+/// again a minute later; the service goes on.
+///
 /// The close takes about as long, and as much memory, as opening the stores did; the answers of a
 /// session, and what its looks found, are kept until then.
 pub fn serve_stores<
     R: Host + Net<Listener = TcpListener, Stream = TcpStream>,
-    K: Keeper + Send + Drop + 'static,
+    K: BatchKeeper + Send + Drop + 'static,
     S: Stores<K> + Sync,
     W: Write,
 >(
@@ -186,15 +248,20 @@ pub fn serve_stores<
     let opened = open_all(&rt, alloc, set, stores, service, progress);
     progress.ends();
     let (opened, ports) = opened?;
-    for server in opened.servers() {
-        log.opened(server.server(), server.history().len());
-    }
+    tell_opened(log, opened.servers());
+    let room = CopyRoom::new(alloc, set.servers())?;
+    let servers = opened.servers();
+    let copier = open_copier(alloc, set, stores, service, servers, &room, log)?;
     let tally = Tally::of(rt, alloc, log, opened.servers())?;
-    let cluster = opened.start(rt, alloc, tally)?;
-    let (sessions, written) = serve_when_told(&rt, alloc, &cluster, &ports, board, log, writer);
+    let mut cluster = opened.start(rt, alloc, tally)?;
+    let copying = copier.as_ref();
+    let (sessions, written) = serve_when_told(
+        &rt, alloc, &cluster, &ports, board, log, copying, writer,
+    );
     drop(ports);
     progress.closes();
     let since = Instant::now(&rt).ok();
+    finish(&rt, alloc, &mut cluster, copier);
     let closed = cluster.close(&rt, alloc, sessions);
     let took = since.and_then(|since| since.elapsed(&rt).ok());
     progress.ends();

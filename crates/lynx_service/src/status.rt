@@ -1,6 +1,7 @@
 //! What is known of a running service by whoever watches it.
 ghost use Rattle.std.specs.Prelude.{ℕ, List};
 
+use crate::copy_room::CopyRoom;
 use crate::hall::Hall;
 use crate::tally::Tally;
 use lynx_cluster::Front;
@@ -10,7 +11,8 @@ use lynx_keep::Keeper;
 use lynx_lex::name::Name;
 use lynx_names::{ChainId, Memory, ProgramId, ServerId};
 use lynx_status::{
-    ChainFigures, Figures, HopFigures, RanHop, RecentEntry, RecentKind, ServerFigures, Watched,
+    ChainFigures, CopyCommand, CopyDone, CopyFigures, Figures, HopFigures, RanHop, RecentEntry,
+    RecentKind, ServerFigures, Watched,
 };
 use std::alloc::Global;
 use std::sync::Wait;
@@ -26,6 +28,8 @@ pub(crate) struct Status<'a, R: Wait + Clock, K: Keeper> {
     pub(crate) alloc: Global,
     pub(crate) front: &'a Front<K, Tally<R>>,
     pub(crate) hall: &'a Hall,
+    /// Of the folder that follows, if one does.
+    pub(crate) copies: Option<&'a CopyRoom>,
     /// The text of its set.
     pub(crate) set: &'a [u8],
     /// When it began to listen.
@@ -39,6 +43,7 @@ impl<'a, R: Wait + Clock, K: Keeper> Status<'a, R, K> {
         alloc: Global,
         front: &'a Front<K, Tally<R>>,
         hall: &'a Hall,
+        copies: Option<&'a CopyRoom>,
         set: &'a [u8],
     ) -> Status<'a, R, K> {
         Status {
@@ -46,6 +51,7 @@ impl<'a, R: Wait + Clock, K: Keeper> Status<'a, R, K> {
             alloc,
             front,
             hall,
+            copies,
             set,
             since: Instant::now(rt).ok(),
         }
@@ -58,6 +64,7 @@ impl<'a, R: Wait + Clock, K: Keeper> Status<'a, R, K> {
             alloc: self.alloc,
             front: self.front,
             hall: self.hall,
+            copies: self.copies,
             set: self.set,
             since: self.since,
         }
@@ -96,6 +103,20 @@ impl<'a, R: Wait + Clock, K: Keeper> Status<'a, R, K> {
             deliveries: counts.deliveries,
             commits: counts.commits,
         })
+    }
+
+    /// How far the stores are that follow these servers; none where no folder follows.
+    fn copy_figures(&self, servers: &[ServerFigures]) -> Result<Vec<CopyFigures>, Memory> {
+        let mut copies = Vec::new(self.alloc);
+        let Some(room) = self.copies else {
+            return Ok(copies);
+        };
+        for server in servers {
+            if let Some(figures) = room.figures(server.server, server.entries) {
+                copies.push(figures)?;
+            }
+        }
+        Ok(copies)
     }
 
     /// What there is of that hop of a chain. None where its program has no such hop.
@@ -158,6 +179,8 @@ impl<R: Wait + Clock, K: Keeper> Watched for Status<'_, R, K> {
 
     ghost finds = { λ old chain found new. Unit {0} };
 
+    ghost obeys = { λ old command done new. Unit {0} };
+
     ghost set_of = { λ status. status.set.now };
 
     fn figures(&mut self) -> Result<Figures, Memory> {
@@ -167,8 +190,10 @@ impl<R: Wait + Clock, K: Keeper> Watched for Status<'_, R, K> {
                 servers.push(figures)?;
             }
         }
+        let copies = self.copy_figures(servers.as_slice())?;
         Ok(Figures {
             servers,
+            copies,
             connections: self.hall.clients(self.rt),
             sessions: self.hall.sessions(),
             told_bytes: self.hall.told_bytes(),
@@ -206,6 +231,13 @@ impl<R: Wait + Clock, K: Keeper> Watched for Status<'_, R, K> {
         let older = recent.len().saturating_sub(MOST_RECENT);
         recent.drain(..older);
         Ok(recent)
+    }
+
+    fn obey(&mut self, command: CopyCommand) -> CopyDone {
+        match self.copies {
+            Some(room) => room.obey(self.rt, command),
+            None => CopyDone::NoCopy,
+        }
     }
 
     fn set_text(&self) -> &[u8] {

@@ -1,0 +1,96 @@
+//! The thread that copies: what servers add is appended to stores of their own in another folder.
+use crate::copies::{Copy, CopyFolder};
+use crate::fault::ServeFault;
+use crate::hall::Hall;
+use crate::limits::COPY_MILLIS;
+use crate::tally::Tally;
+use lynx_cluster::Front;
+use lynx_server::Server;
+use lynx_store::BatchKeeper;
+use lynx_store_files::Stores;
+use std::sync::{Mutex, Wait};
+use std::thread;
+use std::time::{Clock, Duration};
+
+/// The stores that follow the servers of a cluster.
+#[derive(Drop)]
+pub(crate) struct Copier<'a, K, S> {
+    pub(crate) folder: CopyFolder<'a, S>,
+    /// By server. One thread at a time goes over them.
+    copies: Mutex<Vec<Copy<K>>>,
+}
+
+impl<'a, K: BatchKeeper + Drop, S: Stores<K>> Copier<'a, K, S> {
+    /// Opens the stores of the folder behind these servers. The first that can't follow is told.
+    pub(crate) fn open(
+        folder: CopyFolder<'a, S>,
+        servers: &[Server<K>],
+    ) -> Result<Copier<'a, K, S>, ServeFault> {
+        let mut copies = Vec::new(folder.alloc);
+        for server in servers {
+            copies.push(Copy::open(&folder, server)?)?;
+        }
+        let copies = Mutex::new(copies);
+        Ok(Copier { folder, copies })
+    }
+
+    /// Copies until nobody is served any more: a turn each tenth of a second, and at once after one
+    /// that had more to do.
+    pub(crate) fn run<R: Wait + Clock>(&self, rt: &R, front: &Front<K, Tally<R>>, hall: &Hall) {
+        for _ in rt.forever() {
+            if hall.door().is_closed() && hall.clients(rt) == 0 {
+                break;
+            }
+            if !self.turn(rt, front) {
+                thread::sleep(rt, Duration::from_millis(COPY_MILLIS));
+            }
+        }
+    }
+
+    /// One turn: the stores are closed where they are to be, or those that don't follow are opened
+    /// again, and all get what their servers did meanwhile. Whether some may have more.
+    fn turn<R: Wait + Clock>(&self, rt: &R, front: &Front<K, Tally<R>>) -> bool {
+        if let Some(number) = self.folder.room.pause() {
+            self.pause(rt, number);
+            return false;
+        }
+        let mut is_more = false;
+        let mut copies = self.copies.lock(rt);
+        for copy in copies.iter_mut() {
+            copy.open_again(rt, front, &self.folder);
+            is_more |= copy.follow(rt, front, &self.folder);
+        }
+        is_more
+    }
+
+    /// Closes the stores, if that wasn't done since the pause of that number was asked for.
+    fn pause<R: Wait>(&self, rt: &R, number: u64) {
+        if !self.folder.room.is_paused(number) {
+            self.close(rt);
+            self.folder.room.note_pause(number);
+            self.folder.log.copy_paused();
+        }
+    }
+
+    /// Appends the rest of what all servers did, once they do nothing more, and closes the stores.
+    pub(crate) fn finish<R: Wait + Clock>(&self, rt: &R, front: &Front<K, Tally<R>>) {
+        let mut copies = self.copies.lock(rt);
+        for copy in copies.iter_mut() {
+            for _ in rt.forever() {
+                if !copy.follow(rt, front, &self.folder) {
+                    break;
+                }
+            }
+        }
+        drop(copies);
+        self.close(rt);
+    }
+
+    /// Closes the stores.
+    fn close<R: Wait>(&self, rt: &R) {
+        let mut copies = self.copies.lock(rt);
+        for copy in copies.iter_mut() {
+            copy.close(&self.folder);
+        }
+    }
+}

@@ -1,3 +1,4 @@
 pub mod Refillings
 pub mod Storings
 pub mod Summings
+pub mod Longests

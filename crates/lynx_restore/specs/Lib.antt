@@ -1,4 +1,5 @@
 pub mod Refills
 pub mod Restored
+pub mod Longest
 pub mod Undone
 pub mod Lines

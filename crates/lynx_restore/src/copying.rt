@@ -22,7 +22,7 @@ fn add_entry(alloc: Global, copied: &mut Vec<Entry>, entry: &Entry) -> Result<()
 }
 
 /// A copy of the history.
-fn copy_history(alloc: Global, history: &[Entry]) -> Result<Vec<Entry>, Memory>
+pub(crate) fn copy_history(alloc: Global, history: &[Entry]) -> Result<Vec<Entry>, Memory>
     ensures { IfOk result (λ copied. copied.items ≡ history.now) }
 {
     let mut copied = Vec::new(alloc);

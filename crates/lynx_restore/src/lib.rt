@@ -3,6 +3,7 @@
 #![tactic(auto)]
 
 pub use fault::RestoreFault;
+pub use longest::restore_longest;
 pub use refill_fault::RefillFault;
 pub use refilling::refill;
 pub use restored::{Restored, RestoredServer};
@@ -12,6 +13,7 @@ pub use undone::Undone;
 
 mod copying;
 pub mod fault;
+pub mod longest;
 pub mod refill_fault;
 pub mod refilling;
 pub mod restored;

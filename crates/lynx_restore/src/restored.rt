@@ -8,7 +8,7 @@ pub struct RestoredServer {
     pub server: ServerId,
     /// The entries that its new store has.
     pub taken: u64,
-    /// The entries that the copy has.
+    /// The entries that the copy has, or that were found of it.
     pub of: u64,
 }
 

@@ -5,7 +5,7 @@ use clap::error::ErrorKind;
 use clap::{ArgMatches, Error};
 use lynx_cli::{CommandFault, Fault, Hints, Job, command, do_job, job_of, wants_hints};
 use lynx_cluster::Host;
-use lynx_keep::Keeper;
+use lynx_store::BatchKeeper;
 use lynx_store_files::{Files, Stores};
 use std::io::{self, IsTerminal};
 use std::net::{Net, TcpListener, TcpStream};
@@ -83,7 +83,7 @@ fn suggest_check(rt: &HostRuntime, said: &Error, words: &[String]) {
 /// Does what the matched words ask for, and gives the status.
 fn do_matches<
     R: Host + Net<Listener = TcpListener, Stream = TcpStream>,
-    K: Keeper + Send + Drop + 'static,
+    K: BatchKeeper + Send + Drop + 'static,
     S: Stores<K> + Sync,
 >(host: &HostRuntime, rt: R, stores: &S, matches: &ArgMatches) -> u8 {
     let mut hints = Hints::new(wants_hints(matches) || host.stderr().is_terminal());
@@ -112,7 +112,7 @@ fn do_matches<
 /// Does what the words ask for, and gives the status.
 fn obey<
     R: Host + Net<Listener = TcpListener, Stream = TcpStream>,
-    K: Keeper + Send + Drop + 'static,
+    K: BatchKeeper + Send + Drop + 'static,
     S: Stores<K> + Sync,
 >(host: &HostRuntime, rt: R, stores: &S, words: &[String]) -> u8 {
     let Ok(command) = command(host.alloc()) else {

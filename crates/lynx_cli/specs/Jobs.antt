@@ -1,5 +1,5 @@
 -- What the words of the command line ask for.
-use Rattle.std.specs.Prelude.{◌≡◌, ◌≢◌, ◌⊎◌, ℕ, List, Option, Some, None, IsSome, Result, Ok, Err, codes, Bool, false, true, unwrap_or}
+use Rattle.std.specs.Prelude.{◌≡◌, ◌≢◌, ◌⊎◌, ℕ, List, Option, Some, None, IsSome, option_map, Result, Ok, Err, codes, Bool, false, true, unwrap_or}
 use Rattle.clap.specs.Words.{Row, Text, first_of, one_of}
 use Rattle.lynx_cli.specs.declared.job.Job.{Job}
 use Rattle.lynx_cli.specs.declared.job.Job.TheVariants.{Ask, AskFolder, Audit, Chart, Check, Draw, Extend, Owed, Restore, Run, RunInput, RunStores, Sample, Serve, Show, Upgrade}
@@ -63,7 +63,7 @@ AskedBy command (Ok (Upgrade store)) = command ≡ Some (codes "upgrade")
 AskedBy command (Ok (Extend folder set)) = command ≡ Some (codes "extend")
 AskedBy command (Ok (Serve set folder port flags)) = command ≡ Some (codes "serve")
 AskedBy command (Ok (Audit folder)) = command ≡ Some (codes "audit")
-AskedBy command (Ok (Restore from folder)) = command ≡ Some (codes "restore")
+AskedBy command (Ok (Restore from folder longest)) = command ≡ Some (codes "restore")
 AskedBy command (Ok (Owed folder)) = command ≡ Some (codes "owed")
 AskedBy command (Ok (Ask set port status)) = command ≡ Some (codes "ask")
 AskedBy command (Ok (AskFolder folder)) = command ≡ Some (codes "ask")
@@ -116,6 +116,7 @@ IsPort name rows port = one_of name rows ≡ None → port ≡ None
 -- what a service does besides was found so
 pub record AreServeFlags (rows : List Row) (flags : ServeFlags) : Type 0 where
   pub status : IsPort (codes "status") rows flags.status
+  pub copy : option_map (λ own. own.now) flags.copy ≡ first_of (codes "copy") rows
   pub log : IsFlag (codes "log") rows flags.log
 
 -- a run of the files and the folder that were found, with the flags that were
@@ -150,8 +151,9 @@ TakesFound rows (Ok (Serve set folder port flags)) =
     (set.now ≡ text_at (codes "SET") rows) × (folder.now ≡ text_at (codes "DIR") rows)
     × AreServeFlags rows flags
 TakesFound rows (Ok (Audit folder)) = folder.now ≡ text_at (codes "DIR") rows
-TakesFound rows (Ok (Restore from folder)) =
+TakesFound rows (Ok (Restore from folder longest)) =
     (from.now ≡ text_at (codes "FROM") rows) × (folder.now ≡ text_at (codes "DIR") rows)
+    × IsFlag (codes "longest") rows longest
 TakesFound rows (Ok (Owed folder)) = folder.now ≡ text_at (codes "DIR") rows
 TakesFound rows (Ok (Ask set port status)) =
     (set.now ≡ text_at (codes "SET") rows) × IsSome (first_of (codes "PORT") rows)

@@ -1,5 +1,6 @@
 //! Why a store or a port can't be had, as the system tells it. What is looked at stays as it is.
 use crate::shown::Shown;
+use lynx_service::CopyWord;
 use os::RangeLock;
 use std::alloc::{AllocError, Global};
 use std::fs::{self, OpenOptions};
@@ -104,6 +105,33 @@ pub(crate) fn cause_of_store(
     format!(in alloc;
         "  {shown} opens, and no other process has it open: the disk fails, or its bytes are no database's\n"
     )
+}
+
+/// Why the store of that number can't follow the server's, in a line, and what to do.
+pub(crate) fn cause_of_copy(
+    host: &HostRuntime,
+    alloc: Global,
+    folder: &str,
+    server: u8,
+    word: CopyWord,
+) -> Result<String, AllocError> {
+    let file = format!(in alloc; "{folder}/server-{server}.lynx")?;
+    let shown = Shown {
+        name: file.as_str(),
+    };
+    match word {
+        CopyWord::OtherHistory => format!(in alloc;
+            "  {shown} keeps what server {server} didn't do: it follows another folder, or one that was restored since; take an empty one\n"
+        ),
+        CopyWord::OtherSet | CopyWord::OtherVersion => format!(in alloc;
+            "  {shown} is of another set: lynx extend gives it to this one, where this one extends it; or take an empty folder\n"
+        ),
+        CopyWord::Damaged => match cause_of_damage(host, alloc, folder, server)? {
+            Some(cause) => Ok(cause),
+            None => format!(in alloc; "  {shown} is damaged: take an empty folder\n"),
+        },
+        CopyWord::Store | CopyWord::Memory => cause_of_store(host, alloc, folder, server),
+    }
 }
 
 /// Why the file of the store of that number can't be a database's, in a line; none where it may be.

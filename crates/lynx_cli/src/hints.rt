@@ -1,6 +1,6 @@
 //! The lines behind the one that tells a fault, where they are wanted: where in a text it is and
 //! what was expected, or why the system refused.
-use crate::causes::{cause_of_damage, cause_of_store};
+use crate::causes::{cause_of_copy, cause_of_damage, cause_of_store};
 use crate::fault::Fault;
 use crate::foreign::foreign_lines;
 use crate::input::split_input;
@@ -15,7 +15,7 @@ use lynx_hints::{Part, begin_hints, hint, separator_hint};
 use lynx_lex::TextFault;
 use lynx_reasons::mends;
 use lynx_restore::Undone;
-use lynx_service::{Damage, ServeFault, StoreWord};
+use lynx_service::{CopyWord, Damage, ServeFault, StoreWord};
 use lynx_set::ChainSet;
 use lynx_text::parse;
 use std::alloc::{AllocError, Global};
@@ -232,6 +232,19 @@ impl Hints {
             if let Some(lines) = foreign_lines(host, folder, set, done) {
                 self.lines = Some(lines);
             }
+        }
+    }
+
+    /// Notes why the store of a folder can't follow that server.
+    pub(crate) fn note_copy(
+        &mut self,
+        host: &HostRuntime,
+        folder: &str,
+        server: u8,
+        word: CopyWord,
+    ) {
+        if self.is_wanted {
+            self.lines = cause_of_copy(host, host.alloc(), folder, server, word).ok();
         }
     }
 

@@ -35,9 +35,11 @@ pub struct SampleFlags {
 
 /// What a service does besides, none of it by default.
 #[derive(Clone, Copy, Debug, PartialEq, Eq)]
-pub struct ServeFlags {
+pub struct ServeFlags<'a> {
     /// The port at which its status is told over HTTP.
     pub status: Option<u16>,
+    /// The folder whose stores follow those that are served.
+    pub copy: Option<&'a str>,
     /// What befalls it is told on standard error, a line for each event.
     pub log: bool,
 }
@@ -104,17 +106,19 @@ pub enum Job<'a> {
     Owed {
         folder: &'a str,
     },
-    /// Make stores in the folder, which has none, of what the copies in another hold together.
+    /// Make stores in the folder, which has none, of what the copies in another hold together; of
+    /// what can still be read of them, where the longest fronts are asked for.
     Restore {
         from: &'a str,
         folder: &'a str,
+        longest: bool,
     },
     /// Serve clients at the port, over the stores of the set's servers in the folder.
     Serve {
         set: &'a str,
         folder: &'a str,
         port: u16,
-        flags: ServeFlags,
+        flags: ServeFlags<'a>,
     },
     /// Ask the service at the port what the lines of standard input ask, once its set was compared
     /// where the port of its status is told.

@@ -9,7 +9,7 @@ use crate::fault::Fault;
 use crate::hints::{Hints, Named};
 use crate::job::{INPUT, Job, RunFlags, SampleFlags};
 use crate::reading::text_of;
-use crate::restoring::restore_folder;
+use crate::restoring::{RestorePlace, restore_folder};
 use crate::serving::{ServePlace, serve_file};
 use crate::source::{MAX_INPUT_BYTES, read_all};
 use crate::stored::{StoresIn, rerun_script};
@@ -19,6 +19,7 @@ use lynx_cluster::Host;
 use lynx_draw::Extent;
 use lynx_keep::Keeper;
 use lynx_report::{CheckOptions, DrawOptions};
+use lynx_store::BatchKeeper;
 use lynx_store_files::Stores;
 use std::io;
 use std::io::{BufWriter, Write};
@@ -33,7 +34,7 @@ use std::rt::Files;
 pub fn do_job<
     'a,
     R: Host + Net<Listener = TcpListener, Stream = TcpStream>,
-    K: Keeper + Send + Drop + 'static,
+    K: BatchKeeper + Send + Drop + 'static,
     S: Stores<K> + Sync,
 >(host: &HostRuntime, rt: R, stores: &S, job: Job<'a>, hints: &mut Hints) -> Result<u8, Fault<'a>> {
     let Ok(mut writer) = BufWriter::new(host.alloc(), io::writer(host)) else {
@@ -49,7 +50,7 @@ pub fn do_job<
 fn do_to<
     'a,
     R: Host + Net<Listener = TcpListener, Stream = TcpStream>,
-    K: Keeper + Send + Drop + 'static,
+    K: BatchKeeper + Send + Drop + 'static,
     S: Stores<K> + Sync,
     W: Write,
 >(
@@ -79,8 +80,18 @@ fn do_to<
         Job::Show { store } => show_file(host, store, hints, writer),
         Job::Upgrade { store } => upgrade_file(host, store, hints, writer),
         Job::Extend { folder, set } => { extend_folder(host, stores, folder, set, hints, writer) }
-        Job::Restore { from, folder } => {
-            restore_folder(host, stores, from, folder, hints, writer)
+        Job::Restore {
+            from,
+            folder,
+            longest,
+        } => {
+            restore_folder(
+                host,
+                stores,
+                RestorePlace::new(from, folder, longest),
+                hints,
+                writer,
+            )
         }
         Job::Audit { folder } => audit_folder(host, folder, hints, writer),
         Job::Owed { folder } => list_owed_in(host, folder, hints, writer),

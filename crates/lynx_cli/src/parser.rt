@@ -93,6 +93,9 @@ pub(crate) fn number<'a>(alloc: Global, name: &'a str, help: &'a str) -> Arg<'a>
         .help(help)
 }
 
+/// The option by which damaged copies are restored as far as they go.
+const LONGEST: &str = "longest";
+
 /// The folder of a run over stores.
 fn stores_folder<'a>(alloc: Global) -> Arg<'a> {
     Arg::new(alloc, STORES)
@@ -190,6 +193,11 @@ fn restore_command<'a>(alloc: Global) -> Result<Command<'a>, AllocError> {
         )
         .arg(from)?
         .arg(folder)?
+        .arg(flag(
+            alloc,
+            LONGEST,
+            "Of a copy that is damaged take its first entries, as many as are whole and lawful, and of one that is\nmissing none, where both are refused else",
+        ))?
         .arg(hints_flag(alloc))
 }
 
@@ -377,6 +385,7 @@ fn job_of_command<'a>(name: &str, words: &ArgMatches<'a>) -> Result<Job<'a>, Com
         "restore" => Ok(Job::Restore {
             from: text_at(words, "FROM"),
             folder,
+            longest: flag_at(words, LONGEST),
         }),
         "audit" => Ok(Job::Audit { folder }),
         "owed" => Ok(Job::Owed { folder }),

@@ -2,12 +2,15 @@
 use crate::auditing::{Copies, READING, copies_of};
 use crate::fault::Fault;
 use crate::hints::Hints;
+use crate::salvaged::{Found, found_in};
 use crate::storing::{WIPED, tell};
 use crate::texts::DONE;
 use lynx_keep::Keeper;
 use lynx_names::ServerId;
 use lynx_names::limits::MAX_SERVERS;
-use lynx_restore::{Restored, RestoredServer, restore, restored_lines};
+use lynx_restore::{
+    RestoreFault, Restored, RestoredServer, restore, restore_longest, restored_lines,
+};
 use lynx_store::StoreFault;
 use lynx_store_files::{Stores, store_path};
 use std::fs;
@@ -111,23 +114,58 @@ fn move_all<'a>(
     Ok(())
 }
 
-/// Makes stores in the folder of what the copies in another hold together.
-fn restore_copies<'a, K: Keeper + Drop, S: Stores<K>>(
+/// The path of a folder in which stores can be made for this one, which has none.
+fn prepare<'a, K, S: Stores<K>>(
+    rt: &HostRuntime,
+    stores: &S,
+    folder: &str,
+) -> Result<String, Fault<'a>> {
+    check_vacant(stores, folder)?;
+    let room = room_in(rt, folder)?;
+    make_room(rt, stores, room.as_str())?;
+    Ok(room)
+}
+
+/// Moves the stores that were made to their folder.
+fn moved<'a>(
+    rt: &HostRuntime,
+    room: &str,
+    folder: &str,
+    made: Result<Restored, RestoreFault>,
+) -> Result<Restored, Fault<'a>> {
+    match made {
+        Ok(restored) => {
+            move_all(rt, room, folder, restored.servers.as_slice())?;
+            Ok(restored)
+        }
+        Err(fault) => Err(Fault::of_restoring(fault)),
+    }
+}
+
+/// Makes stores in the folder of what the copies in another hold together, each of which is whole.
+fn restore_whole<'a, K: Keeper + Drop, S: Stores<K>>(
     rt: &HostRuntime,
     stores: &S,
     from: &str,
     folder: &str,
 ) -> Result<Restored, Fault<'a>> {
     let Copies { set, keepers } = copies_of(rt, from)?;
-    check_vacant(stores, folder)?;
-    let room = room_in(rt, folder)?;
-    make_room(rt, stores, room.as_str())?;
-    let restored = match restore(rt.alloc(), &set, keepers, stores, room.as_str()) {
-        Ok(restored) => restored,
-        Err(fault) => return Err(Fault::of_restoring(fault)),
-    };
-    move_all(rt, room.as_str(), folder, restored.servers.as_slice())?;
-    Ok(restored)
+    let room = prepare(rt, stores, folder)?;
+    let made = restore(rt.alloc(), &set, keepers, stores, room.as_str());
+    moved(rt, room.as_str(), folder, made)
+}
+
+/// Makes stores in the folder of what can still be read of the copies in another.
+fn restore_found<'a, K: Keeper + Drop, S: Stores<K>>(
+    rt: &HostRuntime,
+    stores: &S,
+    from: &str,
+    folder: &str,
+) -> Result<Restored, Fault<'a>> {
+    let Found { set, entries } = found_in(rt, from)?;
+    let room = prepare(rt, stores, folder)?;
+    let made = restore_longest(rt.alloc(), &set, entries, stores, room.as_str());
+    moved(rt, room.as_str(), folder, made)
 }
 
 /// Tells how much was restored of each server.
@@ -145,18 +183,46 @@ fn write_restored<'a, W: Write>(
     }
 }
 
+/// From where stores are restored, and to where.
+#[derive(Clone, Copy)]
+pub(crate) struct RestorePlace<'a> {
+    pub(crate) from: &'a str,
+    pub(crate) folder: &'a str,
+    /// Of a copy that is damaged what can be read is taken, of one that is missing nothing.
+    pub(crate) longest: bool,
+}
+
+impl<'a> RestorePlace<'a> {
+    /// From a folder to another.
+    pub(crate) fn new(from: &'a str, folder: &'a str, longest: bool) -> RestorePlace<'a> {
+        RestorePlace {
+            from,
+            folder,
+            longest,
+        }
+    }
+}
+
 /// Makes stores in the folder, which has none, of what the copies in another hold together, and
 /// tells how much of each that is. The copies are only read.
 pub(crate) fn restore_folder<'a, K: Keeper + Drop, S: Stores<K>, W: Write>(
     rt: &HostRuntime,
     stores: &S,
-    from: &str,
-    folder: &str,
+    place: RestorePlace<'_>,
     hints: &mut Hints,
     writer: &mut W,
 ) -> Result<u8, Fault<'a>> {
+    let RestorePlace {
+        from,
+        folder,
+        longest,
+    } = place;
     tell(rt, READING);
-    let restored = restore_copies(rt, stores, from, folder);
+    let restored = if longest {
+        restore_found(rt, stores, from, folder)
+    } else {
+        restore_whole(rt, stores, from, folder)
+    };
     tell(rt, WIPED);
     let done = match &restored {
         Ok(restored) => {

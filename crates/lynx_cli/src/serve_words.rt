@@ -14,6 +14,9 @@ const PORT: &str = "PORT";
 /// The port of the status of a service, or of one that is asked.
 const STATUS: &str = "status";
 
+/// The folder that follows a service.
+const COPY: &str = "copy";
+
 /// The option by which a service tells what befalls it.
 const LOG: &str = "log";
 
@@ -35,6 +38,17 @@ fn status<'a>(alloc: Global, help: &'a str) -> Arg<'a> {
         .help(help)
 }
 
+/// The folder that follows a service.
+fn copy_folder<'a>(alloc: Global) -> Arg<'a> {
+    Arg::new(alloc, COPY)
+        .long(COPY)
+        .value_name("DIR2")
+        .action(ArgAction::Set)
+        .help(
+            "Have the stores of another folder, on another disk say, follow those of DIR: what they hold is at all times\nwhat DIR held, a moment and a thousand entries ago at most, and lynx restore makes stores of it",
+        )
+}
+
 pub(crate) fn serve_command<'a>(alloc: Global) -> Result<Command<'a>, AllocError> {
     let folder = Arg::new(alloc, "DIR").required(true).help(
         "The folder of the stores, server-0.lynx and so on; those that aren't there are made",
@@ -51,6 +65,7 @@ pub(crate) fn serve_command<'a>(alloc: Global) -> Result<Command<'a>, AllocError
             alloc,
             "Tell how the service is over HTTP at this port of 127.0.0.1: /status for people, /metrics for Prometheus,\n/healthz, /set and /chain/ORIGIN:INDEX",
         ))?
+        .arg(copy_folder(alloc))?
         .arg(flag(
             alloc,
             LOG,
@@ -104,11 +119,12 @@ fn status_of(words: &ArgMatches<'_>) -> Option<u16>
 }
 
 /// What a service does besides.
-pub(crate) fn serve_flags_of(words: &ArgMatches<'_>) -> ServeFlags
+pub(crate) fn serve_flags_of<'a>(words: &ArgMatches<'a>) -> ServeFlags<'a>
     ensures { AreServeFlags (rows_of (found_of words.now)) result }
 {
     ServeFlags {
         status: status_of(words),
+        copy: found_at(words, COPY),
         log: flag_at(words, LOG),
     }
 }

@@ -6,6 +6,7 @@ ghost use Rattle.lynx_report.specs.Refusals.{Accepts};
 ghost use Rattle.lynx_cli.specs.Done.{HasRefused};
 ghost use Rattle.lynx_cli.specs.Stopped.{StopsJudging};
 
+use crate::copied::check_apart;
 use crate::fault::Fault;
 use crate::hints::{Hints, Named};
 use crate::job::ServeFlags;
@@ -13,11 +14,11 @@ use crate::parser::VERSION;
 use crate::reading::text_of;
 use crate::texts::{DONE, OFFENDING};
 use lynx_cluster::Host;
-use lynx_keep::Keeper;
 use lynx_notice::Board;
 use lynx_order::Explained;
 use lynx_service::{Log, Progress, ServeFault, Service, StatusPort, serve_stores};
 use lynx_set::ChainSet;
+use lynx_store::BatchKeeper;
 use lynx_store_files::Stores;
 use std::alloc::Global;
 use std::hash::RandomState;
@@ -65,6 +66,21 @@ fn status_port<'a>(host: &HostRuntime, port: Option<u16>) -> Result<Option<Statu
     }
 }
 
+/// What is served, and where; the folder that is to follow is another one.
+fn service_of<'a, 'b>(
+    host: &HostRuntime,
+    place: ServePlace<'b>,
+    flags: ServeFlags<'b>,
+) -> Result<Service<'b>, Fault<'a>> {
+    check_apart(host, place.folder, flags.copy)?;
+    Ok(Service {
+        folder: place.folder,
+        port: place.port,
+        status: status_port(host, flags.status)?,
+        copy: flags.copy,
+    })
+}
+
 /// Notes why nobody can listen at a port of the service, where that is so.
 fn note_ports<R: Net<Listener = TcpListener, Stream = TcpStream>>(
     host: &HostRuntime,
@@ -81,12 +97,19 @@ fn note_ports<R: Net<Listener = TcpListener, Stream = TcpStream>>(
     }
 }
 
+/// Notes why a store can't follow, where that is so.
+fn note_copy(host: &HostRuntime, service: Service<'_>, fault: ServeFault, hints: &mut Hints) {
+    if let (ServeFault::Copy { server, word }, Some(folder)) = (fault, service.copy) {
+        hints.note_copy(host, folder, server, word);
+    }
+}
+
 /// Serves clients over the set of a file, until one of them asks for the end. An offending set is
 /// refused as by a check, and nothing is opened.
 pub(crate) fn serve_file<
     'a,
     R: Host + Net<Listener = TcpListener, Stream = TcpStream>,
-    K: Keeper + Send + Drop + 'static,
+    K: BatchKeeper + Send + Drop + 'static,
     S: Stores<K> + Sync,
     W: Write,
 >(
@@ -95,7 +118,7 @@ pub(crate) fn serve_file<
     stores: &S,
     name: &'a str,
     place: ServePlace<'_>,
-    flags: ServeFlags,
+    flags: ServeFlags<'_>,
     hints: &mut Hints,
     writer: &mut W,
 ) -> Result<u8, Fault<'a>> {
@@ -106,11 +129,7 @@ pub(crate) fn serve_file<
     let Some(set) = accepted? else {
         return Ok(OFFENDING);
     };
-    let service = Service {
-        folder: place.folder,
-        port: place.port,
-        status: status_port(host, flags.status)?,
-    };
+    let service = service_of(host, place, flags)?;
     let log = Log::new(*host, flags.log);
     let progress = Progress::new(host, log);
     let board = Board {
@@ -133,6 +152,7 @@ pub(crate) fn serve_file<
         Ok(Explained::Cycle(_)) => Ok(OFFENDING),
         Err(fault) => {
             note_ports(host, &rt, service, fault, hints);
+            note_copy(host, service, fault, hints);
             let done = Err(Fault::of_serving(fault));
             hints.note_store(host, service.folder, &done);
             hints.note_foreign(host, service.folder, &set, &done);

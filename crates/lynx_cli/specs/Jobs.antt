@@ -3,6 +3,7 @@ use Rattle.std.specs.Prelude.{◌≡◌, ◌≢◌, ◌⊎◌, ℕ, List, Option
 use Rattle.clap.specs.Words.{Row, Text, first_of, one_of}
 use Rattle.lynx_cli.specs.declared.job.Job.{Job}
 use Rattle.lynx_cli.specs.declared.job.Job.TheVariants.{Ask, AskFolder, Audit, Chart, Check, Draw, Extend, Owed, Restore, Run, RunInput, RunStores, Sample, Serve, Show, Upgrade}
+use Rattle.lynx_cli.specs.declared.job.RestorePlace.{RestorePlace}
 use Rattle.lynx_cli.specs.declared.job.RunFlags.{RunFlags}
 use Rattle.lynx_cli.specs.declared.job.SampleFlags.{SampleFlags}
 use Rattle.lynx_cli.specs.declared.job.ServeFlags.{ServeFlags}
@@ -63,7 +64,7 @@ AskedBy command (Ok (Upgrade store)) = command ≡ Some (codes "upgrade")
 AskedBy command (Ok (Extend folder set)) = command ≡ Some (codes "extend")
 AskedBy command (Ok (Serve set folder port flags)) = command ≡ Some (codes "serve")
 AskedBy command (Ok (Audit folder)) = command ≡ Some (codes "audit")
-AskedBy command (Ok (Restore from folder longest)) = command ≡ Some (codes "restore")
+AskedBy command (Ok (Restore place)) = command ≡ Some (codes "restore")
 AskedBy command (Ok (Owed folder)) = command ≡ Some (codes "owed")
 AskedBy command (Ok (Ask set port status)) = command ≡ Some (codes "ask")
 AskedBy command (Ok (AskFolder folder)) = command ≡ Some (codes "ask")
@@ -113,6 +114,12 @@ pub record AreSampleFlags (rows : List Row) (flags : SampleFlags) : Type 0 where
 abbrev pub IsPort : Text → List Row → Option ℕ → Type 0
 IsPort name rows port = one_of name rows ≡ None → port ≡ None
 
+-- the folders of a restoring are those that were found
+pub record IsRestorePlace (rows : List Row) (place : RestorePlace) : Type 0 where
+  pub from : place.from.now ≡ text_at (codes "FROM") rows
+  pub folder : place.folder.now ≡ text_at (codes "DIR") rows
+  pub longest : IsFlag (codes "longest") rows place.longest
+
 -- what a service does besides was found so
 pub record AreServeFlags (rows : List Row) (flags : ServeFlags) : Type 0 where
   pub status : IsPort (codes "status") rows flags.status
@@ -151,9 +158,7 @@ TakesFound rows (Ok (Serve set folder port flags)) =
     (set.now ≡ text_at (codes "SET") rows) × (folder.now ≡ text_at (codes "DIR") rows)
     × AreServeFlags rows flags
 TakesFound rows (Ok (Audit folder)) = folder.now ≡ text_at (codes "DIR") rows
-TakesFound rows (Ok (Restore from folder longest)) =
-    (from.now ≡ text_at (codes "FROM") rows) × (folder.now ≡ text_at (codes "DIR") rows)
-    × IsFlag (codes "longest") rows longest
+TakesFound rows (Ok (Restore place)) = IsRestorePlace rows place
 TakesFound rows (Ok (Owed folder)) = folder.now ≡ text_at (codes "DIR") rows
 TakesFound rows (Ok (Ask set port status)) =
     (set.now ≡ text_at (codes "SET") rows) × IsSome (first_of (codes "PORT") rows)

@@ -33,6 +33,15 @@ pub struct SampleFlags {
     pub effort: u64,
 }
 
+/// From where stores are restored, and to where.
+#[derive(Clone, Copy, Debug, PartialEq, Eq)]
+pub struct RestorePlace<'a> {
+    pub from: &'a str,
+    pub folder: &'a str,
+    /// Of a copy that is damaged what can be read is taken, of one that is missing nothing.
+    pub longest: bool,
+}
+
 /// What a service does besides, none of it by default.
 #[derive(Clone, Copy, Debug, PartialEq, Eq)]
 pub struct ServeFlags<'a> {
@@ -109,9 +118,7 @@ pub enum Job<'a> {
     /// Make stores in the folder, which has none, of what the copies in another hold together; of
     /// what can still be read of them, where the longest fronts are asked for.
     Restore {
-        from: &'a str,
-        folder: &'a str,
-        longest: bool,
+        place: RestorePlace<'a>,
     },
     /// Serve clients at the port, over the stores of the set's servers in the folder.
     Serve {

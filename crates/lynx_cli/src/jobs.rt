@@ -9,7 +9,7 @@ use crate::fault::Fault;
 use crate::hints::{Hints, Named};
 use crate::job::{INPUT, Job, RunFlags, SampleFlags};
 use crate::reading::text_of;
-use crate::restoring::{RestorePlace, restore_folder};
+use crate::restoring::restore_folder;
 use crate::serving::{ServePlace, serve_file};
 use crate::source::{MAX_INPUT_BYTES, read_all};
 use crate::stored::{StoresIn, rerun_script};
@@ -80,19 +80,7 @@ fn do_to<
         Job::Show { store } => show_file(host, store, hints, writer),
         Job::Upgrade { store } => upgrade_file(host, store, hints, writer),
         Job::Extend { folder, set } => { extend_folder(host, stores, folder, set, hints, writer) }
-        Job::Restore {
-            from,
-            folder,
-            longest,
-        } => {
-            restore_folder(
-                host,
-                stores,
-                RestorePlace::new(from, folder, longest),
-                hints,
-                writer,
-            )
-        }
+        Job::Restore { place } => restore_folder(host, stores, place, hints, writer),
         Job::Audit { folder } => audit_folder(host, folder, hints, writer),
         Job::Owed { folder } => list_owed_in(host, folder, hints, writer),
         Job::Serve {

@@ -5,7 +5,7 @@
 pub use fault::Fault;
 pub use hints::Hints;
 pub use input::split_input;
-pub use job::{CommandFault, INPUT, Job, RunFlags, SampleFlags, ServeFlags};
+pub use job::{CommandFault, INPUT, Job, RestorePlace, RunFlags, SampleFlags, ServeFlags};
 pub use jobs::do_job;
 pub use parser::{command, job_of, wants_hints};
 pub use source::{InputFault, MAX_FILE_BYTES, MAX_INPUT_BYTES, read_all};

@@ -1,10 +1,12 @@
 //! The words of the command line.
 ghost use Rattle.std.specs.Prelude.{◌≡◌, Ok, None, Some, codes, option_map};
 ghost use Rattle.clap.specs.Words.{first_of, found_of, rows_of, subcommand_name_of, subcommand_rows_of};
-ghost use Rattle.lynx_cli.specs.Jobs.{AreFlags, AreSampleFlags, AskedBy, IsFlag, TakesFound, TakesWords, no_flags, text_at};
+ghost use Rattle.lynx_cli.specs.Jobs.{AreFlags, AreSampleFlags, AskedBy, IsFlag, IsRestorePlace, TakesFound, TakesWords, no_flags, text_at};
 
 use crate::draw_words::{draw_command, job_of_drawing};
-use crate::job::{CommandFault, INPUT, Job, NO_FLAGS, RunFlags, SampleFlags, job_of_run};
+use crate::job::{
+    CommandFault, INPUT, Job, NO_FLAGS, RestorePlace, RunFlags, SampleFlags, job_of_run,
+};
 use crate::sample_words::{BEGINS, CYCLE, EFFORT, SEED, sample_command};
 use crate::serve_words::{ask_command, job_of_ask, port_of, serve_command, serve_flags_of};
 use clap::{Arg, ArgAction, ArgMatches, Command};
@@ -348,6 +350,17 @@ pub fn wants_hints(matches: &ArgMatches<'_>) -> bool {
     }
 }
 
+/// From where stores are restored, and to where.
+fn restore_place_of<'a>(words: &ArgMatches<'a>) -> RestorePlace<'a>
+    ensures { IsRestorePlace (rows_of (found_of words.now)) result }
+{
+    RestorePlace {
+        from: text_at(words, "FROM"),
+        folder: text_at(words, "DIR"),
+        longest: flag_at(words, LONGEST),
+    }
+}
+
 /// What a command and the words behind it ask for.
 fn job_of_command<'a>(name: &str, words: &ArgMatches<'a>) -> Result<Job<'a>, CommandFault>
     ensures asked { AskedBy (Some name.now) result }
@@ -383,9 +396,7 @@ fn job_of_command<'a>(name: &str, words: &ArgMatches<'a>) -> Result<Job<'a>, Com
             flags: serve_flags_of(words),
         }),
         "restore" => Ok(Job::Restore {
-            from: text_at(words, "FROM"),
-            folder,
-            longest: flag_at(words, LONGEST),
+            place: restore_place_of(words),
         }),
         "audit" => Ok(Job::Audit { folder }),
         "owed" => Ok(Job::Owed { folder }),

@@ -2,6 +2,7 @@
 use crate::auditing::{Copies, READING, copies_of};
 use crate::fault::Fault;
 use crate::hints::Hints;
+use crate::job::RestorePlace;
 use crate::salvaged::{Found, found_in};
 use crate::storing::{WIPED, tell};
 use crate::texts::DONE;
@@ -180,26 +181,6 @@ fn write_restored<'a, W: Write>(
     match writer.write_all(lines.as_slice()) {
         Ok(()) => Ok(DONE),
         Err(_) => Err(Fault::Write),
-    }
-}
-
-/// From where stores are restored, and to where.
-#[derive(Clone, Copy)]
-pub(crate) struct RestorePlace<'a> {
-    pub(crate) from: &'a str,
-    pub(crate) folder: &'a str,
-    /// Of a copy that is damaged what can be read is taken, of one that is missing nothing.
-    pub(crate) longest: bool,
-}
-
-impl<'a> RestorePlace<'a> {
-    /// From a folder to another.
-    pub(crate) fn new(from: &'a str, folder: &'a str, longest: bool) -> RestorePlace<'a> {
-        RestorePlace {
-            from,
-            folder,
-            longest,
-        }
     }
 }
 

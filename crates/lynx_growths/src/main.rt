@@ -101,7 +101,6 @@ const CALLS: &[(&str, Call)] = &[
     ),
     ("World::apply of a waking", Call::World(WorldCall::Wake)),
     ("World::apply of a loss", Call::World(WorldCall::Lose)),
-    ("World::apply of a restart", Call::World(WorldCall::Restart)),
     ("World::cells", Call::World(WorldCall::Cells)),
     ("explain", Call::World(WorldCall::Explain)),
     ("owed_hops", Call::World(WorldCall::Owed)),

@@ -24,8 +24,6 @@ pub enum WorldCall {
     Wake,
     /// Its message is lost.
     Lose,
-    /// The payer is opened again.
-    Restart,
     /// All cells are listed.
     Cells,
     /// The run is explained.
@@ -49,9 +47,6 @@ fn event(alloc: Global, call: WorldCall) -> Result<Event, Memory> {
         WorldCall::Deliver => deliver(1)?,
         WorldCall::Wake => Event::Wake { server: server(1)? },
         WorldCall::Lose => Event::Lost { chain, hop: 1 },
-        WorldCall::Restart => Event::Restart {
-            server: ServerId::first(),
-        },
         _ => begin(alloc, PAY)?,
     })
 }

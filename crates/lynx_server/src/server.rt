@@ -250,6 +250,14 @@ impl<K: Keeper> Server<K> {
         }
     }
 
+    /// Lets go of all that it holds. What it did stays: of a server that runs and acknowledged
+    /// nothing this is what an opening over its keeper gives, without a look at what that keeps.
+    pub fn drop_held(&mut self)
+        ensures { self.new ≡ record self.old { held = [] } }
+    {
+        self.held.clear();
+    }
+
     /// A begin of a server that runs.
     fn try_begin(
         &mut self,

@@ -58,6 +58,13 @@ impl HeldBuffer {
     {
         self.messages.retain(|other| !is_for(chain, hop, other));
     }
+
+    /// Lets go of all. The room stays.
+    pub fn clear(&mut self)
+        ensures { self.new ≡ [] }
+    {
+        self.messages.clear();
+    }
 }
 
 /// The message is for that hop of the chain.

@@ -3,7 +3,6 @@ pub mod Servers
 pub mod Finding
 pub mod HeldSent
 pub mod Stepping
-pub mod Reopening
 pub mod Starting
 pub mod Growing
 pub mod Members

@@ -7,8 +7,8 @@ ghost use Rattle.lynx_world.specs.inner.Calls.{HasBegun, HasDelivered, HasWoken,
 use crate::added::{Added, note};
 use lynx_entry::{Answer, Delivered, Message, Outcome, Request};
 use lynx_keep::MemoryKeeper;
-use lynx_names::{Memory, ServerId, Stamp, TryCopy};
-use lynx_server::{OpenFault, Server, Woken};
+use lynx_names::{Memory, ServerId, Stamp};
+use lynx_server::{Server, Woken};
 use std::alloc::Global;
 
 /// A begin at this server.
@@ -103,32 +103,11 @@ pub(crate) fn waking(server: ServerId, woken: Option<Woken>) -> Outcome
     }
 }
 
-/// Opens the server again over a copy of what it keeps. The new server is opened beside the old
-/// one, so want of memory leaves that as it was.
-pub(crate) fn restart_at(alloc: Global, here: &mut Server<MemoryKeeper>) -> Result<(), Memory>
-    requires runs { here.old.is_stopped ≡ false }
-    requires unmarked { here.old.acknowledged ≡ [] }
-    ensures ok { OnOk result (HasAdded here.old None [] here.new) }
-    ensures err { OnErr result (here.new ≡ here.old) }
+/// What the server held is gone. What it did stays, for its keeper has all of it: opened over that
+/// once more it would be the same.
+pub(crate) fn restart_at(here: &mut Server<MemoryKeeper>)
+    requires { here.old.is_stopped ≡ false }
+    ensures { HasAdded here.old None [] here.new }
 {
-    // The history is lawful, so what is kept of it isn't damaged.
-    let _ = here.history();
-    let keeper = here.keeper().copy(alloc)?;
-    match Server::open(alloc, here.set(), here.server(), keeper) {
-        Ok(opened) => {
-            *here = opened;
-            Ok(())
-        }
-        Err(fault) => Err(want_of_memory(fault)),
-    }
-}
-
-/// The only fault of opening what a server that runs keeps in memory.
-fn want_of_memory(fault: OpenFault) -> Memory
-    requires { fault ≡ OpenFault.Memory }
-{
-    match fault {
-        OpenFault::Memory => Memory,
-        OpenFault::Damaged { .. } | OpenFault::Store => unreachable!(),
-    }
+    here.drop_held();
 }

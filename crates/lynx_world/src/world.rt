@@ -263,16 +263,15 @@ impl World {
     }
 
     /// What the server kept stays, and what it held is gone.
-    fn restart(&mut self, alloc: Global, server: ServerId) -> Result<Outcome, Memory>
-        ensures ok { IfOk result (λ outcome. record { outcome = outcome; world = self.new }
-            ≡ step MAX_HELD self.old (Event.Restart server)) }
-        ensures err { OnErr result (self.new ≡ self.old) }
+    fn restart(&mut self, server: ServerId) -> Outcome
+        ensures { record { outcome = result; world = self.new }
+            ≡ step MAX_HELD self.old (Event.Restart server) }
     {
         if !self.has_server(server) {
-            return Ok(Outcome::NoServer);
+            return Outcome::NoServer;
         }
-        restart_at(alloc, &mut self.servers[server.index()])?;
-        Ok(Outcome::Restarted { server })
+        restart_at(&mut self.servers[server.index()]);
+        Outcome::Restarted { server }
     }
 
     /// One event, or want of memory, which changes nothing.
@@ -290,13 +289,13 @@ impl World {
             Event::Deliver { chain, hop } => self.deliver(alloc, chain, hop),
             Event::Wake { server } => self.wake(alloc, server),
             Event::Lost { chain, hop } => self.lose(alloc, chain, hop),
-            Event::Restart { server } => self.restart(alloc, server),
+            Event::Restart { server } => Ok(self.restart(server)),
         }
     }
 
     /// One event. A begin, a delivery and a waking take the work of their hop and a few look-ups,
-    /// whatever the number of servers; a restart goes over all that its server keeps. Want of
-    /// memory is an outcome of its own, and changes nothing.
+    /// whatever the number of servers; a restart that of letting go what was held. Want of memory
+    /// is an outcome of its own, and changes nothing.
     pub fn apply(&mut self, alloc: Global, event: Event) -> Outcome
         ensures step { ((result ≡ Outcome.Memory) × (self.new ≡ self.old))
             ⊎ (record { outcome = result; world = self.new } ≡ step MAX_HELD self.old event) }

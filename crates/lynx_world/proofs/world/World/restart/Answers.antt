@@ -6,8 +6,8 @@ use Rattle.lynx_world.specs.Worlds.{WorldState}
 use Rattle.lynx_world.proofs.Stepping.{restarted, server_found, taken}
 use Rattle.lynx_world.proofs.world.World.restart.Goals as goal
 
-pub invariant_of-self-2 : goal.invariant_of-self-2
-invariant_of-self-2 c =
+pub invariant_of-self : goal.invariant_of-self
+invariant_of-self c =
     let set = c.self.inside.set in
     let servers = c.self.inside.servers.items in
     let order = c.self.inside.order.items in
@@ -16,11 +16,11 @@ invariant_of-self-2 c =
     let within : nat_lt server set.servers ≡ true = ap (λ (w : WorldState). is_server w server) c.self.view_is ∙ sym c.has_server.ensures ∙ c.if-not-has_server.false in
     let there = server_found set servers order c.index.result server old c.self.invariant c.index.ensures.value within c.index_mut.ensures.value in
     (taken set servers order _ _ c.index.result server c.restart_at.new.here _ order
-    (restarted set servers order server old c.restart_at.new.here c.self.invariant there within c.in_ok-restart_at.ensures.ok)
+    (restarted set servers order server old c.restart_at.new.here c.self.invariant there within c.restart_at.ensures)
     c.index.ensures.value refl).are
 
-pub returns-clause-ok : goal.returns-clause-ok
-returns-clause-ok c =
+pub returns : goal.returns
+returns c =
     let set = c.self.inside.set in
     let servers = c.self.inside.servers.items in
     let order = c.self.inside.order.items in
@@ -29,6 +29,6 @@ returns-clause-ok c =
     let within : nat_lt server set.servers ≡ true = ap (λ (w : WorldState). is_server w server) c.self.view_is ∙ sym c.has_server.ensures ∙ c.if-not-has_server.false in
     let there = server_found set servers order c.index.result server old c.self.invariant c.index.ensures.value within c.index_mut.ensures.value in
     let its = taken set servers order _ _ c.index.result server c.restart_at.new.here _ order
-    (restarted set servers order server old c.restart_at.new.here c.self.invariant there within c.in_ok-restart_at.ensures.ok)
+    (restarted set servers order server old c.restart_at.new.here c.self.invariant there within c.restart_at.ensures)
     c.index.ensures.value refl in
     its.is ∙ ap (λ (w : WorldState). step MAX_HELD w (Restart server)) c.self.view_is

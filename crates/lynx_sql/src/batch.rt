@@ -5,7 +5,7 @@ ghost use Rattle.sqlite.specs.Tree.{Trees};
 ghost use Rattle.sqlite.specs.Held.{state};
 ghost use Rattle.sqlite.specs.State.{HasCleanDisk, Survives};
 ghost use Rattle.lynx_sql.specs.declared.version.StoreVersion.{StoreVersion};
-ghost use Rattle.lynx_sql.specs.Acts.{AreNext};
+ghost use Rattle.lynx_sql.specs.Acts.{AreNext, version_of};
 ghost use Rattle.lynx_sql.specs.Contents.{Contents, bodies_in, with_bodies};
 ghost use Rattle.lynx_sql.specs.Tables.{store_schema};
 ghost use Rattle.lynx_sql.specs.Steps.{AddsEntries, NotesActs, Keeps, Holds};
@@ -14,7 +14,6 @@ ghost use Rattle.lynx_sql.specs.Steps.{InTransaction};
 use crate::acts::{Acted, insert_acts};
 use crate::cells::write_cells;
 use crate::entries::insert_entry;
-use crate::schema::store_version;
 use crate::version::StoreVersion;
 use lynx_cells::Changes;
 use sqlite::{Alter, Connection, Error, ErrorCode, Transaction};
@@ -69,10 +68,11 @@ fn note_acts<S: Alter>(
 }
 
 /// Keeps the bodies of the next entries, of which the first has this place, the changes of their
-/// cells and the rows of their hops, all or nothing, in one transaction, however many they are. A
-/// store of version 1 has no rows of hops.
+/// cells and the rows of their hops, all or nothing, in one transaction, however many they are. The
+/// version is that of the store, which its opening found: a store of version 1 has no rows of hops.
 pub fn write_entries<S: Alter>(
     conn: &mut Connection<S>,
+    version: StoreVersion,
     place: u32,
     bodies: &[Vec<u8>],
     changes: &Changes,
@@ -84,14 +84,16 @@ pub fn write_entries<S: Alter>(
     ensures ok { HasCleanDisk (state S.Store conn.new)
         → AreNext acts.now place (length bodies.now)
         → OnOk result ((before : Contents)
-        → Keeps (state S.Store conn.old) before → place ≡ length before.bodies
+        → Keeps (state S.Store conn.old) before → version_of before.acted ≡ version
+        → place ≡ length before.bodies
         → Keeps (state S.Store conn.new)
         (with_bodies before (bodies_in bodies.now) changes.now acts.now)) }
     // A stop leaves what it could leave before the call, or the tables with all of the entries.
     ensures stop { HasCleanDisk (state S.Store conn.new)
         → AreNext acts.now place (length bodies.now)
         → (before : Contents)
-        → Keeps (state S.Store conn.old) before → place ≡ length before.bodies
+        → Keeps (state S.Store conn.old) before → version_of before.acted ≡ version
+        → place ≡ length before.bodies
         → (db : Trees) → (state S.Store conn.new).may_leave db
         → (state S.Store conn.old).may_leave db
         ⊎ Holds db (with_bodies before (bodies_in bodies.now) changes.now acts.now) }
@@ -99,9 +101,6 @@ pub fn write_entries<S: Alter>(
     if !conn.is_autocommit() {
         return Err(Error::SqliteFailure(ErrorCode::TransactionState));
     }
-    let Some(version) = store_version(conn.schema()) else {
-        return Err(Error::SqliteFailure(ErrorCode::NotADatabase));
-    };
     let mut tx = conn.transaction();
     insert_entries(&mut tx, place, bodies)?;
     write_cells(&mut tx, changes.list())?;

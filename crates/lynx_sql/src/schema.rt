@@ -1,10 +1,9 @@
 //! Whether the schema of a database is that of a store.
-ghost use Rattle.std.specs.Prelude.{◌≡◌, ◌≢◌, ◌↔◌, ◌∷◌, [], Some, None, true, codes, IsTrue, IfNone, IfSome};
+ghost use Rattle.std.specs.Prelude.{◌≡◌, ◌↔◌, ◌∷◌, [], Some, None, true, codes, IsTrue};
 ghost use Rattle.sqlite_value.specs.Keys.{plain};
 ghost use Rattle.lynx_sql.specs.declared.version.StoreVersion.{StoreVersion};
 ghost use Rattle.lynx_sql.specs.Tables.{key_column, column_of, numbered_table, store_schema, no_schema, meta, entry, cell, cell_index, acted, place_index, hop_index, IsNamed, IsKeyed, IsPlainTable, IsStoreSchema};
 
-use crate::version::StoreVersion;
 use sqlite_items::Items;
 use sqlite_schema::schema::{Column, Index, Kind, Schema, Table};
 use sqlite_value::keys::{Collation, Order};
@@ -310,21 +309,6 @@ pub fn is_second(schema: &Schema) -> bool
         && is_cell_index(index)
         && is_place_index(places)
         && is_hop_index(hops)
-}
-
-/// The version of the store whose tables a database has; None where it has others.
-pub fn store_version(schema: &Schema) -> Option<StoreVersion>
-    ensures some { IfSome result (λ version. schema.now ≡ store_schema version) }
-    ensures none { IfNone result ((version : StoreVersion)
-        → schema.now ≢ store_schema version) }
-{
-    if is_first(schema) {
-        return Some(StoreVersion::One);
-    }
-    if is_second(schema) {
-        return Some(StoreVersion::Two);
-    }
-    None
 }
 
 /// Whether a database has the tables of a store, of either version, and nothing else.

@@ -14,14 +14,14 @@ use Rattle.lynx_keep.specs.Stored.{form_of, HasForm}
 use Rattle.lynx_sql.specs.declared.acts.Acted.{Acted}
 use Rattle.lynx_sql.specs.declared.version.StoreVersion.{StoreVersion}
 use Rattle.lynx_sql.specs.declared.version.StoreVersion.TheVariants.{One, Two}
-use Rattle.lynx_sql.specs.Acts.{AreNext, with_acts}
+use Rattle.lynx_sql.specs.Acts.{AreNext, version_of, with_acts}
 use Rattle.lynx_sql.specs.Contents.{Contents, bodies_in, with_bodies}
 use Rattle.lynx_sql.specs.Steps.{Holds, Keeps}
 use Rattle.lynx_store.specs.Acts.{act_at, acted_of, acts_from, added, with_act}
 use Rattle.lynx_store.specs.Batches.{with_entries}
 use Rattle.lynx_store.specs.Stored.{bodies_of, contents_of, title_for, Owner, IsKept}
 use Rattle.lynx_store.proofs.ActLemmas.{Lies, acts-append, lie_from, lows}
-use Rattle.lynx_store.proofs.Kept.{bodies-append, length-bodies}
+use Rattle.lynx_store.proofs.Kept.{bodies-append, length-bodies, version_kept}
 use Rattle.lynx_store.proofs.RowsRead.{take_next}
 
 -- ---- loops
@@ -93,23 +93,23 @@ module _ (old new : State) (owner : Owner) (count : ℕ) (entries : History) (ve
       λ i. record { title = title_for owner; bodies = all i; cells = applied changes before.cells; acted = own i }
 
   pub kept_with_all : (all : ℕ) → all ≡ count + length entries
-      → (AreNext acts count (length vectors) → (contents : Contents) → Keeps old contents → count ≡ length contents.bodies
+      → (AreNext acts count (length vectors) → (contents : Contents) → Keeps old contents → version_of contents.acted ≡ owner.version → count ≡ length contents.bodies
       → Keeps new (with_bodies contents (bodies_in vectors) changes acts))
       → (before : KeptState) → IsKept old owner count before → IsKept new owner all (with_entries before entries changes)
   kept_with_all all total wrote before kept = record {
     tables = subst (Keeps new) (same_contents before kept.counted)
-        (wrote own_next (contents_of owner before) kept.tables (kept.counted ∙ sym (length-bodies before.entries)));
+        (wrote own_next (contents_of owner before) kept.tables (version_kept owner.version before.entries) (kept.counted ∙ sym (length-bodies before.entries)));
     counted = omega (arith, total, kept.counted, length-append before.entries entries);
     formed = all-append HasForm before.entries entries kept.formed formed;
   }
 
-  pub left_with_all : (AreNext acts count (length vectors) → (contents : Contents) → Keeps old contents → count ≡ length contents.bodies
+  pub left_with_all : (AreNext acts count (length vectors) → (contents : Contents) → Keeps old contents → version_of contents.acted ≡ owner.version → count ≡ length contents.bodies
       → (db : Trees) → new.may_leave db
       → old.may_leave db ⊎ Holds db (with_bodies contents (bodies_in vectors) changes acts))
       → ((db : Trees) → old.is_open ≡ true → old.may_leave db → db ≡ old.committed.trees) → (before : KeptState) → IsKept old owner count before
       → (db : Trees) → new.may_leave db → Holds db (contents_of owner before) ⊎ Holds db (contents_of owner (with_entries before entries changes))
   left_with_all stop settled before kept db may =
-      elim (stop own_next (contents_of owner before) kept.tables (kept.counted ∙ sym (length-bodies before.entries)) db may) [
+      elim (stop own_next (contents_of owner before) kept.tables (version_kept owner.version before.entries) (kept.counted ∙ sym (length-bodies before.entries)) db may) [
         | inl earlier ↦ inl (subst (λ trees. Holds trees (contents_of owner before)) (sym (settled db kept.tables.is_open earlier)) kept.tables.tables)
         | inr whole ↦ inr (subst (Holds db) (same_contents before kept.counted) whole)
       ]

@@ -12,7 +12,7 @@ use Rattle.lynx_keep.specs.Stored.{form_of, HasForm}
 use Rattle.lynx_sql.specs.declared.acts.Acted.{Acted}
 use Rattle.lynx_sql.specs.declared.version.StoreVersion.{StoreVersion}
 use Rattle.lynx_sql.specs.declared.version.StoreVersion.TheVariants.{One, Two}
-use Rattle.lynx_sql.specs.Acts.{ArePlaced, acts_in, with_acted}
+use Rattle.lynx_sql.specs.Acts.{ArePlaced, acts_in, version_of, with_acted}
 use Rattle.lynx_sql.specs.Contents.{Contents, title_of, titled, with_body}
 use Rattle.lynx_sql.specs.Steps.{Holds, Keeps}
 use Rattle.lynx_store.specs.Acts.{act_at, acted_of}
@@ -31,6 +31,11 @@ pub formed-append : (entries : History) (entry : Entry) → AllByRecursion HasFo
 formed-append [] entry all formed = (formed, tt)
 formed-append (e ∷ es) entry all formed = (all.0, formed-append es entry all.1 formed)
 
+-- a store of a version keeps hops as that does
+pub version_kept : (version : StoreVersion) (entries : History) → version_of (acted_of version entries) ≡ version
+version_kept One entries = refl
+version_kept Two entries = refl
+
 -- a commit of one entry, whose body is its form, and of its hop
 module _ (old new : State) (owner : Owner) (count : ℕ) (entry : Entry) (body : List ℕ) (changes : ChangeSet) (acted : Option Acted)
     (is : body ≡ form_of entry) (hop : acted ≡ act_at count entry) where
@@ -43,21 +48,21 @@ module _ (old new : State) (owner : Owner) (count : ℕ) (entry : Entry) (body :
       ap (with_acted (acted_of owner.version before.entries)) hop ∙ acted-append owner.version before.entries entry count counted in
       λ i. record { title = title_for owner; bodies = all i; cells = applied changes before.cells; acted = acts i }
 
-  pub kept_with : ((contents : Contents) → Keeps old contents → count ≡ length contents.bodies → Keeps new (with_body contents body changes acted))
+  pub kept_with : ((contents : Contents) → Keeps old contents → version_of contents.acted ≡ owner.version → count ≡ length contents.bodies → Keeps new (with_body contents body changes acted))
       → HasForm entry → (before : KeptState) → IsKept old owner count before → IsKept new owner (count + 1) (with_entry before entry changes)
   kept_with wrote formed before kept = record {
     tables = subst (Keeps new) (same_contents before kept.counted)
-        (wrote (contents_of owner before) kept.tables (kept.counted ∙ sym (length-bodies before.entries)));
+        (wrote (contents_of owner before) kept.tables (version_kept owner.version before.entries) (kept.counted ∙ sym (length-bodies before.entries)));
     counted = omega (arith, kept.counted, length-append before.entries (entry ∷ []));
     formed = formed-append before.entries entry kept.formed formed;
   }
 
-  pub left_with : ((contents : Contents) → Keeps old contents → count ≡ length contents.bodies → (db : Trees) → new.may_leave db
+  pub left_with : ((contents : Contents) → Keeps old contents → version_of contents.acted ≡ owner.version → count ≡ length contents.bodies → (db : Trees) → new.may_leave db
       → old.may_leave db ⊎ Holds db (with_body contents body changes acted))
       → ((db : Trees) → old.is_open ≡ true → old.may_leave db → db ≡ old.committed.trees) → (before : KeptState) → IsKept old owner count before
       → (db : Trees) → new.may_leave db → Holds db (contents_of owner before) ⊎ Holds db (contents_of owner (with_entry before entry changes))
   left_with stop settled before kept db may =
-      elim (stop (contents_of owner before) kept.tables (kept.counted ∙ sym (length-bodies before.entries)) db may) [
+      elim (stop (contents_of owner before) kept.tables (version_kept owner.version before.entries) (kept.counted ∙ sym (length-bodies before.entries)) db may) [
         | inl earlier ↦ inl (subst (λ trees. Holds trees (contents_of owner before)) (sym (settled db kept.tables.is_open earlier)) kept.tables.tables)
         | inr whole ↦ inr (subst (Holds db) (same_contents before kept.counted) whole)
       ]

@@ -84,6 +84,7 @@ impl<S: Rising> BatchKeeper for SqlKeeper<S> {
         let acts = acts_from(alloc, self.count, entries)?;
         match write_entries(
             &mut self.conn,
+            self.heading.version,
             self.count,
             bodies.as_slice(),
             changes,

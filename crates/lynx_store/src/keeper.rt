@@ -27,7 +27,7 @@ use std::alloc::Global;
 #[derive(Drop)]
 pub struct SqlKeeper<S: Rising> {
     pub(crate) conn: Connection<S>,
-    heading: Heading,
+    pub(crate) heading: Heading,
     /// How many entries are kept: the place of the next one.
     pub(crate) count: u32,
     faults: u64,
@@ -169,7 +169,14 @@ impl<S: Rising> Keeper for SqlKeeper<S> {
             return Err(self.fail(Cause::NoPlace));
         }
         let acted = act_at(self.count, entry);
-        match write_entry(&mut self.conn, self.count, body.as_slice(), changes, acted) {
+        match write_entry(
+            &mut self.conn,
+            self.heading.version,
+            self.count,
+            body.as_slice(),
+            changes,
+            acted,
+        ) {
             Ok(()) => {
                 self.count += 1;
                 Ok(())

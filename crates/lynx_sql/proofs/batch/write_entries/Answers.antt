@@ -1,4 +1,4 @@
-use Rattle.std.proofs.Common.{◌≡◌, IsTrue, sym, subst, ◌∙◌, arith, rules}
+use Rattle.std.proofs.Common.{IsTrue, ap, sym, subst, ◌≡◌, ◌∙◌, arith, rules}
 use Rattle.sqlite.specs.Tree.{Trees}
 use Rattle.sqlite.specs.State.{HasCleanDisk, Survives}
 use Rattle.sqlite.specs.Held.{state}
@@ -21,16 +21,15 @@ returns-clause-ok g c clean next =
     let last = c.note_acts.new.tx.conn.now in
     let end = c.commit.new.self.0 in
     let begun = c.transaction-tx.ensures.begun in
-    let version = c.in-Some.version in
-    let known : old.schema ≡ store_schema version = sym c.schema.ensures.value ∙ c.in-Some.ensures.some in
+    let version = c.args.version in
     let same : end ≡ c.conn-2-1.given.0 = search rules in
     let end_clean : HasCleanDisk (state g.S.Store end) = search rules in
     let last_clean : HasCleanDisk (state g.S.Store last) = omega (arith, c.commit.ensures.survives.clean) in
     let late_clean : HasCleanDisk (state g.S.Store late) = omega (arith, c.note_acts.ensures.survives.clean) in
     let mid_clean : HasCleanDisk (state g.S.Store mid) = omega (arith, c.write_cells.ensures.survives.clean) in
     let auto : IsTrue c.is_autocommit.result = search rules in
-    on_ok c.commit.result (λ done before keeps at.
-    let there = all_made g.S.Store old tx mid late last begun version known c.args.place c.args.bodies.now c.args.changes.now c.args.acts.now next
+    on_ok c.commit.result (λ done before keeps is at.
+    let there = all_made g.S.Store old tx mid late last begun version (keeps.schema ∙ ap store_schema is) c.args.place c.args.bodies.now c.args.changes.now c.args.acts.now next
     (λ up on has. c.in_ok-insert_entries.ensures.ok mid_clean on up version has)
     (λ up on has. changes_applied (state g.S.Store mid) (state g.S.Store late) c.list.result.now c.args.changes.now c.list.ensures (c.in_ok-write_cells.ensures.ok late_clean on up version has))
     (λ up on has. c.in_ok-note_acts.ensures.ok last_clean on up has)
@@ -38,7 +37,7 @@ returns-clause-ok g c clean next =
     subst (λ h. Keeps (state g.S.Store h) (with_bodies before (bodies_in c.args.bodies.now) c.args.changes.now c.args.acts.now)) same (kept_after (state g.S.Store last) (state g.S.Store end) _ done.1 there)) (c.commit.ensures.ok end_clean)
 
 pub returns-clause-stop : goal.returns-clause-stop
-returns-clause-stop g c clean next before keeps at db may =
+returns-clause-stop g c clean next before keeps is at db may =
     let old = c.args.conn.now in
     let tx = c.transaction-tx.result.conn.now in
     let mid = c.insert_entries.new.tx.conn.now in
@@ -46,15 +45,14 @@ returns-clause-stop g c clean next before keeps at db may =
     let last = c.note_acts.new.tx.conn.now in
     let end = c.commit.new.self.0 in
     let begun = c.transaction-tx.ensures.begun in
-    let version = c.in-Some.version in
-    let known : old.schema ≡ store_schema version = sym c.schema.ensures.value ∙ c.in-Some.ensures.some in
+    let version = c.args.version in
     let same : end ≡ c.conn-2-1.given.0 = search rules in
     let end_clean : HasCleanDisk (state g.S.Store end) = search rules in
     let last_clean : HasCleanDisk (state g.S.Store last) = omega (arith, c.commit.ensures.survives.clean) in
     let late_clean : HasCleanDisk (state g.S.Store late) = omega (arith, c.note_acts.ensures.survives.clean) in
     let mid_clean : HasCleanDisk (state g.S.Store mid) = omega (arith, c.write_cells.ensures.survives.clean) in
     let auto : IsTrue c.is_autocommit.result = search rules in
-    let there = all_made g.S.Store old tx mid late last begun version known c.args.place c.args.bodies.now c.args.changes.now c.args.acts.now next
+    let there = all_made g.S.Store old tx mid late last begun version (keeps.schema ∙ ap store_schema is) c.args.place c.args.bodies.now c.args.changes.now c.args.acts.now next
     (λ up on has. c.in_ok-insert_entries.ensures.ok mid_clean on up version has)
     (λ up on has. changes_applied (state g.S.Store mid) (state g.S.Store late) c.list.result.now c.args.changes.now c.list.ensures (c.in_ok-write_cells.ensures.ok late_clean on up version has))
     (λ up on has. c.in_ok-note_acts.ensures.ok last_clean on up has)

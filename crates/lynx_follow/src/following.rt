@@ -1,5 +1,5 @@
 //! A store that follows a server.
-ghost use Rattle.std.specs.Prelude.{◌≡◌, ◌++◌, ◌↔◌, All, IfOk, IsErrOf, IsTrue, OnOk};
+ghost use Rattle.std.specs.Prelude.{◌≡◌, ◌++◌, All, IfOk, IsErrOf, OnOk};
 ghost use Rattle.lynx_codec.specs.Entries.{IsEntryInRange};
 ghost use Rattle.lynx_entry.specs.Entry.{History};
 ghost use Rattle.lynx_keep.specs.Kept.{HasRisen};
@@ -13,7 +13,7 @@ use lynx_cells::{Cells, Changes};
 use lynx_entry::Entry;
 use lynx_keep::{Cause, KeepFault, Keeper};
 use lynx_names::Memory;
-use lynx_server::OpenFault;
+use lynx_server::{OpenFault, same_cells};
 use lynx_set::ChainSet;
 use lynx_store::BatchKeeper;
 use std::alloc::Global;
@@ -33,15 +33,6 @@ pub struct Follower<K> {
 pub struct Opened<K> {
     pub follower: Follower<K>,
     pub entries: Vec<Entry>,
-}
-
-/// Whether two servers' cells hold the same.
-fn same_cells(alloc: Global, left: &Cells, right: &Cells) -> Result<bool, Memory>
-    ensures { IfOk result (λ same. IsTrue same ↔ (left.now.database ≡ right.now.database)) }
-{
-    let left = left.list(alloc)?;
-    let right = right.list(alloc)?;
-    Ok(left == right)
 }
 
 /// The cells that entries leave.

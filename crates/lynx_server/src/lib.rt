@@ -5,7 +5,7 @@
 pub use books::Books;
 pub use fault::OpenFault;
 pub use hop_steps::{KeptHop, RanMessage, TakenMessage};
-pub use opening::first_unlawful;
+pub use opening::{first_unlawful, same_cells};
 pub use rebuilding::rebuild;
 pub use register::Register;
 pub use server::{Server, Woken};

@@ -30,8 +30,8 @@ pub fn first_unlawful(
     }
 }
 
-/// Whether two servers' cells hold the same.
-fn same_cells(alloc: Global, left: &Cells, right: &Cells) -> Result<bool, Memory>
+/// Whether two servers' cells hold the same. Both are listed for it.
+pub fn same_cells(alloc: Global, left: &Cells, right: &Cells) -> Result<bool, Memory>
     ensures { IfOk result (λ same. IsTrue same ↔ (left.now.database ≡ right.now.database)) }
 {
     let left = left.list(alloc)?;

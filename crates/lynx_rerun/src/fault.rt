@@ -1,4 +1,7 @@
 //! Why a run over stores stops.
+ghost use Rattle.std.specs.Prelude.{◌≡◌};
+ghost use Rattle.lynx_rerun.specs.Faults.{contents_fault, store_fault};
+
 use lynx_names::{Memory, ServerId};
 use lynx_report::RunFault;
 use lynx_server::OpenFault;
@@ -24,7 +27,9 @@ pub enum RerunFault {
 
 impl RerunFault {
     /// The fault of the rows of that server's store, or of its file.
-    pub(crate) fn of_store(server: ServerId, fault: StoreFault) -> RerunFault {
+    pub(crate) fn of_store(server: ServerId, fault: StoreFault) -> RerunFault
+        ensures { result ≡ store_fault server fault }
+    {
         match fault {
             StoreFault::Memory => RerunFault::Run(RunFault::Memory),
             fault => RerunFault::Store { server, fault },
@@ -32,7 +37,9 @@ impl RerunFault {
     }
 
     /// The fault of what that server's store holds.
-    pub(crate) fn of_contents(server: ServerId, fault: OpenFault) -> RerunFault {
+    pub(crate) fn of_contents(server: ServerId, fault: OpenFault) -> RerunFault
+        ensures { result ≡ contents_fault server fault }
+    {
         let fault = match fault {
             OpenFault::Damaged { .. } => StoreFault::Damaged,
             OpenFault::Store => StoreFault::Store,
@@ -43,6 +50,11 @@ impl RerunFault {
 }
 
 impl From<GatherFault> for RerunFault {
+    ghost use Rattle.std.specs.Prelude.{◌≡◌};
+    ghost use Rattle.lynx_rerun.specs.Faults.{gather_fault};
+
+    ghost from_gives = { λ fault told. told ≡ gather_fault fault };
+
     fn from(fault: GatherFault) -> RerunFault {
         match fault {
             GatherFault::Load { server } => RerunFault::of_store(server, StoreFault::Store),
@@ -53,24 +65,44 @@ impl From<GatherFault> for RerunFault {
 }
 
 impl From<RunFault> for RerunFault {
+    ghost use Rattle.std.specs.Prelude.{◌≡◌};
+    ghost use Rattle.lynx_rerun.specs.declared.fault.RerunFault.TheVariants.{Run as OfRun};
+
+    ghost from_gives = { λ fault told. told ≡ OfRun fault };
+
     fn from(fault: RunFault) -> RerunFault {
         RerunFault::Run(fault)
     }
 }
 
 impl From<Memory> for RerunFault {
+    ghost use Rattle.std.specs.Prelude.{◌≡◌};
+    ghost use Rattle.lynx_rerun.specs.Faults.{no_memory};
+
+    ghost from_gives = { λ _ told. told ≡ no_memory };
+
     fn from(_: Memory) -> RerunFault {
         RerunFault::Run(RunFault::Memory)
     }
 }
 
 impl From<AllocError> for RerunFault {
+    ghost use Rattle.std.specs.Prelude.{◌≡◌};
+    ghost use Rattle.lynx_rerun.specs.Faults.{no_memory};
+
+    ghost from_gives = { λ _ told. told ≡ no_memory };
+
     fn from(_: AllocError) -> RerunFault {
         RerunFault::Run(RunFault::Memory)
     }
 }
 
 impl<T: Drop> From<AllocFailed<T>> for RerunFault {
+    ghost use Rattle.std.specs.Prelude.{◌≡◌};
+    ghost use Rattle.lynx_rerun.specs.Faults.{no_memory};
+
+    ghost from_gives = { λ _ told. told ≡ no_memory };
+
     fn from(_: AllocFailed<T>) -> RerunFault {
         RerunFault::Run(RunFault::Memory)
     }

@@ -1,3 +1,4 @@
+pub mod Faults
 pub mod Refills
 pub mod Restored
 pub mod Longest

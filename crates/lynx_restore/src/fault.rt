@@ -1,4 +1,7 @@
 //! Why copies weren't restored.
+ghost use Rattle.std.specs.Prelude.{◌≡◌};
+ghost use Rattle.lynx_restore.specs.Faults.{contents_fault, filling_fault, store_fault};
+
 use crate::refill_fault::RefillFault;
 use lynx_cluster::StartFault;
 use lynx_names::{Memory, ServerId};
@@ -28,7 +31,9 @@ pub enum RestoreFault {
 
 impl RestoreFault {
     /// The fault of the new store of that server.
-    pub(crate) fn of_store(server: ServerId, fault: StoreFault) -> RestoreFault {
+    pub(crate) fn of_store(server: ServerId, fault: StoreFault) -> RestoreFault
+        ensures { result ≡ store_fault server fault }
+    {
         match fault {
             StoreFault::Memory => RestoreFault::Memory,
             fault => RestoreFault::Store { server, fault },
@@ -36,7 +41,9 @@ impl RestoreFault {
     }
 
     /// The fault of what the new store of that server holds.
-    pub(crate) fn of_contents(server: ServerId, fault: OpenFault) -> RestoreFault {
+    pub(crate) fn of_contents(server: ServerId, fault: OpenFault) -> RestoreFault
+        ensures { result ≡ contents_fault server fault }
+    {
         let fault = match fault {
             OpenFault::Damaged { .. } => StoreFault::Damaged,
             OpenFault::Store => StoreFault::Store,
@@ -46,7 +53,9 @@ impl RestoreFault {
     }
 
     /// The fault of filling the new store of that server.
-    pub(crate) fn of_filling(server: ServerId, fault: RefillFault) -> RestoreFault {
+    pub(crate) fn of_filling(server: ServerId, fault: RefillFault) -> RestoreFault
+        ensures { result ≡ filling_fault server fault }
+    {
         let fault = match fault {
             RefillFault::Differs => StoreFault::Damaged,
             RefillFault::Store => StoreFault::Store,
@@ -57,6 +66,11 @@ impl RestoreFault {
 }
 
 impl From<StartFault> for RestoreFault {
+    ghost use Rattle.std.specs.Prelude.{◌≡◌};
+    ghost use Rattle.lynx_restore.specs.Faults.{start_fault};
+
+    ghost from_gives = { λ fault told. told ≡ start_fault fault };
+
     fn from(fault: StartFault) -> RestoreFault {
         match fault {
             StartFault::Open { server, fault } => RestoreFault::Copy { server, fault },
@@ -69,6 +83,11 @@ impl From<StartFault> for RestoreFault {
 }
 
 impl From<WeaveFault> for RestoreFault {
+    ghost use Rattle.std.specs.Prelude.{◌≡◌};
+    ghost use Rattle.lynx_restore.specs.Faults.{apart_fault};
+
+    ghost from_gives = { λ fault told. told ≡ apart_fault fault };
+
     fn from(fault: WeaveFault) -> RestoreFault {
         match fault {
             WeaveFault::Mismatch { server, place } => RestoreFault::Copy {
@@ -82,18 +101,33 @@ impl From<WeaveFault> for RestoreFault {
 }
 
 impl From<Memory> for RestoreFault {
+    ghost use Rattle.std.specs.Prelude.{◌≡◌};
+    ghost use Rattle.lynx_restore.specs.declared.fault.RestoreFault.TheVariants.{Memory as WantOfMemory};
+
+    ghost from_gives = { λ _ told. told ≡ WantOfMemory };
+
     fn from(_: Memory) -> RestoreFault {
         RestoreFault::Memory
     }
 }
 
 impl From<AllocError> for RestoreFault {
+    ghost use Rattle.std.specs.Prelude.{◌≡◌};
+    ghost use Rattle.lynx_restore.specs.declared.fault.RestoreFault.TheVariants.{Memory as WantOfMemory};
+
+    ghost from_gives = { λ _ told. told ≡ WantOfMemory };
+
     fn from(_: AllocError) -> RestoreFault {
         RestoreFault::Memory
     }
 }
 
 impl<T: Drop> From<AllocFailed<T>> for RestoreFault {
+    ghost use Rattle.std.specs.Prelude.{◌≡◌};
+    ghost use Rattle.lynx_restore.specs.declared.fault.RestoreFault.TheVariants.{Memory as WantOfMemory};
+
+    ghost from_gives = { λ _ told. told ≡ WantOfMemory };
+
     fn from(_: AllocFailed<T>) -> RestoreFault {
         RestoreFault::Memory
     }

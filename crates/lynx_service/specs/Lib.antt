@@ -1,2 +1,4 @@
+pub mod Faults
 pub mod Desks
+pub mod Places
 pub mod Services

@@ -1,4 +1,7 @@
 //! Why a service didn't begin, or didn't end well.
+ghost use Rattle.std.specs.Prelude.{◌≡◌};
+ghost use Rattle.lynx_service.specs.Faults.{contents_fault, copy_fault, missing_fault, store_fault};
+
 use lynx_cluster::{CloseFault, StartFault};
 use lynx_lines::WriteFailed;
 use lynx_names::{Memory, ServerId};
@@ -52,6 +55,11 @@ pub enum CopyWord {
 }
 
 impl From<StoreFault> for CopyWord {
+    ghost use Rattle.std.specs.Prelude.{◌≡◌};
+    ghost use Rattle.lynx_service.specs.Faults.{word_of_store};
+
+    ghost from_gives = { λ fault word. word ≡ word_of_store fault };
+
     fn from(fault: StoreFault) -> CopyWord {
         match fault {
             StoreFault::OtherSet => CopyWord::OtherSet,
@@ -64,6 +72,11 @@ impl From<StoreFault> for CopyWord {
 }
 
 impl From<OpenFault> for CopyWord {
+    ghost use Rattle.std.specs.Prelude.{◌≡◌};
+    ghost use Rattle.lynx_service.specs.Faults.{word_of_contents};
+
+    ghost from_gives = { λ fault word. word ≡ word_of_contents fault };
+
     fn from(fault: OpenFault) -> CopyWord {
         match fault {
             OpenFault::Damaged { .. } => CopyWord::Damaged,
@@ -74,6 +87,11 @@ impl From<OpenFault> for CopyWord {
 }
 
 impl From<Memory> for CopyWord {
+    ghost use Rattle.std.specs.Prelude.{◌≡◌};
+    ghost use Rattle.lynx_service.specs.declared.fault.CopyWord.TheVariants.{Memory as WantOfMemory};
+
+    ghost from_gives = { λ _ word. word ≡ WantOfMemory };
+
     fn from(_: Memory) -> CopyWord {
         CopyWord::Memory
     }
@@ -134,7 +152,9 @@ pub enum ServeFault {
 
 impl ServeFault {
     /// The fault of the rows of that server's store, or of its file.
-    pub fn of_store(server: ServerId, fault: StoreFault) -> ServeFault {
+    pub fn of_store(server: ServerId, fault: StoreFault) -> ServeFault
+        ensures { result ≡ store_fault server fault }
+    {
         let word = match fault {
             StoreFault::OtherSet => StoreWord::OtherSet,
             StoreFault::OtherVersion => StoreWord::OtherVersion,
@@ -147,7 +167,9 @@ impl ServeFault {
     }
 
     /// Why the store that is to follow that server can't.
-    pub(crate) fn of_copy(server: ServerId, word: CopyWord) -> ServeFault {
+    pub(crate) fn of_copy(server: ServerId, word: CopyWord) -> ServeFault
+        ensures { result ≡ copy_fault server word }
+    {
         let server = server.number();
         match word {
             CopyWord::Memory => ServeFault::Memory,
@@ -156,14 +178,18 @@ impl ServeFault {
     }
 
     /// The store of that server isn't there, where others have entries.
-    pub(crate) fn of_missing(server: ServerId) -> ServeFault {
+    pub fn of_missing(server: ServerId) -> ServeFault
+        ensures { result ≡ missing_fault server }
+    {
         let server = server.number();
         let word = StoreWord::Damaged(Damage::Missing);
         ServeFault::Store { server, word }
     }
 
     /// The fault of what that server's store holds.
-    fn of_contents(server: ServerId, fault: OpenFault) -> ServeFault {
+    pub fn of_contents(server: ServerId, fault: OpenFault) -> ServeFault
+        ensures { result ≡ contents_fault server fault }
+    {
         let word = match fault {
             OpenFault::Damaged { place } => StoreWord::Damaged(Damage::At { place }),
             OpenFault::Store => StoreWord::Store,
@@ -175,6 +201,11 @@ impl ServeFault {
 }
 
 impl From<StartFault> for ServeFault {
+    ghost use Rattle.std.specs.Prelude.{◌≡◌};
+    ghost use Rattle.lynx_service.specs.Faults.{start_fault};
+
+    ghost from_gives = { λ fault told. told ≡ start_fault fault };
+
     fn from(fault: StartFault) -> ServeFault {
         match fault {
             StartFault::Open { server, fault } => ServeFault::of_contents(server, fault),
@@ -186,6 +217,11 @@ impl From<StartFault> for ServeFault {
 }
 
 impl From<CloseFault> for ServeFault {
+    ghost use Rattle.std.specs.Prelude.{◌≡◌};
+    ghost use Rattle.lynx_service.specs.Faults.{close_fault};
+
+    ghost from_gives = { λ fault told. told ≡ close_fault fault };
+
     fn from(fault: CloseFault) -> ServeFault {
         let word = match fault {
             CloseFault::Mismatch { server, place } => CloseWord::Mismatch {
@@ -207,6 +243,11 @@ impl From<CloseFault> for ServeFault {
 }
 
 impl From<WeaveFault> for ServeFault {
+    ghost use Rattle.std.specs.Prelude.{◌≡◌};
+    ghost use Rattle.lynx_service.specs.Faults.{apart_fault};
+
+    ghost from_gives = { λ fault told. told ≡ apart_fault fault };
+
     fn from(fault: WeaveFault) -> ServeFault {
         let word = match fault {
             WeaveFault::Mismatch { server, place } => CloseWord::Mismatch {
@@ -221,24 +262,44 @@ impl From<WeaveFault> for ServeFault {
 }
 
 impl From<Memory> for ServeFault {
+    ghost use Rattle.std.specs.Prelude.{◌≡◌};
+    ghost use Rattle.lynx_service.specs.declared.fault.ServeFault.TheVariants.{Memory as WantOfMemory};
+
+    ghost from_gives = { λ _ told. told ≡ WantOfMemory };
+
     fn from(_: Memory) -> ServeFault {
         ServeFault::Memory
     }
 }
 
 impl From<AllocError> for ServeFault {
+    ghost use Rattle.std.specs.Prelude.{◌≡◌};
+    ghost use Rattle.lynx_service.specs.declared.fault.ServeFault.TheVariants.{Memory as WantOfMemory};
+
+    ghost from_gives = { λ _ told. told ≡ WantOfMemory };
+
     fn from(_: AllocError) -> ServeFault {
         ServeFault::Memory
     }
 }
 
 impl<T: Drop> From<AllocFailed<T>> for ServeFault {
+    ghost use Rattle.std.specs.Prelude.{◌≡◌};
+    ghost use Rattle.lynx_service.specs.declared.fault.ServeFault.TheVariants.{Memory as WantOfMemory};
+
+    ghost from_gives = { λ _ told. told ≡ WantOfMemory };
+
     fn from(_: AllocFailed<T>) -> ServeFault {
         ServeFault::Memory
     }
 }
 
 impl From<WriteFailed> for ServeFault {
+    ghost use Rattle.std.specs.Prelude.{◌≡◌};
+    ghost use Rattle.lynx_service.specs.declared.fault.ServeFault.TheVariants.{Write as NotWritten};
+
+    ghost from_gives = { λ _ told. told ≡ NotWritten };
+
     fn from(_: WriteFailed) -> ServeFault {
         ServeFault::Write
     }

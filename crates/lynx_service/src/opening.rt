@@ -1,4 +1,8 @@
 //! Opening the stores and the port.
+ghost use Rattle.std.specs.Prelude.{◌≡◌, ℕ, IfOk};
+ghost use Rattle.lynx_store.specs.Stored.{owner_for};
+ghost use Rattle.lynx_service.specs.Places.{AreOwned, ArePlaces, IsOwn, OpensAt};
+
 use crate::accepting::Ports;
 use crate::fault::ServeFault;
 use crate::progress::Progress;
@@ -32,7 +36,10 @@ pub(crate) fn places<K: Drop, S: Stores<K>>(
     set: &ChainSet,
     stores: &S,
     folder: &str,
-) -> Result<Vec<Place<K>>, ServeFault> {
+) -> Result<Vec<Place<K>>, ServeFault>
+    ensures { IfOk result (λ places.
+        ArePlaces S.owner_of set.now set.now.servers places.items) }
+{
     let mut places = Vec::new(alloc);
     for number in 0..set.servers() {
         let server = ServerId::at(number);
@@ -48,6 +55,27 @@ pub(crate) fn places<K: Drop, S: Stores<K>>(
     Ok(places)
 }
 
+/// Opens the store at a place, if there is one.
+fn open_at<R: Wait, K: Keeper + Drop, S: Stores<K>>(
+    rt: &R,
+    set: &ChainSet,
+    stores: &S,
+    folder: &str,
+    place: &mut Place<K>,
+    progress: &Progress<'_>,
+    all: u64,
+)
+    ensures { OpensAt S.owner_of set.now place.old place.new }
+{
+    if place.is_there {
+        let opened = stores.open(folder, set, place.server);
+        if let Ok(keeper) = &opened {
+            progress.opened(rt, all, stores.entries(keeper));
+        }
+        place.opened = Some(opened);
+    }
+}
+
 /// Opens the stores that are there, side by side: reading one takes some seconds where it is large.
 /// Nothing is made.
 pub(crate) fn open_there<R: Threads + Wait + Sync, K: Keeper + Send + Drop, S: Stores<K> + Sync>(
@@ -57,21 +85,20 @@ pub(crate) fn open_there<R: Threads + Wait + Sync, K: Keeper + Send + Drop, S: S
     folder: &str,
     places: &mut [Place<K>],
     progress: &Progress<'_>,
-) {
+)
+    ensures { (count : ℕ) → ArePlaces S.owner_of set.now count places.old
+        → ArePlaces S.owner_of set.now count places.new }
+{
     let all = places.iter().filter(|place| place.is_there).count() as u64;
     progress.opens(all);
     thread::for_each_mut(
         rt,
         places,
         OPENERS,
-        &|_, place: &mut Place<K>| {
-            if place.is_there {
-                let opened = stores.open(folder, set, place.server);
-                if let Ok(keeper) = &opened {
-                    progress.opened(rt, all, stores.entries(keeper));
-                }
-                place.opened = Some(opened);
-            }
+        &|_: usize, place: &mut Place<K>|
+            ensures { OpensAt S.owner_of set.entry.now place.old place.new }
+        {
+            open_at(rt, set, stores, folder, place, progress, all);
         },
     );
 }
@@ -104,7 +131,10 @@ fn keeper_of<K: Drop, S: Stores<K>>(
     stores: &S,
     folder: &str,
     place: Place<K>,
-) -> Result<K, ServeFault> {
+) -> Result<K, ServeFault>
+    requires { IsOwn S.owner_of set.now place }
+    ensures { IfOk result (λ keeper. S.owner_of keeper ≡ owner_for place.server set.now) }
+{
     let Place {
         server,
         is_there: _,
@@ -127,7 +157,10 @@ pub(crate) fn keepers<K: Drop, S: Stores<K>>(
     stores: &S,
     folder: &str,
     places: Vec<Place<K>>,
-) -> Result<Vec<K>, ServeFault> {
+) -> Result<Vec<K>, ServeFault>
+    requires { ArePlaces S.owner_of set.now set.now.servers places.items }
+    ensures { IfOk result (λ keepers. AreOwned S.owner_of set.now keepers.items) }
+{
     let mut keepers = Vec::new(alloc);
     for place in places {
         keepers.push(keeper_of(set, stores, folder, place)?)?;

@@ -3,6 +3,7 @@ ghost use Rattle.std.specs.Prelude.{◌≡◌, List, IfOk, OnOk};
 ghost use Rattle.lynx_cluster.specs.Starting.{AreOpened};
 ghost use Rattle.lynx_weave.specs.Senders.{AreAllSent};
 ghost use Rattle.lynx_weave.specs.Servers.{AreServersOf, histories_of};
+ghost use Rattle.lynx_service.specs.Places.{AreOwned};
 ghost use Rattle.lynx_service.specs.Services.{AppendsSome, HasServed};
 
 use crate::accepting::{Ports, serve_clients};
@@ -136,7 +137,8 @@ fn open_all<
     ensures set { IfOk result (λ all. all.0.set ≡ set.now) }
     ensures servers { IfOk result (λ all. AreServersOf all.0.set all.0.servers.items) }
     ensures opened { IfOk result (λ all. (keepers : List K)
-        × AreOpened K.terms set.now keepers all.0.servers.items) }
+        × AreOpened K.terms set.now keepers all.0.servers.items
+        × AreOwned S.owner_of set.now keepers) }
     ensures sent { IfOk result (λ all. AreAllSent all.0.set (histories_of all.0.servers.items)) }
 {
     let mut places = places(alloc, set, stores, service.folder)?;
@@ -242,7 +244,7 @@ pub fn serve_stores<
     board: &Board<'_>,
     log: Log,
 ) -> Result<Explained, ServeFault>
-    ensures { IfOk result (HasServed K.terms set.now
+    ensures { IfOk result (HasServed K.terms S.owner_of set.now
         (W.contents writer.old) (W.contents writer.new)) }
 {
     let opened = open_all(&rt, alloc, set, stores, service, progress);

@@ -4,6 +4,7 @@ ghost use Rattle.lynx_codec.specs.Ranges.{IsLookedInRange};
 ghost use Rattle.lynx_cluster.specs.Calls.{AnswersBegin};
 ghost use Rattle.lynx_cluster.specs.Clusters.{IsOf, home_of};
 ghost use Rattle.lynx_cluster.specs.Looks.{Looks};
+ghost use Rattle.lynx_cluster.specs.Sessions.{new_session};
 
 use crate::bells::Bells;
 use crate::gate::{Gate, Passage, tell_answer};
@@ -75,18 +76,19 @@ pub(crate) fn is_of<K: Keeper>(state: &Server<K>, set: &ChainSet, server: Server
     state.server() == server && state.set().is_same(set)
 }
 
-/// The number of the next session, which is how many were made, and one more is made then. None
-/// once [`MAX_SESSIONS`] were made.
-fn next_number(made: &mut u64) -> Option<u64>
+/// The next session, whose number is how many were made, and one more is made then. None once
+/// [`MAX_SESSIONS`] were made. Takes no memory.
+fn next_session(alloc: Global, made: &mut u64) -> Option<Session>
     ensures { MatchOption result ((MAX_SESSIONS ≤ made.old) × (made.new ≡ made.old))
-        (λ number. (number ≡ made.old) × (number < MAX_SESSIONS) × (made.new ≡ made.old + 1)) }
+        (λ session. (session ≡ new_session made.old) × (made.old < MAX_SESSIONS)
+        × (made.new ≡ made.old + 1)) }
 {
     let number = *made;
     if number >= MAX_SESSIONS {
         return None;
     }
     *made = number + 1;
-    Some(number)
+    Some(Session::new(alloc, number))
 }
 
 impl<K: Keeper, G: Gate> Cluster<K, G> {
@@ -161,8 +163,7 @@ impl<K: Keeper, G: Gate> Front<K, G> {
         ensures few { IfSome result (λ session. session.number < MAX_SESSIONS) }
     {
         let mut made = self.sessions.lock(rt);
-        let number = next_number(&mut made)?;
-        Some(Session::new(alloc, number))
+        next_session(alloc, &mut made)
     }
 
     /// One begin at the origin of the request's program, under that server's lock. The session

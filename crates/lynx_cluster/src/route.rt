@@ -48,12 +48,21 @@ fn is_full(ends: &mut Ends, to: ServerId) -> bool {
     }
 }
 
+/// Sends a message again, to its server. Whether it was sent.
+fn send_due(ends: &mut Ends, due: Due) -> bool
+    ensures { MatchBool result (SendsTo ends.old due.to (Parcel.Message due.message) ends.new)
+        (SendsNothing ends.old ends.new) }
+{
+    offer(ends, due.to, Parcel::Message(due.message))
+}
+
 /// Sends messages again that a pass came to. How far it is gone over then, and how many were sent.
 fn offer_again(ends: &mut Ends, dues: Vec<Due>, end: u64) -> (u64, usize) {
     let mut count: usize = 0;
     for due in dues {
-        if !offer(ends, due.to, Parcel::Message(due.message)) {
-            return (due.place, count);
+        let place = due.place;
+        if !send_due(ends, due) {
+            return (place, count);
         }
         count = count.saturating_add(1);
     }

@@ -1,3 +1,4 @@
 mod InputLemmas
 mod Judged
 pub mod Found
+mod Numbers

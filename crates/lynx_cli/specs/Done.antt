@@ -7,6 +7,8 @@ use Rattle.lynx_set.specs.Rules.{IsSet}
 use Rattle.lynx_set.specs.Set.{Set}
 use Rattle.lynx_set.specs.Text.{text_of}
 use Rattle.lynx_keep.specs.Kept.{Terms}
+use Rattle.lynx_order.specs.declared.explained.Explained.{Explained}
+use Rattle.lynx_order.specs.Explained.{GivesOrder}
 use Rattle.lynx_rerun.specs.Reruns.{Reruns}
 use Rattle.lynx_report.specs.declared.run.Ending.{Ending}
 use Rattle.lynx_report.specs.declared.verdict.Finding.{Finding}
@@ -21,6 +23,8 @@ use Rattle.lynx_report.specs.declared.options.DrawOptions.{DrawOptions}
 use Rattle.lynx_report.specs.declared.options.RunOptions.{RunOptions}
 use Rattle.lynx_cli.specs.declared.job.RunFlags.{RunFlags}
 use Rattle.lynx_sample.specs.Samples.{IsSample}
+use Rattle.lynx_service.specs.Services.{HasServed}
+use Rattle.lynx_store.specs.Stored.{Owner}
 use Rattle.lynx_cli.specs.Statuses.{status_of_finding, status_of_ending}
 
 -- the verdict on the text's set is written, with what the options ask for, and the status is the
@@ -124,6 +128,23 @@ abbrev pub HasRerun : {K : Type 0} → Terms K → RunFlags → List ℕ → Lis
 HasRerun terms flags set script old new status = MatchBool flags.checked
     (HasRerunJudged terms (options_of flags) set script old new status)
     (HasRerunTexts terms (options_of flags) set script old new status)
+
+-- a service over the text's set, which is accepted, ran to its end: its last line is an order, and
+-- the status is 0
+pub record HasServedText {K : Type 0} (terms : Terms K) (owner_of : K → Owner) (text : List ℕ)
+    (old new : Option (List ℕ)) (status : ℕ) : Type 0 where
+  pub chains : Set
+  pub accepts : Accepts text chains
+  pub explained : Explained
+  pub served : HasServed terms owner_of chains old new explained
+  pub order : GivesOrder explained
+  pub status_is : status ≡ 0
+
+-- a set that offends is refused, and over another clients are served
+abbrev pub HasServedJudged : {K : Type 0} → Terms K → (K → Owner) → List ℕ → Option (List ℕ)
+    → Option (List ℕ) → ℕ → Type 0
+HasServedJudged terms owner_of text old new status =
+    HasRefused text old new status ⊎ HasServedText terms owner_of text old new status
 
 -- a random script for the text's set is written, and the status is 0
 pub record HasSampled (cycle : Bool) (text : List ℕ) (old new : Option (List ℕ))

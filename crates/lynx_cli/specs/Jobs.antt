@@ -1,5 +1,6 @@
 -- What the words of the command line ask for.
 use Rattle.std.specs.Prelude.{◌≡◌, ◌≢◌, ◌⊎◌, ℕ, List, Option, Some, None, IsSome, option_map, Result, Ok, Err, codes, Bool, false, true, unwrap_or}
+use Rattle.std.specs.Str.Parse.{ParsesUnsigned}
 use Rattle.clap.specs.Words.{Row, Text, first_of, one_of}
 use Rattle.lynx_cli.specs.declared.job.Job.{Job}
 use Rattle.lynx_cli.specs.declared.job.Job.TheVariants.{Ask, AskFolder, Audit, Chart, Check, Draw, Extend, Owed, Restore, Run, RunInput, RunStores, Sample, Serve, Show, Upgrade}
@@ -102,17 +103,30 @@ pub record AreFlags (rows : List Row) (flags : RunFlags) : Type 0 where
   pub checked : IsFlag (codes "checked") rows flags.checked
   pub owed : IsFlag (codes "owed") rows flags.owed
 
+-- the number of so many bits that a word spells in decimal digits, perhaps behind a plus; none
+-- where it spells no such number
+abbrev pub IsReadFrom : ℕ → Text → Option ℕ → Type 0
+IsReadFrom bits text (Some number) = ParsesUnsigned {E = ℕ} bits 10 text (Ok number)
+IsReadFrom bits text None = ParsesUnsigned {E = ℕ} bits 10 text (Err 0)
+
+-- the number that was found under a name, the usual one where none was
+pub record IsNumber (bits usual : ℕ) (name : Text) (rows : List Row) (number : ℕ) : Type 0 where
+  pub none : one_of name rows ≡ None → number ≡ usual
+  pub some : (text : Text) → one_of name rows ≡ Some text
+      → (found : Option ℕ) × IsReadFrom bits text found × (number ≡ unwrap_or found usual)
+
 -- what a random script is to be was found so: seed 0, 8 begins and 200,000 steps of effort where
 -- the words don't say
 pub record AreSampleFlags (rows : List Row) (flags : SampleFlags) : Type 0 where
   pub cycle : IsFlag (codes "cycle") rows flags.cycle
-  pub seed : one_of (codes "seed") rows ≡ None → flags.seed ≡ 0
-  pub begins : one_of (codes "begins") rows ≡ None → flags.begins ≡ 8
-  pub effort : one_of (codes "effort") rows ≡ None → flags.effort ≡ 200000
+  pub seed : IsNumber 64 0 (codes "seed") rows flags.seed
+  pub begins : IsNumber 8 8 (codes "begins") rows flags.begins
+  pub effort : IsNumber 64 200000 (codes "effort") rows flags.effort
 
--- a port is told only where one was found under its name
-abbrev pub IsPort : Text → List Row → Option ℕ → Type 0
-IsPort name rows port = one_of name rows ≡ None → port ≡ None
+-- the port that was found under a name, none where none was
+pub record IsPort (name : Text) (rows : List Row) (port : Option ℕ) : Type 0 where
+  pub none : one_of name rows ≡ None → port ≡ None
+  pub some : (text : Text) → one_of name rows ≡ Some text → IsReadFrom 16 text port
 
 -- the folders of a restoring are those that were found
 pub record IsRestorePlace (rows : List Row) (place : RestorePlace) : Type 0 where
@@ -156,13 +170,13 @@ TakesFound rows (Ok (Extend folder set)) =
     (folder.now ≡ text_at (codes "DIR") rows) × (set.now ≡ text_at (codes "SET") rows)
 TakesFound rows (Ok (Serve set folder port flags)) =
     (set.now ≡ text_at (codes "SET") rows) × (folder.now ≡ text_at (codes "DIR") rows)
-    × AreServeFlags rows flags
+    × IsNumber 16 0 (codes "PORT") rows port × AreServeFlags rows flags
 TakesFound rows (Ok (Audit folder)) = folder.now ≡ text_at (codes "DIR") rows
 TakesFound rows (Ok (Restore place)) = IsRestorePlace rows place
 TakesFound rows (Ok (Owed folder)) = folder.now ≡ text_at (codes "DIR") rows
 TakesFound rows (Ok (Ask set port status)) =
     (set.now ≡ text_at (codes "SET") rows) × IsSome (first_of (codes "PORT") rows)
-    × IsPort (codes "status") rows status
+    × IsNumber 16 0 (codes "PORT") rows port × IsPort (codes "status") rows status
 TakesFound rows (Ok (AskFolder folder)) =
     (folder.now ≡ text_at (codes "SET") rows) × (first_of (codes "PORT") rows ≡ None)
 TakesFound rows (Ok (Run set script flags)) = RunsFound rows (Ok (Run set script flags))

@@ -20,24 +20,24 @@ use Rattle.lynx_sample.specs.declared.fault.SampleFault.TheVariants as sample
 use Rattle.lynx_cli.specs.declared.job.RunFlags.{RunFlags}
 use Rattle.lynx_cli.specs.Done.{IsAccepted, options_of}
 use Rattle.lynx_cli.specs.declared.fault.Fault.{Fault}
-use Rattle.lynx_cli.specs.declared.fault.Fault.TheVariants.{Ask, Memory, NoSeparator, Sample, Script, Serve, Set, Store, Write}
+use Rattle.lynx_cli.specs.declared.fault.Fault.TheVariants.{Ask, Memory, NoSeparator, Occupied, Sample, Script, Serve, Set, Store, Write}
 use Rattle.lynx_ask.specs.declared.fault.AskFault.{AskFault}
 use Rattle.lynx_ask.specs.declared.fault.AskFault.TheVariants as ask
 use Rattle.lynx_rerun.specs.declared.fault.RerunFault.{RerunFault}
 use Rattle.lynx_rerun.specs.declared.fault.RerunFault.TheVariants as rerun
-use Rattle.lynx_service.specs.declared.fault.CloseWord.TheVariants.{Mismatch, Told}
-use Rattle.lynx_service.specs.declared.fault.Damage.TheVariants.{Missing, Somewhere}
+use Rattle.lynx_restore.specs.declared.fault.RestoreFault.{RestoreFault}
+use Rattle.lynx_restore.specs.declared.fault.RestoreFault.TheVariants as restore
+use Rattle.lynx_service.specs.Faults.{apart_fault, contents_fault, store_fault}
 use Rattle.lynx_service.specs.declared.fault.ServeFault.{ServeFault}
 use Rattle.lynx_service.specs.declared.fault.ServeFault.TheVariants as serve
-use Rattle.lynx_service.specs.declared.fault.StoreWord.TheVariants as words
 use Rattle.lynx_show.specs.declared.fault.ShowFault.{ShowFault}
 use Rattle.lynx_show.specs.declared.fault.ShowFault.TheVariants as show
 use Rattle.lynx_show.specs.declared.extend.TakeFault.{TakeFault}
 use Rattle.lynx_show.specs.declared.extend.TakeFault.TheVariants as take
 use Rattle.lynx_store.specs.declared.fault.StoreFault.{StoreFault}
 use Rattle.lynx_store.specs.declared.fault.StoreFault.TheVariants as store
-use Rattle.lynx_weave.specs.declared.fault.WeaveFault.{WeaveFault}
-use Rattle.lynx_weave.specs.declared.fault.WeaveFault.TheVariants as weave
+use Rattle.lynx_store_files.specs.declared.copies.CopyFault.{CopyFault}
+use Rattle.lynx_store_files.specs.declared.copies.CopyFault.TheVariants as copy
 
 -- how the program tells why a run, a check, a picture or a chart stopped
 abbrev pub run_fault : RunFault → Fault
@@ -69,34 +69,30 @@ asking_fault ask.Write = Write
 asking_fault ask.Memory = Memory
 asking_fault fault = Ask fault
 
--- what is wrong with the store of that server
-abbrev pub store_fault : ℕ → StoreFault → Fault
-store_fault server store.OtherSet = Serve (serve.Store server words.OtherSet)
-store_fault server store.OtherVersion = Serve (serve.Store server words.OtherVersion)
-store_fault server store.Damaged = Serve (serve.Store server (words.Damaged Somewhere))
-store_fault server store.Store = Serve (serve.Store server words.Store)
-store_fault server store.Memory = Memory
-
--- the store of that server is gone
-abbrev pub lost_fault : ℕ → Fault
-lost_fault server = Serve (serve.Store server (words.Damaged Missing))
-
 -- why the store of that server was not given to a set
 abbrev pub taking_fault : ℕ → TakeFault → Fault
-taking_fault server (take.Store fault) = store_fault server fault
+taking_fault server (take.Store fault) = serving_fault (store_fault server fault)
 taking_fault server take.Write = Write
-
--- why stores don't belong together
-abbrev pub apart_fault : WeaveFault → Fault
-apart_fault (weave.Mismatch server place) = Serve (serve.Close (Mismatch server place))
-apart_fault (weave.Told session place) = Serve (serve.Close (Told session place))
-apart_fault weave.Memory = Memory
 
 -- why a run over stores stopped: the faults of stores are told as a service tells them
 abbrev pub rerun_fault : RerunFault → Fault
 rerun_fault (rerun.Run fault) = run_fault fault
-rerun_fault (rerun.Store server fault) = store_fault server fault
-rerun_fault (rerun.Apart fault) = apart_fault fault
+rerun_fault (rerun.Store server fault) = serving_fault (store_fault server fault)
+rerun_fault (rerun.Apart fault) = serving_fault (apart_fault fault)
+
+-- what is wrong with a store whose file can't be copied
+abbrev pub copy_fault : CopyFault → StoreFault
+copy_fault copy.Unread = store.Store
+copy_fault copy.Damaged = store.Damaged
+copy_fault copy.Store = store.Store
+copy_fault copy.Memory = store.Memory
+
+-- why no stores were made of copies: theirs, too, are told so
+abbrev pub restoring_fault : RestoreFault → Fault
+restoring_fault (restore.Copy server fault) = serving_fault (contents_fault server fault)
+restoring_fault (restore.Store server fault) = serving_fault (store_fault server fault)
+restoring_fault (restore.Taken server) = Occupied
+restoring_fault restore.Memory = Memory
 
 -- a check: the text has no verdict, or memory or the writer fails; nothing is written, or a
 -- beginning of the verdict

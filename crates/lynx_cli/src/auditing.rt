@@ -1,5 +1,7 @@
 //! Audits of the stores of a folder, by copies in memory: the stores are only read.
-ghost use Rattle.std.specs.Prelude.{◌≡◌, IfOk, OnOk, length};
+ghost use Rattle.std.specs.Prelude.{◌≡◌, ◌⊎◌, IfOk, OnOk, length};
+ghost use Rattle.lynx_service.specs.Faults.{missing_fault, store_fault};
+ghost use Rattle.lynx_cli.specs.Stopped.{copy_fault, serving_fault};
 
 use crate::fault::Fault;
 use crate::hints::Hints;
@@ -30,21 +32,35 @@ pub(crate) struct Copies {
 /// What a person at a terminal is told meanwhile.
 pub(crate) const READING: &str = "\rlynx: reading what the stores hold\x1b[K";
 
+/// The fault of the file of a store that was not copied.
+fn fault_of_copy(fault: CopyFault) -> StoreFault
+    ensures { result ≡ copy_fault fault }
+{
+    match fault {
+        CopyFault::Unread | CopyFault::Store => StoreFault::Store,
+        CopyFault::Damaged => StoreFault::Damaged,
+        CopyFault::Memory => StoreFault::Memory,
+    }
+}
+
+/// Whether there is no file at that path.
+fn is_absent(rt: &HostRuntime, path: &str) -> bool {
+    match fs::metadata(rt, path) {
+        Ok(_) => false,
+        Err(error) => error.kind() == ErrorKind::NotFound,
+    }
+}
+
 /// Why the store of that server, at that path, was not copied. One that isn't there beside that of
 /// server 0 is lost.
-fn copy_fault<'a>(rt: &HostRuntime, path: &str, server: ServerId, fault: CopyFault) -> Fault<'a> {
-    let fault = match fault {
-        CopyFault::Memory => return Fault::Memory,
-        CopyFault::Damaged => StoreFault::Damaged,
-        CopyFault::Store => StoreFault::Store,
-        CopyFault::Unread => match fs::metadata(rt, path) {
-            Err(error) if error.kind() == ErrorKind::NotFound && server.number() > 0 => {
-                return Fault::of_lost(server);
-            }
-            _ => StoreFault::Store,
-        },
-    };
-    Fault::of_store(server, fault)
+fn uncopied<'a>(rt: &HostRuntime, path: &str, server: ServerId, fault: CopyFault) -> Fault<'a>
+    ensures { (result ≡ serving_fault (missing_fault server))
+        ⊎ (result ≡ serving_fault (store_fault server (copy_fault fault))) }
+{
+    if fault == CopyFault::Unread && server.number() > 0 && is_absent(rt, path) {
+        return Fault::of_lost(server);
+    }
+    Fault::of_store(server, fault_of_copy(fault))
 }
 
 /// A copy of the store of that server in the folder.
@@ -54,7 +70,7 @@ fn copy_of<'a>(rt: &HostRuntime, folder: &str, server: ServerId) -> Result<Store
     };
     match copy_store(rt, path.as_str()) {
         Ok(copy) => Ok(copy),
-        Err(fault) => Err(copy_fault(rt, path.as_str(), server, fault)),
+        Err(fault) => Err(uncopied(rt, path.as_str(), server, fault)),
     }
 }
 

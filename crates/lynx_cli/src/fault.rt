@@ -1,7 +1,8 @@
 //! Why the program stops short: the one line on standard error, and the status.
 ghost use Rattle.std.specs.Prelude.{◌≡◌};
 ghost use Rattle.lynx_cli.specs.Statuses.{status_of, status_of_run};
-ghost use Rattle.lynx_cli.specs.Stopped.{apart_fault, asking_fault, lost_fault, rerun_fault, run_fault, sampling_fault, serving_fault, showing_fault, store_fault, taking_fault};
+ghost use Rattle.lynx_service.specs.Faults.{missing_fault, store_fault};
+ghost use Rattle.lynx_cli.specs.Stopped.{asking_fault, rerun_fault, restoring_fault, run_fault, sampling_fault, serving_fault, showing_fault, taking_fault};
 
 use crate::job::CommandFault;
 use crate::shown::Shown;
@@ -13,11 +14,9 @@ use lynx_report::RunFault;
 use lynx_rerun::RerunFault;
 use lynx_restore::RestoreFault;
 use lynx_sample::SampleFault;
-use lynx_server::OpenFault;
-use lynx_service::{CloseWord, Damage, ServeFault, StoreWord};
+use lynx_service::ServeFault;
 use lynx_show::{ShowFault, TakeFault};
 use lynx_store::StoreFault;
-use lynx_weave::WeaveFault;
 use thiserror::Error;
 
 /// Why the program did not do what it was asked for.
@@ -142,26 +141,16 @@ impl<'a> Fault<'a> {
 
     /// The fault of the store of that server, told as a service tells it.
     pub(crate) fn of_store(server: ServerId, fault: StoreFault) -> Fault<'a>
-        ensures { result ≡ store_fault server fault }
+        ensures { result ≡ serving_fault (store_fault server fault) }
     {
-        let word = match fault {
-            StoreFault::OtherSet => StoreWord::OtherSet,
-            StoreFault::OtherVersion => StoreWord::OtherVersion,
-            StoreFault::Damaged => StoreWord::Damaged(Damage::Somewhere),
-            StoreFault::Store => StoreWord::Store,
-            StoreFault::Memory => return Fault::Memory,
-        };
-        let server = server.number();
-        Fault::Serve(ServeFault::Store { server, word })
+        Fault::of_serving(ServeFault::of_store(server, fault))
     }
 
     /// The store of that server isn't there, where it was.
     pub(crate) fn of_lost(server: ServerId) -> Fault<'a>
-        ensures { result ≡ lost_fault server }
+        ensures { result ≡ serving_fault (missing_fault server) }
     {
-        let server = server.number();
-        let word = StoreWord::Damaged(Damage::Missing);
-        Fault::Serve(ServeFault::Store { server, word })
+        Fault::of_serving(ServeFault::of_missing(server))
     }
 
     /// The fault of giving the store of that server to a set.
@@ -174,21 +163,6 @@ impl<'a> Fault<'a> {
         }
     }
 
-    /// The fault of stores that don't belong together, told as a service tells it.
-    fn of_apart(fault: WeaveFault) -> Fault<'a>
-        ensures { result ≡ apart_fault fault }
-    {
-        let word = match fault {
-            WeaveFault::Mismatch { server, place } => CloseWord::Mismatch {
-                server: server.number(),
-                place,
-            },
-            WeaveFault::Told { session, place } => CloseWord::Told { session, place },
-            WeaveFault::Memory => return Fault::Memory,
-        };
-        Fault::Serve(ServeFault::Close(word))
-    }
-
     /// The fault of a run over stores.
     pub fn of_rerun(fault: RerunFault) -> Fault<'a>
         ensures { result ≡ rerun_fault fault }
@@ -196,29 +170,22 @@ impl<'a> Fault<'a> {
         match fault {
             RerunFault::Run(fault) => Fault::of_run(fault),
             RerunFault::Store { server, fault } => Fault::of_store(server, fault),
-            RerunFault::Apart(fault) => Fault::of_apart(fault),
+            RerunFault::Apart(fault) => Fault::of_serving(ServeFault::from(fault)),
         }
     }
 
     /// The fault of making new stores of copies, told as a service tells it.
-    pub(crate) fn of_restoring(fault: RestoreFault) -> Fault<'a> {
+    pub(crate) fn of_restoring(fault: RestoreFault) -> Fault<'a>
+        ensures { result ≡ restoring_fault fault }
+    {
         match fault {
-            RestoreFault::Copy { server, fault } => Fault::of_contents(server, fault),
+            RestoreFault::Copy { server, fault } => {
+                Fault::of_serving(ServeFault::of_contents(server, fault))
+            }
             RestoreFault::Store { server, fault } => Fault::of_store(server, fault),
             RestoreFault::Taken { .. } => Fault::Occupied,
             RestoreFault::Memory => Fault::Memory,
         }
-    }
-
-    /// The fault of what the store of that server holds, told as a service tells it.
-    fn of_contents(server: ServerId, fault: OpenFault) -> Fault<'a> {
-        let word = match fault {
-            OpenFault::Damaged { place } => StoreWord::Damaged(Damage::At { place }),
-            OpenFault::Store => StoreWord::Store,
-            OpenFault::Memory => return Fault::Memory,
-        };
-        let server = server.number();
-        Fault::Serve(ServeFault::Store { server, word })
     }
 
     /// The fault of making a script.

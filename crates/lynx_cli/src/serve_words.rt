@@ -1,7 +1,7 @@
 //! The words that ask for a service, and those that ask one.
 ghost use Rattle.std.specs.Prelude.{Some, codes};
 ghost use Rattle.clap.specs.Words.{found_of, rows_of};
-ghost use Rattle.lynx_cli.specs.Jobs.{AreServeFlags, AskedBy, IsPort, TakesFound};
+ghost use Rattle.lynx_cli.specs.Jobs.{AreServeFlags, AskedBy, IsNumber, IsPort, TakesFound};
 
 use crate::job::{CommandFault, Job, ServeFlags};
 use crate::parser::{flag, flag_at, found_at, hints_flag, set_file, text_at};
@@ -107,8 +107,10 @@ pub(crate) fn ask_command<'a>(alloc: Global) -> Result<Command<'a>, AllocError> 
 }
 
 /// The number of the port. The parser lets no other words through.
-pub(crate) fn port_of(words: &ArgMatches<'_>) -> u16 {
-    words.get_one(PORT).unwrap_or_default()
+pub(crate) fn port_of(words: &ArgMatches<'_>) -> u16
+    ensures { IsNumber 16 0 (codes "PORT") (rows_of (found_of words.now)) result }
+{
+    words.get_one(PORT).unwrap_or(0)
 }
 
 /// The port of the status, if one is given.

@@ -1,9 +1,10 @@
 //! Serving clients.
-ghost use Rattle.std.specs.Prelude.{◌≡◌, IfErr, IfOk, IfNone, IfSome};
+ghost use Rattle.std.specs.Prelude.{◌≡◌, ℕ, IfErr, IfOk, IfNone, IfSome, List};
 ghost use Rattle.lynx_set.specs.Rules.{IsSet};
 ghost use Rattle.lynx_set.specs.Text.{text_of};
 ghost use Rattle.lynx_report.specs.Refusals.{Accepts};
-ghost use Rattle.lynx_cli.specs.Done.{HasRefused};
+ghost use Rattle.lynx_order.specs.Explained.{GivesOrder};
+ghost use Rattle.lynx_cli.specs.Done.{HasRefused, HasServedJudged, HasServedText};
 ghost use Rattle.lynx_cli.specs.Stopped.{StopsJudging};
 
 use crate::copied::check_apart;
@@ -33,6 +34,8 @@ pub(crate) fn accepted_set<'a, W: Write>(
     writer: &mut W,
 ) -> Result<Option<ChainSet>, Fault<'a>>
     ensures accepted { IfOk result (λ judged. IfSome judged (Accepts text.now)) }
+    ensures unwritten { IfOk result (λ judged. IfSome judged (λ set.
+        W.contents writer.new ≡ W.contents writer.old)) }
     ensures offending { IfOk result (λ judged. IfNone judged (HasRefused text.now
         (W.contents writer.old) (W.contents writer.new) OFFENDING)) }
     ensures err { IfErr result (StopsJudging text.now (W.contents writer.old)
@@ -104,6 +107,50 @@ fn note_copy(host: &HostRuntime, service: Service<'_>, fault: ServeFault, hints:
     }
 }
 
+/// The status of a service whose last line is an order.
+fn status_of_order(explained: &Explained) -> u8
+    requires { GivesOrder explained.now }
+    ensures { result ≡ 0 }
+{
+    match explained {
+        Explained::Order(_) => DONE,
+        Explained::Cycle(_) => unreachable!(),
+    }
+}
+
+/// Serves clients over an accepted set, until one of them asks for the end.
+fn serve_accepted<
+    R: Host + Net<Listener = TcpListener, Stream = TcpStream>,
+    K: BatchKeeper + Send + Drop + 'static,
+    S: Stores<K> + Sync,
+    W: Write,
+>(
+    host: &HostRuntime,
+    rt: R,
+    stores: &S,
+    text: &[u8],
+    set: &ChainSet,
+    service: Service<'_>,
+    log: Log,
+    writer: &mut W,
+) -> Result<u8, ServeFault>
+    requires accepts { Accepts text.now set.now }
+    ensures { IfOk result (HasServedText K.terms S.owner_of text.now (W.contents writer.old)
+        (W.contents writer.new)) }
+{
+    let progress = Progress::new(host, log);
+    let board = Board {
+        rt: host,
+        folder: service.folder,
+        set: text,
+    };
+    let alloc = host.alloc();
+    let explained = serve_stores(
+        rt, alloc, set, stores, service, writer, &progress, &board, log,
+    )?;
+    Ok(status_of_order(&explained))
+}
+
 /// Serves clients over the set of a file, until one of them asks for the end. An offending set is
 /// refused as by a check, and nothing is opened.
 pub(crate) fn serve_file<
@@ -121,7 +168,11 @@ pub(crate) fn serve_file<
     flags: ServeFlags<'_>,
     hints: &mut Hints,
     writer: &mut W,
-) -> Result<u8, Fault<'a>> {
+) -> Result<u8, Fault<'a>>
+    ensures { IfOk result (λ status. (text : List ℕ)
+        × HasServedJudged K.terms S.owner_of text (W.contents writer.old) (W.contents writer.new)
+        status) }
+{
     let read = text_of(host, name)?;
     let text = read.as_slice();
     let accepted = accepted_set(host.alloc(), text, writer);
@@ -131,25 +182,8 @@ pub(crate) fn serve_file<
     };
     let service = service_of(host, place, flags)?;
     let log = Log::new(*host, flags.log);
-    let progress = Progress::new(host, log);
-    let board = Board {
-        rt: host,
-        folder: service.folder,
-        set: text,
-    };
-    match serve_stores(
-        rt,
-        host.alloc(),
-        &set,
-        stores,
-        service,
-        writer,
-        &progress,
-        &board,
-        log,
-    ) {
-        Ok(Explained::Order(_)) => Ok(DONE),
-        Ok(Explained::Cycle(_)) => Ok(OFFENDING),
+    match serve_accepted(host, rt, stores, text, &set, service, log, writer) {
+        Ok(status) => Ok(status),
         Err(fault) => {
             note_ports(host, &rt, service, fault, hints);
             note_copy(host, service, fault, hints);

@@ -1,5 +1,7 @@
 //! Stores by their files: listed, and upgraded. Both look at a copy first, so that nothing is
 //! written to what is no store, or is only read.
+ghost use Rattle.std.specs.Prelude.{◌≡◌};
+
 use crate::fault::Fault;
 use crate::hints::Hints;
 use crate::source::InputFault;
@@ -12,14 +14,27 @@ use sqlite::Connection;
 use std::alloc::Global;
 use std::io::{IsTerminal, Write};
 
+/// Why the store of that file was not copied.
+fn uncopied<'a>(store: &'a str, fault: CopyFault) -> Fault<'a>
+    ensures unread { fault ≡ CopyFault.Unread → result ≡ Fault.Unread
+        (record { name = store.entry }) }
+    ensures damaged { fault ≡ CopyFault.Damaged → result ≡ Fault.Store ShowFault.Damaged }
+    ensures store { fault ≡ CopyFault.Store → result ≡ Fault.Store ShowFault.Store }
+    ensures memory { fault ≡ CopyFault.Memory → result ≡ Fault.Memory }
+{
+    match fault {
+        CopyFault::Unread => Fault::of_reading(store, InputFault::Read),
+        CopyFault::Damaged => Fault::Store(ShowFault::Damaged),
+        CopyFault::Store => Fault::Store(ShowFault::Store),
+        CopyFault::Memory => Fault::Memory,
+    }
+}
+
 /// A copy of the store of a file, as it is before anything is done to it.
 fn copied<'a>(rt: &HostRuntime, store: &'a str) -> Result<StoreCopy, Fault<'a>> {
     match copy_store(rt, store) {
         Ok(copy) => Ok(copy),
-        Err(CopyFault::Unread) => Err(Fault::of_reading(store, InputFault::Read)),
-        Err(CopyFault::Damaged) => Err(Fault::Store(ShowFault::Damaged)),
-        Err(CopyFault::Store) => Err(Fault::Store(ShowFault::Store)),
-        Err(CopyFault::Memory) => Err(Fault::Memory),
+        Err(fault) => Err(uncopied(store, fault)),
     }
 }
 

@@ -10,7 +10,7 @@ use lynx_store_files::{Files, Stores};
 use std::alloc::Global;
 
 /// A program that fills an account of the first server, and one that pays from it to one of the
-/// second. tests/store_baseline.c has the same.
+/// second. tests/baselines/store.c has the same.
 const SET: &str =
     "lynx 1\nservers 2\ntable acct\nshard 0 999 0\nshard 1000 18446744073709551615 1\nprogram seed n\nhop 0\nadd acct 0 n\nend\nprogram pay n\nhop 0\nget x acct 0\nneed x >= n\nsub acct 0 n\nhop 1\nadd acct 1000 n\nend\n";
 

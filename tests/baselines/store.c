@@ -1,7 +1,8 @@
-/* store_baseline FOLDER|:memory: COUNT: what `lynx_bench store FOLDER COUNT` does to its two stores, done by libsqlite3:
-   the same tables, statements, transactions and bytes, a log with FULL syncs, statements prepared once.
+/* store FOLDER|:memory: COUNT: what `lynx_bench store FOLDER COUNT` does to its two stores, done by libsqlite3:
+   the same tables, statements, transactions and bytes, a log with FULL syncs, statements prepared once. It prints how many
+   payments it did, as `lynx_bench` does. tests/bench runs the two in turn.
 
-   cc -O2 -o store_baseline tests/store_baseline.c -lsqlite3 */
+   cc -O2 -o store tests/baselines/store.c -lsqlite3 */
 #include <sqlite3.h>
 #include <stdint.h>
 #include <stdio.h>
@@ -26,7 +27,7 @@ typedef struct {
 
 static void need(int is_well, sqlite3 *db) {
     if (!is_well) {
-        fprintf(stderr, "store_baseline: %s\n", db ? sqlite3_errmsg(db) : "no database");
+        fprintf(stderr, "store: %s\n", db ? sqlite3_errmsg(db) : "no database");
         exit(4);
     }
 }
@@ -176,7 +177,7 @@ static void end(Store *store) {
 
 int main(int count, char **words) {
     if (count != 3) {
-        fprintf(stderr, "store_baseline: a folder and a count are wanted\n");
+        fprintf(stderr, "store: a folder and a count are wanted\n");
         return 2;
     }
     uint64_t payments = strtoull(words[2], NULL, 10), amount = payments + 1;

@@ -1,5 +1,7 @@
 -- What a line asks, and what a client sends.
-use Rattle.std.specs.Prelude.{◌≡◌, ◌<◌, ℕ, Bool, List, [], ◌∷◌, ◌++◌, length, true, false, codes}
+use Rattle.std.specs.Prelude.{◌≡◌, ◌<◌, ℕ, Bool, Option, List, [], ◌∷◌, ◌++◌, length, true, false, codes}
+use Rattle.std.specs.Io.KnownBytes.{Appends}
+use Rattle.lynx_codec.specs.Form.{form}
 use Rattle.lynx_codec.specs.declared.item.Item.{Item}
 use Rattle.lynx_codec.specs.declared.item.Item.TheVariants.{Request, Look, Quit, Shut}
 use Rattle.lynx_entry.specs.declared.event.Event.{Event}
@@ -87,3 +89,18 @@ pub record Sends (set : Set) (line : List ℕ) (item : Item) (waits : Bool) : Ty
   pub asks_it : IsAskedBy set line asked
   pub item_is : item ≡ item_of asked
   pub waits_is : waits ≡ waits_in asked
+
+-- The bytes were sent right behind all that was sent before: with nothing between them, the stream
+-- held them.
+pub record IsSentFirst {S : Type 0} (contents : S → Option (List ℕ)) (bytes : List ℕ)
+    (old : S) : Type 0 where
+  pub held : S
+  pub sent : Appends (contents old) (contents held) bytes
+
+-- the form of the item that a line asks for was so sent
+pub record IsSentFor {S : Type 0} (contents : S → Option (List ℕ)) (set : Set) (line : List ℕ)
+    (old : S) : Type 0 where
+  pub item : Item
+  pub waits : Bool
+  pub asked : Sends set line item waits
+  pub first : IsSentFirst contents (form item) old

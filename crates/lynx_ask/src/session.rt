@@ -1,7 +1,9 @@
 //! A talk with a service, line by line.
 ghost use Rattle.std.specs.Prelude.{◌≡◌, ◌⊎◌, ℕ, List, Option, IfOk, OnErr, OnOk};
 ghost use Rattle.std.specs.Io.KnownBytes.{Appends};
+ghost use Rattle.lynx_codec.specs.Form.{form};
 ghost use Rattle.lynx_codec.specs.Ranges.{IsInRange};
+ghost use Rattle.lynx_ask.specs.Asking.{IsSentFirst, IsSentFor};
 ghost use Rattle.lynx_ask.specs.Replying.{HasReplied, HasStopped, IsHeard, item_line};
 
 use crate::answering::{line_of, next_item};
@@ -73,8 +75,11 @@ impl AskSession {
         ensures replied { IfOk result (HasReplied (W.contents writer.old) (W.contents writer.new)) }
         ensures stopped { OnErr result (HasStopped (W.contents writer.old)
             (W.contents writer.new)) }
-        // A faulty line isn't sent, and what was sent for others isn't read for it.
+        // A faulty line isn't sent, and what was sent for others isn't read for it; for another its
+        // item is sent, and nothing before that.
         ensures unsent { IfOk result (λ reply. IsHeard reply ⊎ (stream.new ≡ stream.old)) }
+        ensures sent { IfOk result (λ reply. IsHeard reply
+            → IsSentFor S.contents set.now line.now stream.old) }
     {
         self.lines = self.lines.saturating_add(1);
         match read_item(alloc, set, line) {
@@ -101,6 +106,7 @@ impl AskSession {
             (W.contents writer.new) (item_line answer)) }
         ensures stopped { OnErr result (HasStopped (W.contents writer.old)
             (W.contents writer.new)) }
+        ensures sent { OnOk result (IsSentFirst S.contents (form item.now) stream.old) }
     {
         let form = encode(alloc, item)?;
         let answer = if waits {
@@ -118,7 +124,9 @@ impl AskSession {
         alloc: Global,
         form: &[u8],
         stream: &mut S,
-    ) -> Result<Item, AskFault> {
+    ) -> Result<Item, AskFault>
+        ensures { OnOk result (IsSentFirst S.contents form.now stream.old) }
+    {
         if write_bytes(stream, form).is_err() {
             return Err(AskFault::Lost);
         }
@@ -132,17 +140,20 @@ impl AskSession {
         alloc: Global,
         form: &[u8],
         stream: &mut S,
-    ) -> Result<Item, AskFault> {
+    ) -> Result<Item, AskFault>
+        ensures { OnOk result (IsSentFirst S.contents form.now stream.old) }
+    {
+        let mut answer = self.answer_to(alloc, form, stream)?;
         let mut pause = FIRST_PAUSE;
         for _ in 0..PAUSES {
-            let answer = self.answer_to(alloc, form, stream)?;
             if !matches!(answer, Item::Looked(Looked::Absent)) {
-                return Ok(answer);
+                break;
             }
             sleep(rt, Duration::from_millis(pause));
             pause = pause.saturating_mul(2).min(LONGEST_PAUSE);
+            answer = self.answer_to(alloc, form, stream)?;
         }
-        self.answer_to(alloc, form, stream)
+        Ok(answer)
     }
 }
 
@@ -160,7 +171,9 @@ fn reply_of(answer: Item) -> LineReply
 
 /// What comes of a line with that fault.
 fn faulty(fault: TextFault) -> Result<LineReply, AskFault>
-    ensures { IfOk result (λ reply. (known : Option (List ℕ)) → HasReplied known known reply) }
+    ensures replied { IfOk result (λ reply. (known : Option (List ℕ))
+        → HasReplied known known reply) }
+    ensures unheard { IfOk result (λ reply. IsHeard reply → ⊥) }
 {
     match fault.kind {
         FaultKind::Memory => Err(AskFault::Memory),

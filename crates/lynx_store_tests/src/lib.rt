@@ -1,13 +1,11 @@
-//! Tests of stores, with ample memory: made, kept, opened again, upgraded, given to other sets,
-//! damaged by hand, and stopped; and of gathering over stores that stop, and over keepers in
-//! memory: the worked payment with a stop at each call of a store, and random runs over three
-//! servers whose stores stop again and again.
+//! Tests of stores that stop, with ample memory: at each call of an upgrade, of what gives a store
+//! to another set, and of the worked payment; and again and again, in random runs over three
+//! servers. And of gathering, over such stores and over keepers in memory. What stores keep and
+//! tell where nothing stops them is tried by the program, in tests/stores and tests/extend.
 #![tactic(auto)]
 
 #[cfg(test)]
 mod caller;
-#[cfg(test)]
-mod damaged;
 #[cfg(test)]
 mod disks;
 #[cfg(test)]
@@ -16,8 +14,6 @@ mod extensions;
 mod gathered;
 #[cfg(test)]
 mod luck;
-#[cfg(test)]
-mod made;
 #[cfg(test)]
 mod memory;
 #[cfg(test)]
@@ -29,20 +25,14 @@ mod reopening;
 #[cfg(test)]
 mod seeded;
 #[cfg(test)]
-mod shown;
-#[cfg(test)]
 mod steps;
 #[cfg(test)]
 mod stopping;
 #[cfg(test)]
 mod stops;
 #[cfg(test)]
-mod stores;
-#[cfg(test)]
 mod torn;
 #[cfg(test)]
 mod upgrades;
 #[cfg(test)]
 mod wandering;
-#[cfg(test)]
-mod worked;

@@ -1,12 +1,10 @@
 //! Upgrades of a store, with a stop at each call, one after another.
 use crate::disks::{come_back, connect};
-use crate::made::{Fault, paid};
 use crate::seeded::paid_disks;
 use lynx_fixtures::cells::{Cell, are_cells};
 use lynx_fixtures::texts::{PAYMENT, set_of};
 use lynx_names::Memory;
 use lynx_set::Version;
-use lynx_show::{ShowFault, check_upgrade, upgrade_and_tell};
 use lynx_store::{Inspected, inspect, upgrade_store};
 use sqlite::Files;
 use sqlite_disk::Disk;
@@ -93,62 +91,4 @@ fn each_stop_of_an_upgrade_is_survived(rt: HostRuntime) -> Result<(), Fail> {
         assert!(rt; stops >= least, "{of_log}: {stops} stops");
     }
     Ok(())
-}
-
-/// What an upgrade of the payer's store tells, and what another answers after it.
-fn upgraded_twice(alloc: Global) -> Result<(Vec<u8>, Result<(), ShowFault>), Fault> {
-    let mut conn = paid(alloc)?;
-    let mut told = Vec::new(alloc);
-    let first = upgrade_and_tell(alloc, &mut conn, &mut told);
-    let second = upgrade_and_tell(alloc, &mut conn, &mut told);
-    match first {
-        Ok(()) => Ok((told, second)),
-        Err(_) => Err(Fault::Database),
-    }
-}
-
-#[test]
-fn a_store_is_upgraded_once(rt: HostRuntime) -> Result<(), Fail> {
-    let Ok((told, second)) = upgraded_twice(rt.alloc()) else {
-        return Err(Fail::from("not upgraded"));
-    };
-    assert!(rt; told.as_slice() == b"upgraded 2\n".as_slice());
-    assert!(rt; second == Err(ShowFault::OtherVersion));
-    Ok(())
-}
-
-/// What a look at the payer's store answers after this was done to it, and what an upgrade does.
-fn answers_after(
-    alloc: Global,
-    statements: &str,
-) -> Result<(Result<(), ShowFault>, Result<(), ShowFault>), Fault> {
-    let mut conn = paid(alloc)?;
-    if conn.execute_batch(statements).is_err() {
-        return Err(Fault::Database);
-    }
-    let looked = check_upgrade(alloc, &mut conn);
-    let mut told = Vec::new(alloc);
-    let upgraded = upgrade_and_tell(alloc, &mut conn, &mut told);
-    Ok((looked, upgraded))
-}
-
-/// What was done, and what both answer.
-#[rattlefmt::skip]
-const CASES: &[(&str, Result<(), ShowFault>)] = &[
-    ("", Ok(())),
-    // What is lawful, an upgrade doesn't judge.
-    ("UPDATE cell SET v = x'0000000000000047'", Ok(())),
-    ("INSERT INTO entry SELECT 2, body FROM entry WHERE place = 0", Err(ShowFault::Damaged)),
-    ("INSERT INTO entry SELECT 2, body FROM entry WHERE place = 1", Err(ShowFault::Damaged)),
-    ("INSERT INTO cell VALUES(1, x'0000000000000000', x'0000000000000001')", Err(ShowFault::Damaged)),
-    ("UPDATE cell SET tab = 1", Err(ShowFault::Damaged)),
-    ("UPDATE meta SET txt = 'lynx store 3' WHERE id = 1", Err(ShowFault::OtherVersion)),
-];
-
-#[test]
-fn what_no_second_version_can_hold_is_not_upgraded(rt: HostRuntime) {
-    for &(statements, wanted) in CASES {
-        let answers = answers_after(rt.alloc(), statements);
-        assert!(rt; answers == Ok((wanted, wanted)), "{statements}");
-    }
 }

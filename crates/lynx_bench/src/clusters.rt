@@ -31,7 +31,7 @@ pub enum ClusterDone {
 }
 
 /// How many servers, which a cluster can have.
-fn servers_of(word: &str) -> Option<u8>
+pub(crate) fn servers_of(word: &str) -> Option<u8>
     ensures least { IfSome result (λ servers. 0 < servers) }
     ensures most { IfSome result (λ servers. servers ≤ MAX_SERVERS) }
 {
@@ -40,7 +40,7 @@ fn servers_of(word: &str) -> Option<u8>
 }
 
 /// How many threads, one at least.
-fn threads_of(word: &str) -> Option<u8>
+pub(crate) fn threads_of(word: &str) -> Option<u8>
     ensures { IfSome result (λ threads. 0 < threads) }
 {
     let threads = word.parse().ok()?;

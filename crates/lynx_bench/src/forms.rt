@@ -29,7 +29,7 @@ const RAN: &[u8] = &[
 ];
 
 /// Adds the form of an item.
-fn write(item: &Item, out: &mut Vec<u8>) -> Result<(), Memory>
+pub(crate) fn write(item: &Item, out: &mut Vec<u8>) -> Result<(), Memory>
     requires { IsInRange item.now }
 {
     out.reserve(MAX_FORM_BYTES)?;

@@ -2,7 +2,7 @@
 use crate::load::closed_well;
 use crate::load_fault::LoadFault;
 use crate::starting::start;
-use lynx_cluster::Host;
+use lynx_cluster::{Host, OpenGate};
 use std::alloc::Global;
 use std::thread;
 use std::time::Duration;
@@ -10,7 +10,7 @@ use std::time::Duration;
 /// Has a cluster of so many servers, 1 to 16, run for so many seconds with nothing to do, and
 /// closes it. So the time of the processor that it takes can be measured from outside.
 pub fn idle<R: Host>(rt: R, alloc: Global, servers: u8, seconds: u64) -> Result<(), LoadFault> {
-    let cluster = start(rt, alloc, servers)?;
+    let cluster = start(rt, alloc, servers, OpenGate)?;
     thread::sleep(&rt, Duration::from_secs(seconds));
     closed_well(alloc, cluster.close(&rt, alloc, Vec::new(alloc)))?;
     Ok(())

@@ -3,6 +3,7 @@ ghost use Rattle.std.specs.Prelude.{◌≡◌, ◌<◌, ◌+◌};
 
 use crate::load_fault::LoadFault;
 use crate::payer::{Payer, begun_now, payers};
+use crate::repeats::counting_gate;
 use crate::starting::start;
 use crate::texts::{last_hop, payment, seed};
 use lynx_cluster::{CloseFault, Closed, Front, Gate, Host, Session};
@@ -13,6 +14,7 @@ use lynx_order::{Explained, explain};
 use lynx_world::World;
 use std::alloc::Global;
 use std::sync::Wait;
+use std::sync::atomic::Ordering;
 use std::thread::Threads;
 use std::time::{Clock, Duration, Instant};
 use std::{fmt, thread};
@@ -50,18 +52,21 @@ pub struct Measured {
     pub close: Duration,
     /// The search for an order that explains the world of the closed cluster.
     pub explain: Duration,
+    /// Messages that came once more when their hop was done.
+    pub again: u64,
 }
 
 impl fmt::Display for Measured {
     fn fmt<W: fmt::Write>(&self, f: &mut fmt::Formatter<W>) -> fmt::Result {
         write!(
             f,
-            "begun {} in {} ms, done {} ms, closed {} ms, explained {} ms",
+            "begun {} in {} ms, done {} ms, closed {} ms, explained {} ms, {} messages again",
             self.begun,
             self.begin.as_millis(),
             self.done.as_millis(),
             self.close.as_millis(),
-            self.explain.as_millis()
+            self.explain.as_millis(),
+            self.again
         )
     }
 }
@@ -97,7 +102,8 @@ fn seed_all<R: Wait, K: Keeper, G: Gate>(
     load: Load,
 ) -> Result<(), LoadFault> {
     for server in 0..load.servers {
-        let request = seed(alloc, session.number(), server, load.servers, amount(load))?;
+        let (client, number) = (session.number(), u64::from(server));
+        let request = seed(alloc, client, number, server, load.servers, amount(load))?;
         begun_now(front.begin(rt, alloc, session, request))?;
     }
     Ok(())
@@ -312,6 +318,7 @@ fn audit<R: Clock>(
     alloc: Global,
     load: Load,
     carried: Carried,
+    again: u64,
     world: &World,
 ) -> Result<Measured, LoadFault> {
     let Carried { begun, times } = carried;
@@ -325,6 +332,7 @@ fn audit<R: Clock>(
         done: times.done.duration_since(times.first),
         close: closed_at.duration_since(times.done),
         explain: explained_at.duration_since(closed_at),
+        again,
     })
 }
 
@@ -335,11 +343,13 @@ pub fn measure<R: Host>(rt: R, alloc: Global, load: Load) -> Result<Measured, Lo
     if load.threads == 0 {
         return Err(LoadFault::Threads);
     }
-    let cluster = start(rt, alloc, load.servers)?;
+    let (gate, again) = counting_gate(alloc)?;
+    let cluster = start(rt, alloc, load.servers, gate)?;
     let mut sessions = Vec::new(alloc);
     let carried = carry(&rt, alloc, cluster.front(), load, &mut sessions);
     let closed = closed_well(alloc, cluster.close(&rt, alloc, sessions));
     let carried = carried?;
     let closed = closed?;
-    audit(&rt, alloc, load, carried, &closed.world)
+    let again = again.load(Ordering::SeqCst);
+    audit(&rt, alloc, load, carried, again, &closed.world)
 }

@@ -26,6 +26,10 @@ pub enum LoadFault {
     Cycle,
     /// The cells hold another sum than was seeded.
     Sum,
+    /// Nobody listens at the port.
+    Connect,
+    /// The connection ended, or what came over it is no answer.
+    Lost,
     /// The clock can't be read.
     Clock,
     /// Want of memory.
@@ -45,6 +49,8 @@ impl LoadFault {
             LoadFault::Close => "the cluster didn't close",
             LoadFault::Cycle => "no order explains the world",
             LoadFault::Sum => "the cells don't hold what was seeded",
+            LoadFault::Connect => "cannot connect",
+            LoadFault::Lost => "connection lost",
             LoadFault::Clock => "the clock can't be read",
             LoadFault::Memory => "out of memory",
         }

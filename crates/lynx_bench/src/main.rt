@@ -7,14 +7,21 @@
 //!
 //! Two kinds of work are of a cluster in memory, with a thread for each server:
 //! `cluster SERVERS THREADS COUNT [ACROSS]` pays so many times by so many threads, ACROSS of 100
-//! times from one server to another (without it always), and prints how long that took, and
-//! `idle SERVERS SECONDS` has the cluster do nothing.
+//! times from one server to another (without it always), and prints how long that took, and how
+//! many messages came again whose hop was done; `idle SERVERS SECONDS` has the cluster do nothing.
+//!
+//! `set SERVERS` prints the set of such a cluster. `port PORT CONNECTIONS IN_FLIGHT SECONDS
+//! [SERVERS]` begins chains of one hop at a service over it (of one server, if not told), by so
+//! many connections with so many begins in flight each. It prints how many a second, and within
+//! what time half of them, 99 of 100 and 999 of 1,000 were answered.
 #![tactic(auto)]
 
+use std::net::{Net, TcpListener, TcpStream};
 use std::process::ExitCode;
 use std::rt::Env;
 use std::{env, fmt};
 
+mod caller;
 mod chains;
 mod clusters;
 mod fault;
@@ -25,17 +32,21 @@ mod load_fault;
 mod measure;
 mod memory_stores;
 mod payer;
+mod port;
+mod repeats;
 mod ring;
 mod shape;
 mod starting;
 mod stores;
 mod texts;
 
-use clusters::ClusterWork;
+use clusters::{ClusterWork, servers_of, threads_of};
 use fault::Fault;
 use lynx_cluster::Host;
 use measure::{MemoryWork, Work, measure};
+use port::{PortLoad, call_service, in_flight_of};
 use shape::Shape;
+use texts::set_text;
 
 /// What the words of the command line ask for.
 #[derive(Clone, Copy)]
@@ -44,6 +55,10 @@ enum Job<'a> {
     Work { work: Work<'a>, count: u64 },
     /// Work of a cluster.
     Cluster(ClusterWork),
+    /// The text of the set for so many servers.
+    Set { servers: u8 },
+    /// A load at a service.
+    Port(PortLoad),
 }
 
 /// That work so many times.
@@ -55,6 +70,9 @@ fn repeated<'a>(work: Work<'a>, count: &str) -> Option<Job<'a>> {
 /// The work that a word names, so many times.
 fn work_of<'a>(word: &str, count: &str) -> Option<Job<'a>> {
     let work = match word {
+        "set" => return Some(Job::Set {
+            servers: servers_of(count)?,
+        }),
         "encode" => MemoryWork::Encode,
         "begin" => MemoryWork::Begin,
         "deliver" => MemoryWork::Deliver,
@@ -108,9 +126,29 @@ fn cluster<'a>(work: &str, load: &[String], across: &str) -> Option<Job<'a>> {
     }
 }
 
+/// A load at a service, of one server if that isn't told.
+fn call<'a>(load: &[String]) -> Option<Job<'a>> {
+    let (port, connections, in_flight, seconds, servers) = match load {
+        [port, connections, in_flight, seconds] => (port, connections, in_flight, seconds, 1),
+        [port, connections, in_flight, seconds, servers] => {
+            let servers = servers_of(servers.as_str())?;
+            (port, connections, in_flight, seconds, servers)
+        }
+        _ => return None,
+    };
+    Some(Job::Port(PortLoad {
+        port: port.as_str().parse().ok()?,
+        connections: threads_of(connections.as_str())?,
+        in_flight: in_flight_of(in_flight.as_str())?,
+        seconds: seconds.as_str().parse().ok()?,
+        servers,
+    }))
+}
+
 /// What the words ask for, the program's name first.
 fn asked(words: &[String]) -> Option<Job<'_>> {
     match words {
+        [_, work, load @ ..] if work.as_str() == "port" => call(load),
         [_, work, count] => work_of(work.as_str(), count.as_str()),
         [_, work, size, count] => sized(work.as_str(), size.as_str(), count.as_str()),
         [_, work, load @ .., across] if load.len() == 3 => {
@@ -121,6 +159,12 @@ fn asked(words: &[String]) -> Option<Job<'_>> {
     }
 }
 
+/// Prints the line of why nothing was done, and gives the status.
+fn refuse(rt: &HostRuntime, fault: Fault) -> u8 {
+    let _ = eprintln!(rt; "lynx_bench: {}", fault.words());
+    fault.status()
+}
+
 /// Prints the line of what was done, or of why not, and gives the status.
 fn report<T: fmt::Display + Drop>(rt: &HostRuntime, done: Result<T, Fault>) -> u8 {
     match done {
@@ -128,21 +172,35 @@ fn report<T: fmt::Display + Drop>(rt: &HostRuntime, done: Result<T, Fault>) -> u
             let _ = println!(rt; "{done}");
             0
         }
-        Err(fault) => {
-            let _ = eprintln!(rt; "lynx_bench: {}", fault.words());
-            fault.status()
+        Err(fault) => refuse(rt, fault),
+    }
+}
+
+/// Prints the set for so many servers, and gives the status.
+fn print_set(rt: &HostRuntime, servers: u8) -> u8 {
+    match set_text(rt.alloc(), servers) {
+        Ok(text) => {
+            let _ = print!(rt; "{text}");
+            0
         }
+        Err(fault) => refuse(rt, Fault::from(fault)),
     }
 }
 
 /// Does what the words ask for, and gives the status.
-fn obey<R: Host>(host: &HostRuntime, rt: R, words: &[String]) -> u8 {
+fn obey<R: Host + Net<Listener = TcpListener, Stream = TcpStream>>(
+    host: &HostRuntime,
+    rt: R,
+    words: &[String],
+) -> u8 {
     match asked(words) {
         Some(Job::Work { work, count }) => report(host, measure(host, work, count)),
         Some(Job::Cluster(work)) => report(host, work.run(rt, host.alloc())),
+        Some(Job::Set { servers }) => print_set(host, servers),
+        Some(Job::Port(load)) => report(host, call_service(&rt, host.alloc(), load)),
         None => {
             let _ = eprintln!(host;
-                "lynx_bench: begin, deliver, open, encode, feed and the size of a piece, store or open-store and a folder, or weave, cut or explain and 2, 16, adds, alternating, cells or cycle; and a count; or cluster, servers (1 to 16), threads (1 to 255), a count and, if not 100, how many of 100 payments go to another server; or idle, servers and seconds"
+                "lynx_bench: begin, deliver, open, encode, feed and the size of a piece, store or open-store and a folder, or weave, cut or explain and 2, 16, adds, alternating, cells or cycle; and a count; or cluster, servers (1 to 16), threads (1 to 255), a count and, if not 100, how many of 100 payments go to another server; or idle, servers and seconds; or set and servers; or port, a port, connections (1 to 255), begins in flight (1 to 65535), seconds and, if not 1, servers"
             );
             2
         }

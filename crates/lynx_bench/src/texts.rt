@@ -4,7 +4,8 @@
 //! server behind it, so that payments of two servers meet only where they add. Of N servers program
 //! S pays from server S to the next by two hops, program N + S pays within server S by one, and
 //! program 2 N + S fills the account that S pays from.
-ghost use Rattle.std.specs.Prelude.{◌≡◌, ◌<◌, ◌+◌, ◌*◌, OnOk};
+ghost use Rattle.std.specs.Prelude.{◌≡◌, ◌<◌, ◌≤◌, ◌+◌, ◌*◌, IfOk, OnOk, length};
+ghost use Rattle.lynx_names.specs.declared.limits.TheConstants.{MAX_PARAMETERS};
 
 use crate::load_fault::LoadFault;
 use lynx_entry::Request;
@@ -99,8 +100,8 @@ fn write_set(text: &mut String, servers: u8) -> Result<(), AllocError> {
     Ok(())
 }
 
-/// The set for so many servers, 1 to 16. Any other number is a fault.
-pub(crate) fn set_for(alloc: Global, servers: u8) -> Result<Box<ChainSet>, LoadFault>
+/// The text of the set for so many servers. None is a fault, and no other number.
+pub(crate) fn set_text(alloc: Global, servers: u8) -> Result<String, LoadFault>
     ensures { OnOk result (0 < servers) }
 {
     if servers == 0 {
@@ -108,6 +109,14 @@ pub(crate) fn set_for(alloc: Global, servers: u8) -> Result<Box<ChainSet>, LoadF
     }
     let mut text = String::new(alloc);
     write_set(&mut text, servers)?;
+    Ok(text)
+}
+
+/// The set for so many servers, 1 to 16. Any other number is a fault.
+pub(crate) fn set_for(alloc: Global, servers: u8) -> Result<Box<ChainSet>, LoadFault>
+    ensures { OnOk result (0 < servers) }
+{
+    let text = set_text(alloc, servers)?;
     match parse(alloc, text.as_bytes()) {
         Ok(set) => Ok(Box::new(alloc, set)?),
         Err(fault) if fault.kind == FaultKind::Memory => Err(LoadFault::Memory),
@@ -130,7 +139,9 @@ fn request(
     number: u64,
     program: u8,
     amount: u64,
-) -> Result<Request, Memory> {
+) -> Result<Request, Memory>
+    ensures { IfOk result (λ request. length request.args ≤ MAX_PARAMETERS) }
+{
     let mut args = Values::new(alloc);
     args.push(amount)?;
     Ok(Request {
@@ -162,15 +173,17 @@ pub(crate) fn payment_within(
     request(alloc, client, number, servers.saturating_add(server), 1)
 }
 
-/// A client's request to fill that server's account, of so many servers. The server's number is
-/// that of the request.
+/// A client's request of that number to fill that server's account, of so many servers.
 pub(crate) fn seed(
     alloc: Global,
     client: u64,
+    number: u64,
     server: u8,
     servers: u8,
     amount: u64,
-) -> Result<Request, Memory> {
+) -> Result<Request, Memory>
+    ensures { IfOk result (λ request. length request.args ≤ MAX_PARAMETERS) }
+{
     let program = servers.saturating_mul(2).saturating_add(server);
-    request(alloc, client, u64::from(server), program, amount)
+    request(alloc, client, number, program, amount)
 }

@@ -3,7 +3,8 @@
 
 use clap::error::ErrorKind;
 use clap::{ArgMatches, Error};
-use lynx_cli::{CommandFault, Fault, Hints, Job, command, do_job, job_of, wants_hints};
+use lynx_args::{CommandFault, Job, command, job_of, wants_hints};
+use lynx_cli::{Fault, Hints, do_job};
 use lynx_cluster::Host;
 use lynx_store::BatchKeeper;
 use lynx_store_files::{Files, Stores};

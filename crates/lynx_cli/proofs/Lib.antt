@@ -1,4 +1,2 @@
 mod InputLemmas
 mod Judged
-pub mod Found
-mod Numbers

@@ -21,7 +21,7 @@ use Rattle.lynx_report.specs.Refusals.{Accepts}
 use Rattle.lynx_report.specs.declared.options.CheckOptions.{CheckOptions}
 use Rattle.lynx_report.specs.declared.options.DrawOptions.{DrawOptions}
 use Rattle.lynx_report.specs.declared.options.RunOptions.{RunOptions}
-use Rattle.lynx_cli.specs.declared.job.RunFlags.{RunFlags}
+use Rattle.lynx_args.specs.declared.job.RunFlags.{RunFlags}
 use Rattle.lynx_sample.specs.Samples.{IsSample}
 use Rattle.lynx_service.specs.Services.{HasServed}
 use Rattle.lynx_store.specs.Stored.{Owner}

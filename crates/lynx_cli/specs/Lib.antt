@@ -1,4 +1,3 @@
-pub mod Jobs
 pub mod Inputs
 pub mod Statuses
 pub mod Done

@@ -17,7 +17,7 @@ use Rattle.lynx_report.specs.declared.options.RunOptions.{RunOptions}
 use Rattle.lynx_sample.specs.Samples.{BeginsSample, NoSampleFor}
 use Rattle.lynx_sample.specs.declared.fault.SampleFault.{SampleFault}
 use Rattle.lynx_sample.specs.declared.fault.SampleFault.TheVariants as sample
-use Rattle.lynx_cli.specs.declared.job.RunFlags.{RunFlags}
+use Rattle.lynx_args.specs.declared.job.RunFlags.{RunFlags}
 use Rattle.lynx_cli.specs.Done.{IsAccepted, options_of}
 use Rattle.lynx_cli.specs.declared.fault.Fault.{Fault}
 use Rattle.lynx_cli.specs.declared.fault.Fault.TheVariants.{Ask, Memory, NoSeparator, Occupied, Sample, Script, Serve, Set, Store, Write}

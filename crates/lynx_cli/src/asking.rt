@@ -2,10 +2,10 @@
 use crate::comparing::compare_sets;
 use crate::fault::Fault;
 use crate::hints::{Hints, Named};
-use crate::job::INPUT;
 use crate::reading::{is_named_pipe, text_of};
 use crate::source::{InputFault, MAX_FILE_BYTES, read_all};
 use crate::texts::{DONE, FAULTY};
+use lynx_args::INPUT;
 use lynx_ask::{AskFault, AskSession, LineReply};
 use lynx_codec::Item;
 use lynx_entry::Answer;

@@ -4,9 +4,9 @@ ghost use Rattle.lynx_cli.specs.Statuses.{status_of, status_of_run};
 ghost use Rattle.lynx_service.specs.Faults.{missing_fault, store_fault};
 ghost use Rattle.lynx_cli.specs.Stopped.{asking_fault, rerun_fault, restoring_fault, run_fault, sampling_fault, serving_fault, showing_fault, taking_fault};
 
-use crate::job::CommandFault;
 use crate::shown::Shown;
 use crate::source::InputFault;
+use lynx_args::CommandFault;
 use lynx_ask::AskFault;
 use lynx_lex::TextFault;
 use lynx_names::ServerId;

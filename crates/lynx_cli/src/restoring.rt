@@ -2,10 +2,10 @@
 use crate::auditing::{Copies, READING, copies_of};
 use crate::fault::Fault;
 use crate::hints::Hints;
-use crate::job::RestorePlace;
 use crate::salvaged::{Found, found_in};
 use crate::storing::{WIPED, tell};
 use crate::texts::DONE;
+use lynx_args::RestorePlace;
 use lynx_keep::Keeper;
 use lynx_names::ServerId;
 use lynx_names::limits::MAX_SERVERS;

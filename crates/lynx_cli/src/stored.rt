@@ -5,8 +5,8 @@ ghost use Rattle.lynx_set.specs.Text.{text_of};
 ghost use Rattle.lynx_cli.specs.Done.{HasRerun, HasRerunJudged, HasRerunTexts};
 
 use crate::fault::Fault;
-use crate::job::RunFlags;
 use crate::texts::{OFFENDING, status_of_ending};
+use lynx_args::RunFlags;
 use lynx_keep::Keeper;
 use lynx_report::{RunOptions, accepted_set, read_set};
 use lynx_rerun::rerun;

@@ -8,7 +8,7 @@ ghost use Rattle.lynx_cli.specs.Stopped.{StopsCharting, StopsChecking, StopsDraw
 
 use crate::fault::Fault;
 use crate::input::split_input;
-use crate::job::{RunFlags, SampleFlags};
+use lynx_args::{RunFlags, SampleFlags};
 use lynx_report::{
     CheckOptions, DrawOptions, Ending, Finding, RunOptions, accepted_set, chart_texts, check_text,
     draw_text, run_over_set, run_texts,

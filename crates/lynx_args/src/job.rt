@@ -1,6 +1,6 @@
 //! What the words of the command line ask for.
 ghost use Rattle.std.specs.Prelude.{option_map};
-ghost use Rattle.lynx_cli.specs.Jobs.{DrawsAs, RunsAs, ShowsAs};
+ghost use Rattle.lynx_args.specs.Jobs.{DrawsAs, RunsAs, ShowsAs};
 
 use lynx_draw::Extent;
 use thiserror::Error;

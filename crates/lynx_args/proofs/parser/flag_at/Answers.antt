@@ -1,7 +1,7 @@
 use Rattle.std.proofs.Common.{◌∙◌}
 use Rattle.clap.specs.Words.{found_of}
 use Rattle.clap.proofs.WalkLemmas.{one_text-rows}
-use Rattle.lynx_cli.proofs.parser.flag_at.Goals as goal
+use Rattle.lynx_args.proofs.parser.flag_at.Goals as goal
 
 pub returns : goal.returns
 returns c =

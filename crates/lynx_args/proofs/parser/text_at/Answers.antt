@@ -1,8 +1,8 @@
 use Rattle.std.proofs.Common.{◌∙◌, ℕ, List, Bor, ap}
 use Rattle.clap.specs.Words.{found_of}
 use Rattle.clap.proofs.WalkLemmas.{first_value-rows}
-use Rattle.lynx_cli.proofs.Found.{text_or}
-use Rattle.lynx_cli.proofs.parser.text_at.Goals as goal
+use Rattle.lynx_args.proofs.Found.{text_or}
+use Rattle.lynx_args.proofs.parser.text_at.Goals as goal
 
 pub returns : goal.returns
 returns c =

@@ -1,7 +1,7 @@
 //! The words of the command line.
 ghost use Rattle.std.specs.Prelude.{◌≡◌, Ok, None, Some, codes, option_map};
 ghost use Rattle.clap.specs.Words.{first_of, found_of, rows_of, subcommand_name_of, subcommand_rows_of};
-ghost use Rattle.lynx_cli.specs.Jobs.{AreFlags, AreSampleFlags, AskedBy, IsFlag, IsRestorePlace, TakesFound, TakesWords, no_flags, text_at};
+ghost use Rattle.lynx_args.specs.Jobs.{AreFlags, AreSampleFlags, AskedBy, IsFlag, IsRestorePlace, TakesFound, TakesWords, no_flags, text_at};
 
 use crate::draw_words::{draw_command, job_of_drawing};
 use crate::job::{
@@ -18,7 +18,7 @@ const STATUSES_AND_FAULTS: &str =
     "Statuses:\n  0  done: the set is accepted, an order explains the run\n  1  the set offends, or the run ends with a cycle\n  2  faulty words or a faulty text\n  3  out of memory\n  4  a file, a store, a socket or a thread fails, or the audit at the end of a service\n\nA faulty text is told with its line and one of these words: too-long, bad-version, bad-line,\nbad-name, bad-number, repeated, unknown, need-not-first, limit-passed, literal-elsewhere,\nshard-gap, shard-overlap, shard-server. With --hints, and on a terminal, the place is shown.";
 
 /// The version of the program.
-pub(crate) const VERSION: &str = "0.1.0";
+pub const VERSION: &str = "0.1.0";
 
 /// The script of a run or of the picture of one.
 pub(crate) const SCRIPT: &str = "SCRIPT";

@@ -1,7 +1,7 @@
 //! The words that ask for a service, and those that ask one.
 ghost use Rattle.std.specs.Prelude.{Some, codes};
 ghost use Rattle.clap.specs.Words.{found_of, rows_of};
-ghost use Rattle.lynx_cli.specs.Jobs.{AreServeFlags, AskedBy, IsNumber, IsPort, TakesFound};
+ghost use Rattle.lynx_args.specs.Jobs.{AreServeFlags, AskedBy, IsNumber, IsPort, TakesFound};
 
 use crate::job::{CommandFault, Job, ServeFlags};
 use crate::parser::{flag, flag_at, found_at, hints_flag, set_file, text_at};

@@ -1,7 +1,7 @@
 //! The words of the command line behind `draw`.
 ghost use Rattle.std.specs.Prelude.{Some, codes};
 ghost use Rattle.clap.specs.Words.{found_of, rows_of};
-ghost use Rattle.lynx_cli.specs.Jobs.{AskedBy, TakesFound};
+ghost use Rattle.lynx_args.specs.Jobs.{AskedBy, TakesFound};
 
 use crate::job::{CommandFault, Job, job_of_draw};
 use crate::parser::{SCRIPT, flag, flag_at, found_at, hints_flag, script_file, set_file, text_at};

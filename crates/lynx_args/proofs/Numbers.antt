@@ -5,7 +5,7 @@ use Rattle.std.specs.Str.Parse.{ParsesUnsigned}
 use Rattle.clap.specs.declared.parser.matches.Found.{Found}
 use Rattle.clap.specs.Words.{ReadsOne, one_of, one_text, rows_of}
 use Rattle.clap.proofs.WalkLemmas.{one_text-rows}
-use Rattle.lynx_cli.specs.Jobs.{IsNumber, IsPort, IsReadFrom}
+use Rattle.lynx_args.specs.Jobs.{IsNumber, IsPort, IsReadFrom}
 
 -- what is given of a text says that it is read as a number of so many bits
 module _ {E : Type 0} (Gives : List ℕ → Result ℕ E → Type 0) (bits : ℕ)

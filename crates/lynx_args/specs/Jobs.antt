@@ -2,14 +2,14 @@
 use Rattle.std.specs.Prelude.{◌≡◌, ◌≢◌, ◌⊎◌, ℕ, List, Option, Some, None, IsSome, option_map, Result, Ok, Err, codes, Bool, false, true, unwrap_or}
 use Rattle.std.specs.Str.Parse.{ParsesUnsigned}
 use Rattle.clap.specs.Words.{Row, Text, first_of, one_of}
-use Rattle.lynx_cli.specs.declared.job.Job.{Job}
-use Rattle.lynx_cli.specs.declared.job.Job.TheVariants.{Ask, AskFolder, Audit, Chart, Check, Draw, Extend, Owed, Restore, Run, RunInput, RunStores, Sample, Serve, Show, Upgrade}
-use Rattle.lynx_cli.specs.declared.job.RestorePlace.{RestorePlace}
-use Rattle.lynx_cli.specs.declared.job.RunFlags.{RunFlags}
-use Rattle.lynx_cli.specs.declared.job.SampleFlags.{SampleFlags}
-use Rattle.lynx_cli.specs.declared.job.ServeFlags.{ServeFlags}
-use Rattle.lynx_cli.specs.declared.job.CommandFault.{CommandFault}
-use Rattle.lynx_cli.specs.declared.job.CommandFault.TheVariants.{NoScript, ScriptTooMany, StoresOfInput, WalkOfRun, LateOfRun, WalkAndLate, StatusOfFolder, NoCommand, NotUtf8}
+use Rattle.lynx_args.specs.declared.job.Job.{Job}
+use Rattle.lynx_args.specs.declared.job.Job.TheVariants.{Ask, AskFolder, Audit, Chart, Check, Draw, Extend, Owed, Restore, Run, RunInput, RunStores, Sample, Serve, Show, Upgrade}
+use Rattle.lynx_args.specs.declared.job.RestorePlace.{RestorePlace}
+use Rattle.lynx_args.specs.declared.job.RunFlags.{RunFlags}
+use Rattle.lynx_args.specs.declared.job.SampleFlags.{SampleFlags}
+use Rattle.lynx_args.specs.declared.job.ServeFlags.{ServeFlags}
+use Rattle.lynx_args.specs.declared.job.CommandFault.{CommandFault}
+use Rattle.lynx_args.specs.declared.job.CommandFault.TheVariants.{NoScript, ScriptTooMany, StoresOfInput, WalkOfRun, LateOfRun, WalkAndLate, StatusOfFolder, NoCommand, NotUtf8}
 use Rattle.lynx_draw.specs.declared.shown.Extent.{Extent}
 use Rattle.lynx_draw.specs.declared.shown.Extent.TheVariants.{All, Walk, Late}
 

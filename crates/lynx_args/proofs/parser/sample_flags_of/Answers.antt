@@ -1,8 +1,8 @@
 use Rattle.std.proofs.Common.{codes}
 use Rattle.std.specs.Str.Parse.{ParsesUnsigned, ExplainsUnsignedError, HasUnsignedDigitsIfOk}
 use Rattle.clap.specs.Words.{found_of}
-use Rattle.lynx_cli.proofs.Numbers.{found_number}
-use Rattle.lynx_cli.proofs.parser.sample_flags_of.Goals as goal
+use Rattle.lynx_args.proofs.Numbers.{found_number}
+use Rattle.lynx_args.proofs.parser.sample_flags_of.Goals as goal
 
 pub returns : goal.returns
 returns c =

@@ -1,0 +1,11 @@
+//! The words of the command line: the parser of them, and the job that they ask for.
+#![tactic(auto)]
+
+pub use job::{CommandFault, INPUT, Job, RestorePlace, RunFlags, SampleFlags, ServeFlags};
+pub use parser::{VERSION, command, job_of, wants_hints};
+
+mod draw_words;
+pub mod job;
+pub mod parser;
+mod sample_words;
+mod serve_words;

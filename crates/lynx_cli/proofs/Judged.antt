@@ -1,18 +1,25 @@
 -- A run over a set that was read or judged before, by the set's text.
-use Rattle.std.proofs.Common.{◌≡◌, ◌∙◌, ℕ, Bool, true, false, List, Option, Result, Ok, Err, inr, ap, sym, subst}
+use Rattle.std.proofs.Common.{◌≡◌, ◌∙◌, ℕ, Bool, true, false, List, Option, Result, Ok, Err, inr, ap, refl, sym, subst}
 use Rattle.std.specs.Bool.{MatchBool}
 use Rattle.std.specs.Prelude.{IfErr, IfOk}
 use Rattle.lynx_keep.specs.Kept.{Terms}
 use Rattle.lynx_graph.specs.Acceptance.{IsAccepted as IsAcceptedSet}
+use Rattle.lynx_set.proofs.Literals.{literals_home}
+use Rattle.lynx_set.specs.Home.{AreLiteralsHome}
 use Rattle.lynx_set.specs.Rules.{IsSet}
 use Rattle.lynx_set.specs.Set.{Set}
 use Rattle.lynx_set.specs.Text.{text_of}
 use Rattle.lynx_text.proofs.OneSet.{one_set}
+use Rattle.lynx_order.specs.Explained.{GivesOrder}
+use Rattle.lynx_order.specs.declared.explained.Explained.{Explained}
+use Rattle.lynx_order.specs.declared.explained.Explained.TheVariants.{Cycle, Order}
 use Rattle.lynx_report.specs.Options.{PrintsOwed, PrintsWith}
 use Rattle.lynx_report.specs.Refusals.{Accepts}
-use Rattle.lynx_report.specs.Runs.{Prints}
+use Rattle.lynx_report.specs.Runs.{Prints, ending_of}
 use Rattle.lynx_report.specs.declared.run.Ending.{Ending}
 use Rattle.lynx_report.specs.declared.options.RunOptions.{RunOptions}
+use Rattle.lynx_rerun.specs.Reruns.{Reruns}
+use Rattle.lynx_store.specs.Stored.{Owner}
 use Rattle.lynx_cli.specs.declared.fault.Fault.{Fault}
 use Rattle.lynx_cli.specs.Done.{HasRerunJudged, HasRerunTexts, HasRunJudged, HasRunTexts}
 use Rattle.lynx_cli.specs.Statuses.{status_of_ending}
@@ -49,15 +56,30 @@ judged_stops options text script set (Ok status) old mid new accepts kept stops 
 judged_stops options text script set (Err fault) old mid new accepts kept stops =
     inr ((set, accepts), at_text (λ bytes before. StopsRunTexts options bytes script before new fault) text (text_of set) old mid accepts.spelled kept stops)
 
--- the same of a run over stores
+-- ---- the same of a run over stores
 
-pub rerun_done : {K : Type 0} (terms : Terms K) (options : RunOptions) (text script : List ℕ) (set : Set) (result : Result ℕ Fault) (old new : Option (List ℕ)) → text ≡ text_of set →
-    IfOk result (HasRerunTexts terms options (text_of set) script old new) → IfOk result (HasRerunTexts terms options text script old new)
-rerun_done terms options text script set (Err fault) old new same run = tt
-rerun_done terms options text script set (Ok status) old new same run = subst (λ bytes. HasRerunTexts terms options bytes script old new status) (sym same) run
+order_status : (explained : Explained) → GivesOrder explained → status_of_ending (ending_of explained) ≡ 0
+order_status (Order chains) given = refl
+order_status (Cycle chains) given = absurd given
 
-pub rerun_judged_done : {K : Type 0} (terms : Terms K) (options : RunOptions) (text script : List ℕ) (set : Set) (result : Result ℕ Fault) (old mid new : Option (List ℕ)) →
-    Accepts text set → mid ≡ old → IfOk result (HasRerunTexts terms options (text_of set) script mid new) → IfOk result (HasRerunJudged terms options text script old new)
-rerun_judged_done terms options text script set (Err fault) old mid new accepts kept run = tt
-rerun_judged_done terms options text script set (Ok status) old mid new accepts kept run =
-    inr ((set, accepts), at_text (λ bytes before. HasRerunTexts terms options bytes script before new status) text (text_of set) old mid accepts.spelled kept run)
+-- what the stores of an accepted set keep has an order
+rerun_ordered : {K : Type 0} (terms : Terms K) (owner_of : K → Owner) (set : Set) (script : List ℕ) (owed : Bool) (ending : Ending) (printed : List ℕ) → IsSet set → IsAcceptedSet set →
+    Reruns terms owner_of set script owed ending printed → status_of_ending ending ≡ 0
+rerun_ordered terms owner_of set script owed ending printed is accepted reruns =
+    let end = reruns.ends.end.end in
+    let of_set : reruns.ends.world.set ≡ set = reruns.ends.gathered.woven.set_is in
+    ap status_of_ending end.ending_is
+    ∙ order_status end.explained (end.explains.accepted (subst AreLiteralsHome (sym of_set) (literals_home set is)) (subst IsAcceptedSet (sym of_set) accepted))
+
+pub rerun_done : {K : Type 0} (terms : Terms K) (owner_of : K → Owner) (options : RunOptions) (text script : List ℕ) (set : Set) (result : Result ℕ Fault) (old new : Option (List ℕ)) →
+    text ≡ text_of set → IfOk result (HasRerunTexts terms owner_of options (text_of set) script old new) → IfOk result (HasRerunTexts terms owner_of options text script old new)
+rerun_done terms owner_of options text script set (Err fault) old new same run = tt
+rerun_done terms owner_of options text script set (Ok status) old new same run = subst (λ bytes. HasRerunTexts terms owner_of options bytes script old new status) (sym same) run
+
+pub rerun_judged_done : {K : Type 0} (terms : Terms K) (owner_of : K → Owner) (options : RunOptions) (text script : List ℕ) (set : Set) (result : Result ℕ Fault) (old mid new : Option (List ℕ)) →
+    Accepts text set → mid ≡ old → IfOk result (HasRerunTexts terms owner_of options (text_of set) script mid new) → IfOk result (HasRerunJudged terms owner_of options text script old new)
+rerun_judged_done terms owner_of options text script set (Err fault) old mid new accepts kept run = tt
+rerun_judged_done terms owner_of options text script set (Ok status) old mid new accepts kept run =
+    let ran = at_text (λ bytes before. HasRerunTexts terms owner_of options bytes script before new status) text (text_of set) old mid accepts.spelled kept run in
+    let accepted = accepted_text text set ran.chains accepts ran.is_set ran.spelled in
+    inr ((set, accepts), ran, ran.status_is ∙ rerun_ordered terms owner_of ran.chains script options.owed ran.ending ran.printed ran.is_set accepted ran.reruns)

@@ -102,32 +102,35 @@ pub record HasRunInput (flags : RunFlags) (input : List ℕ) (old new : Option (
   pub cut : IsCut input set script
   pub run : HasRun flags set script old new status
 
--- the lines of a run of this script over this set, and over stores whose keepers have these terms,
--- are written, and the status is that of its ending
-pub record HasRerunTexts {K : Type 0} (terms : Terms K) (options : RunOptions)
-    (set script : List ℕ) (old new : Option (List ℕ)) (status : ℕ) : Type 0 where
+-- the lines of a run of this script over this set, and over its servers' stores, whose keepers have
+-- these terms and owners, are written, and the status is that of its ending
+pub record HasRerunTexts {K : Type 0} (terms : Terms K) (owner_of : K → Owner)
+    (options : RunOptions) (set script : List ℕ) (old new : Option (List ℕ))
+    (status : ℕ) : Type 0 where
   pub chains : Set
   pub is_set : IsSet chains
   pub spelled : set ≡ text_of chains
   pub ending : Ending
   pub printed : List ℕ
-  pub reruns : Reruns terms chains script options.owed ending printed
+  pub reruns : Reruns terms owner_of chains script options.owed ending printed
   pub written : Appends old new printed
   pub status_is : status ≡ status_of_ending ending
 
--- a set that offends is refused, and over another the script is run
-abbrev pub HasRerunJudged : {K : Type 0} → Terms K → RunOptions → List ℕ → List ℕ
+-- a set that offends is refused, and over another the script is run; all that its stores keep then
+-- has an order, and no cycle, so the status is 0
+abbrev pub HasRerunJudged : {K : Type 0} → Terms K → (K → Owner) → RunOptions → List ℕ → List ℕ
     → Option (List ℕ) → Option (List ℕ) → ℕ → Type 0
-HasRerunJudged terms options set script old new status =
+HasRerunJudged terms owner_of options set script old new status =
     HasRefused set old new status
-    ⊎ (IsAccepted set × HasRerunTexts terms options set script old new status)
+    ⊎ (IsAccepted set × HasRerunTexts terms owner_of options set script old new status
+    × (status ≡ 0))
 
 -- the script is run over the set, which is judged first where the flags ask for that
-abbrev pub HasRerun : {K : Type 0} → Terms K → RunFlags → List ℕ → List ℕ → Option (List ℕ)
-    → Option (List ℕ) → ℕ → Type 0
-HasRerun terms flags set script old new status = MatchBool flags.checked
-    (HasRerunJudged terms (options_of flags) set script old new status)
-    (HasRerunTexts terms (options_of flags) set script old new status)
+abbrev pub HasRerun : {K : Type 0} → Terms K → (K → Owner) → RunFlags → List ℕ → List ℕ
+    → Option (List ℕ) → Option (List ℕ) → ℕ → Type 0
+HasRerun terms owner_of flags set script old new status = MatchBool flags.checked
+    (HasRerunJudged terms owner_of (options_of flags) set script old new status)
+    (HasRerunTexts terms owner_of (options_of flags) set script old new status)
 
 -- a service over the text's set, which is accepted, ran to its end: its last line is an order, and
 -- the status is 0

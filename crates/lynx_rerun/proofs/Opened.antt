@@ -9,20 +9,22 @@ use Rattle.lynx_set.specs.Set.{Set}
 use Rattle.lynx_server.specs.Opening.{IsOpened}
 use Rattle.lynx_server.specs.Serving.{Serving}
 use Rattle.lynx_entry.specs.declared.event.Outcome.TheVariants.{Restarted}
+use Rattle.lynx_store.specs.Stored.{Owner}
 use Rattle.lynx_rerun.specs.Events.{CallsAt, IsRestarted}
+use Rattle.lynx_rerun.specs.Reruns.{IsOpenedOver}
 use Rattle.lynx_server.proofs.Chains.{get_before, get_last}
 
--- the first servers, each opened over what some keeper kept
-pub record AreOpenedBelow {K : Type 0} (terms : Terms K) (set : Set) (number : ℕ) (servers : List (Serving K)) : Type 0 where
+-- the first servers, each opened over its own store
+pub record AreOpenedBelow {K : Type 0} (terms : Terms K) (owner_of : K → Owner) (set : Set) (number : ℕ) (servers : List (Serving K)) : Type 0 where
   pub many : length servers ≡ number
-  pub each : (server : ℕ) (here : Serving K) → slice_get servers server ≡ Some here → (keeper : K) × IsOpened terms set server keeper here
+  pub each : (server : ℕ) (here : Serving K) → slice_get servers server ≡ Some here → IsOpenedOver terms owner_of set server here
 
-pub opened_none : {K : Type 0} (terms : Terms K) (set : Set) → AreOpenedBelow terms set 0 []
-opened_none terms set = record { many = refl; each = λ server here is. cc }
+pub opened_none : {K : Type 0} (terms : Terms K) (owner_of : K → Owner) (set : Set) → AreOpenedBelow terms owner_of set 0 []
+opened_none terms owner_of set = record { many = refl; each = λ server here is. cc }
 
-opened_one_more : {K : Type 0} (terms : Terms K) (set : Set) (number : ℕ) (servers : List (Serving K)) (here : Serving K) →
-    ((keeper : K) × IsOpened terms set number keeper here) → AreOpenedBelow terms set number servers → AreOpenedBelow terms set (number + 1) (servers ++ here ∷ [])
-opened_one_more {K} terms set number servers here is below = record {
+opened_one_more : {K : Type 0} (terms : Terms K) (owner_of : K → Owner) (set : Set) (number : ℕ) (servers : List (Serving K)) (here : Serving K) →
+    IsOpenedOver terms owner_of set number here → AreOpenedBelow terms owner_of set number servers → AreOpenedBelow terms owner_of set (number + 1) (servers ++ here ∷ [])
+opened_one_more {K} terms owner_of set number servers here is below = record {
   many = let many = below.many in let more = length-append servers (here ∷ []) in omega (arith, more);
   each = λ server one at. elim (cases_lt server (length servers)) [
     | inl within ↦ below.each server one (sym (get_before servers here server within) ∙ at)
@@ -33,17 +35,17 @@ opened_one_more {K} terms set number servers here is below = record {
         let entries : Some here ≡ Some one = sym (ap (slice_get (servers ++ here ∷ [])) last ∙ get_last servers here) ∙ at in
         let alike : here ≡ one = cc in
         let server_is : server ≡ number = last ∙ below.many in
-        subst (λ (o : Serving K). (keeper : K) × IsOpened terms set server keeper o) alike
-        (subst (λ n. (keeper : K) × IsOpened terms set n keeper here) (sym server_is) is)
+        subst (IsOpenedOver terms owner_of set server) alike
+        (subst (λ n. IsOpenedOver terms owner_of set n here) (sym server_is) is)
   ];
 }
 
-pub opened_more : {K : Type 0} (terms : Terms K) (set : Set) (number at : ℕ) (servers more : List (Serving K)) (here : Serving K) →
-    at ≡ number → ((keeper : K) × IsOpened terms set at keeper here) → more ≡ servers ++ here ∷ [] → AreOpenedBelow terms set number servers →
-    AreOpenedBelow terms set (number + 1) more
-opened_more {K} terms set number at servers more here at_is is more_is below =
-    subst (AreOpenedBelow terms set (number + 1)) (sym more_is)
-    (opened_one_more terms set number servers here (subst (λ n. (keeper : K) × IsOpened terms set n keeper here) at_is is) below)
+pub opened_more : {K : Type 0} (terms : Terms K) (owner_of : K → Owner) (set : Set) (number at : ℕ) (servers more : List (Serving K)) (here : Serving K) →
+    at ≡ number → IsOpenedOver terms owner_of set at here → more ≡ servers ++ here ∷ [] → AreOpenedBelow terms owner_of set number servers →
+    AreOpenedBelow terms owner_of set (number + 1) more
+opened_more {K} terms owner_of set number at servers more here at_is is more_is below =
+    subst (AreOpenedBelow terms owner_of set (number + 1)) (sym more_is)
+    (opened_one_more terms owner_of set number servers here (subst (λ n. IsOpenedOver terms owner_of set n here) at_is is) below)
 
 -- what is taken out and put back changed is changed
 pub put_back : {X : Type 0} (xs : List X) (place : ℕ) (x : X) → place < length xs → insert (remove xs place) place x ≡ slice_set xs place x

@@ -12,16 +12,22 @@ use Rattle.lynx_report.specs.Options.{EndPrintsWith}
 use Rattle.lynx_report.specs.declared.run.Ending.{Ending}
 use Rattle.lynx_server.specs.Opening.{IsOpened}
 use Rattle.lynx_server.specs.Serving.{Serving}
+use Rattle.lynx_store.specs.Stored.{Owner, owner_for}
 use Rattle.lynx_weave.specs.Gathering.{IsGathered}
 use Rattle.lynx_world.specs.Worlds.{WorldState}
 use Rattle.lynx_rerun.specs.Events.{ComeTo}
 
--- one server for each of the set, in order, each opened over what some keeper kept
-pub record AreOpened {K : Type 0} (terms : Terms K) (set : Set)
+-- a server of the set is opened over what a keeper of its own store kept
+abbrev pub IsOpenedOver : {K : Type 0} → Terms K → (K → Owner) → Set → ℕ → Serving K → Type 0
+IsOpenedOver {K} terms owner_of set server here =
+    (keeper : K) × (owner_of keeper ≡ owner_for server set) × IsOpened terms set server keeper here
+
+-- one server for each of the set, in order, each opened over its own store
+pub record AreOpened {K : Type 0} (terms : Terms K) (owner_of : K → Owner) (set : Set)
     (servers : List (Serving K)) : Type 0 where
   pub many : length servers ≡ set.servers
   pub each : (server : ℕ) (here : Serving K) → slice_get servers server ≡ Some here
-      → (keeper : K) × IsOpened terms set server keeper here
+      → IsOpenedOver terms owner_of set server here
 
 -- the keepers of servers
 abbrev pub keepers_of : {K : Type 0} → List (Serving K) → List K
@@ -42,13 +48,13 @@ pub record EndsAs {K : Type 0} (terms : Terms K) (set : Set) (owed : Bool) (keep
 -- What a run of a script prints at servers that were opened over their stores: a line for each
 -- event, of what the server answered that it was for, and the lines of the world that the stores
 -- keep then.
-pub record Reruns {K : Type 0} (terms : Terms K) (set : Set) (script : List ℕ) (owed : Bool)
-    (ending : Ending) (printed : List ℕ) : Type 0 where
+pub record Reruns {K : Type 0} (terms : Terms K) (owner_of : K → Owner) (set : Set)
+    (script : List ℕ) (owed : Bool) (ending : Ending) (printed : List ℕ) : Type 0 where
   pub events : List Event
   pub is_script : IsScript set events
   pub spelled : script ≡ script_of set events
   pub opened : List (Serving K)
-  pub are_opened : AreOpened terms set opened
+  pub are_opened : AreOpened terms owner_of set opened
   pub outcomes : List Outcome
   pub last : List (Serving K)
   pub come : ComeTo terms set events outcomes opened last

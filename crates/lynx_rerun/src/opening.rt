@@ -1,8 +1,6 @@
 //! Opening servers over their stores.
 ghost use Rattle.std.specs.Prelude.{◌≡◌, ◌∷◌, ◌++◌, [], IfOk, OnOk};
-ghost use Rattle.lynx_keep.specs.Kept.{Terms};
-ghost use Rattle.lynx_server.specs.Opening.{IsOpened};
-ghost use Rattle.lynx_rerun.specs.Reruns.{AreOpened};
+ghost use Rattle.lynx_rerun.specs.Reruns.{AreOpened, IsOpenedOver};
 
 use crate::fault::RerunFault;
 use lynx_keep::Keeper;
@@ -20,7 +18,7 @@ fn open<K: Keeper + Drop, S: Stores<K>>(
     folder: &str,
     server: ServerId,
 ) -> Result<Server<K>, RerunFault>
-    ensures { IfOk result (λ opened. (keeper : K) × IsOpened K.terms set.now server keeper opened) }
+    ensures { IfOk result (IsOpenedOver K.terms S.owner_of set.now server) }
 {
     let keeper = match stores.open(folder, set, server) {
         Ok(keeper) => keeper,
@@ -47,7 +45,7 @@ pub(crate) fn open_all<K: Keeper + Drop, S: Stores<K>>(
     set: &ChainSet,
     folder: &str,
 ) -> Result<Vec<Server<K>>, RerunFault>
-    ensures { IfOk result (λ servers. AreOpened K.terms set.now servers.items) }
+    ensures { IfOk result (λ servers. AreOpened K.terms S.owner_of set.now servers.items) }
 {
     let mut servers = Vec::new(alloc);
     for number in 0..set.servers() {

@@ -50,7 +50,7 @@ fn run_and_close<K: Keeper + Drop, S: Stores<K>, W: Write>(
     options: RunOptions,
     writer: &mut W,
 ) -> Result<Ending, RerunFault>
-    requires { AreOpened K.terms set.now servers.items }
+    requires { AreOpened K.terms S.owner_of set.now servers.items }
     ensures { IfOk result (λ ending. (outcomes : List Outcome) × (last : List (Serving K))
         × (end_lines : List ℕ) × ComeTo K.terms set.now events.items outcomes servers.items last
         × EndsAs K.terms set.now options.owed (keepers_of last) ending end_lines
@@ -81,7 +81,7 @@ pub fn rerun<K: Keeper + Drop, S: Stores<K>, W: Write>(
     writer: &mut W,
 ) -> Result<Ending, RerunFault>
     ensures { IfOk result (λ ending. (printed : List ℕ)
-        × Reruns K.terms set.now script.now options.owed ending printed
+        × Reruns K.terms S.owner_of set.now script.now options.owed ending printed
         × Appends (W.contents writer.old) (W.contents writer.new) printed) }
 {
     let events = read_script(alloc, set, script)?;

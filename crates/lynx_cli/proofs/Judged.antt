@@ -21,7 +21,7 @@ use Rattle.lynx_report.specs.declared.options.RunOptions.{RunOptions}
 use Rattle.lynx_rerun.specs.Reruns.{Reruns}
 use Rattle.lynx_store.specs.Stored.{Owner}
 use Rattle.lynx_cli.specs.declared.fault.Fault.{Fault}
-use Rattle.lynx_cli.specs.Done.{HasRerunJudged, HasRerunTexts, HasRunJudged, HasRunTexts}
+use Rattle.lynx_cli.specs.Done.{HasExtended, HasRerunJudged, HasRerunTexts, HasRunJudged, HasRunTexts}
 use Rattle.lynx_cli.specs.Statuses.{status_of_ending}
 use Rattle.lynx_cli.specs.Stopped.{StopsRunJudged, StopsRunTexts}
 
@@ -83,3 +83,9 @@ rerun_judged_done terms owner_of options text script set (Ok status) old mid new
     let ran = at_text (λ bytes before. HasRerunTexts terms owner_of options bytes script before new status) text (text_of set) old mid accepts.spelled kept run in
     let accepted = accepted_text text set ran.chains accepts ran.is_set ran.spelled in
     inr ((set, accepts), ran, ran.status_is ∙ rerun_ordered terms owner_of ran.chains script options.owed ran.ending ran.printed ran.is_set accepted ran.reruns)
+
+-- a folder's stores are given to the set of a text, which is accepted
+pub extended_so : (text : List ℕ) (set : Set) (result : Result ℕ Fault) (old new : Option (List ℕ)) → Accepts text set → IfOk result (λ status. status ≡ 0) →
+    IfOk result (λ status. (read : List ℕ) × HasExtended read old new status)
+extended_so text set (Err fault) old new accepts done = tt
+extended_so text set (Ok status) old new accepts done = (text, inr ((set, accepts), done))

@@ -149,6 +149,11 @@ abbrev pub HasServedJudged : {K : Type 0} → Terms K → (K → Owner) → List
 HasServedJudged terms owner_of text old new status =
     HasRefused text old new status ⊎ HasServedText terms owner_of text old new status
 
+-- a set that offends is refused, and one that is accepted is given stores, with status 0
+abbrev pub HasExtended : List ℕ → Option (List ℕ) → Option (List ℕ) → ℕ → Type 0
+HasExtended text old new status =
+    HasRefused text old new status ⊎ (IsAccepted text × (status ≡ 0))
+
 -- a random script for the text's set is written, and the status is 0
 pub record HasSampled (cycle : Bool) (text : List ℕ) (old new : Option (List ℕ))
     (status : ℕ) : Type 0 where

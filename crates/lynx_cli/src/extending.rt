@@ -1,5 +1,8 @@
 //! The stores of a folder given to a set that extends theirs. All are opened, and with that locked,
 //! until the end.
+ghost use Rattle.std.specs.Prelude.{◌≡◌, ℕ, List, IfOk};
+ghost use Rattle.lynx_cli.specs.Done.{HasExtended};
+
 use crate::fault::Fault;
 use crate::hints::{Hints, Named};
 use crate::reading::text_of;
@@ -185,8 +188,26 @@ fn extend_all<'a, K: Keeper + Drop, S: Stores<K>, W: Write>(
     close_all(stores, opened)
 }
 
-/// Gives the stores of the folder to the set of a file, and tells a person at a terminal so
-/// meanwhile. An offending set is refused as by a check, and nothing is opened.
+/// Gives the stores of the folder to an accepted set, and tells a person at a terminal so
+/// meanwhile.
+fn extend_accepted<'a, K: Keeper + Drop, S: Stores<K>, W: Write>(
+    rt: &HostRuntime,
+    stores: &S,
+    folder: &str,
+    set: &ChainSet,
+    writer: &mut W,
+) -> Result<u8, Fault<'a>>
+    ensures { IfOk result (λ status. status ≡ 0) }
+{
+    tell(rt, EXTENDING);
+    let done = extend_all(rt, stores, folder, set, writer);
+    tell(rt, WIPED);
+    done?;
+    Ok(DONE)
+}
+
+/// Gives the stores of the folder to the set of a file. An offending set is refused as by a check,
+/// and nothing is opened.
 pub(crate) fn extend_folder<'a, K: Keeper + Drop, S: Stores<K>, W: Write>(
     rt: &HostRuntime,
     stores: &S,
@@ -194,7 +215,10 @@ pub(crate) fn extend_folder<'a, K: Keeper + Drop, S: Stores<K>, W: Write>(
     name: &'a str,
     hints: &mut Hints,
     writer: &mut W,
-) -> Result<u8, Fault<'a>> {
+) -> Result<u8, Fault<'a>>
+    ensures { IfOk result (λ status. (text : List ℕ)
+        × HasExtended text (W.contents writer.old) (W.contents writer.new) status) }
+{
     let read = text_of(rt, name)?;
     let text = read.as_slice();
     let accepted = accepted_set(rt.alloc(), text, writer);
@@ -202,11 +226,8 @@ pub(crate) fn extend_folder<'a, K: Keeper + Drop, S: Stores<K>, W: Write>(
     let Some(set) = accepted? else {
         return Ok(OFFENDING);
     };
-    tell(rt, EXTENDING);
-    let done = extend_all(rt, stores, folder, &set, writer);
-    tell(rt, WIPED);
+    let done = extend_accepted(rt, stores, folder, &set, writer);
     hints.note_store(rt, folder, &done);
     hints.note_foreign(rt, folder, &set, &done);
-    done?;
-    Ok(DONE)
+    done
 }

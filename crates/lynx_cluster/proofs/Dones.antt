@@ -24,7 +24,7 @@ use Rattle.lynx_server.specs.History.{grown}
 use Rattle.lynx_server.specs.declared.server.Woken.{Woken}
 use Rattle.lynx_server.specs.Serving.{Delivers, DeliversWoken, Serving, Wakes, delivery_of, told_stopped, woken_of}
 use Rattle.lynx_set.specs.Set.{Set}
-use Rattle.lynx_cluster.specs.declared.steps.Receipt.{Receipt}
+use Rattle.lynx_worker.specs.declared.steps.Receipt.{Receipt}
 use Rattle.lynx_cluster.specs.inner.Serving.{AreDone, NotesDone, TellsDone, was_done}
 
 -- ---- entries stay

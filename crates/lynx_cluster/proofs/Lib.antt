@@ -6,4 +6,3 @@ pub mod Openings
 pub mod Takings
 pub mod Dones
 pub mod Owings
-pub mod Sendings

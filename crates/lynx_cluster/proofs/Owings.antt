@@ -15,7 +15,7 @@ use Rattle.lynx_server.specs.Owed.{IsOwed, OwesNothingBetween}
 use Rattle.lynx_server.specs.Serving.{Serving}
 use Rattle.lynx_set.specs.Lookups.{server_at}
 use Rattle.lynx_set.specs.Set.{Set}
-use Rattle.lynx_cluster.specs.declared.steps.Due.{Due}
+use Rattle.lynx_worker.specs.declared.steps.Due.{Due}
 use Rattle.lynx_cluster.specs.inner.Serving.{AddsFound, AreOwed, AreOwedBetween, AreRising, HasPlace, IsDueOf, OwesOnlyAt}
 
 nothing_on : {K : Type 0} (serving : Serving K) (from mid to : ℕ) → OwesNothingBetween serving from mid → OwesNothingBetween serving mid to → OwesNothingBetween serving from to

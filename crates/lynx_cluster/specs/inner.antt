@@ -1,6 +1,5 @@
 -- Definitions that no public clause cites: they serve the functions within.
 pub mod Absent
 pub mod Serving
-pub mod Sending
 pub mod Opening
 pub mod Closing

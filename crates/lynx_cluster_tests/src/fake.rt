@@ -1,10 +1,10 @@
 //! Servers that stand in for a worker's own: one owes messages to the other, and all is marked
 //! down.
-use lynx_cluster::{Arrived, Due, Heard, Owed, Receipt, Served, Steps, Worker};
 use lynx_fixtures::made::message;
 use lynx_fixtures::parts::MessageParts;
 use lynx_link::{Parcel, links};
 use lynx_names::{ChainId, Memory, ServerId};
+use lynx_worker::{Arrived, Due, Heard, Owed, Receipt, Served, Steps, Worker};
 use std::alloc::Global;
 use std::collections::VecDeque;
 use std::sync::Wait;
@@ -29,6 +29,8 @@ pub struct Board {
     pub done: AtomicU64,
     /// How many messages came.
     pub came: AtomicU64,
+    /// How many receipts came.
+    pub receipts: AtomicU64,
 }
 
 impl Board {
@@ -41,6 +43,7 @@ impl Board {
             held: AtomicU64::new(0),
             done: AtomicU64::new(0),
             came: AtomicU64::new(0),
+            receipts: AtomicU64::new(0),
         }
     }
 }
@@ -117,6 +120,7 @@ impl<'a> Fake<'a> {
                 }
             }
             Parcel::Done { chain, hop } => {
+                self.board.receipts.fetch_add(1, Ordering::SeqCst);
                 if hop == 1 {
                     let (place, left) = (chain.index, !bit(chain.index));
                     self.board.owed.fetch_and(left, Ordering::SeqCst);

@@ -1,7 +1,7 @@
 //! Workers, turn by turn in one thread.
 use crate::fake::{Board, Fake, workers};
-use lynx_cluster::{RESEND_MILLIS, Worker};
 use lynx_names::Memory;
+use lynx_worker::{RESEND_MILLIS, Worker};
 use std::alloc::Global;
 use std::sync::Wait;
 use std::sync::atomic::Ordering;
@@ -132,4 +132,25 @@ fn owed_around_wake<R: Wait + Clock>(rt: &R, alloc: Global) -> Result<(u64, u64)
 #[test]
 fn what_is_woken_is_acknowledged(rt: HostRuntime) {
     assert!(rt; owed_around_wake(&rt, rt.alloc()) == Ok((0b10_0000, 0)));
+}
+
+/// How many receipts come of five times 64 hops, all of which are done before one receipt is taken
+/// out of the ring: it has room for 256.
+fn receipts_behind_full_ring<R: Wait + Clock>(rt: &R, alloc: Global) -> Result<u64, Memory> {
+    let (payer, payee) = (Board::owing(0), Board::owing(0));
+    let (mut sender, mut receiver) = workers(alloc, &payer, &payee)?;
+    for _ in 0..5 {
+        payee.held.store(u64::MAX, Ordering::SeqCst);
+        receiver.turn(rt, alloc);
+    }
+    for _ in 0..8 {
+        sender.turn(rt, alloc);
+        receiver.turn(rt, alloc);
+    }
+    Ok(payer.receipts.load(Ordering::SeqCst))
+}
+
+#[test]
+fn receipts_wait_for_room(rt: HostRuntime) {
+    assert!(rt; receipts_behind_full_ring(&rt, rt.alloc()) == Ok(320));
 }

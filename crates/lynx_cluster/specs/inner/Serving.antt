@@ -17,9 +17,9 @@ use Rattle.lynx_server.specs.Owed.{Acknowledges, IsOwed, OwesNothingBetween, sen
 use Rattle.lynx_server.specs.Serving.{Delivers, Serving}
 use Rattle.lynx_set.specs.Lookups.{server_at}
 use Rattle.lynx_set.specs.Set.{Set}
-use Rattle.lynx_cluster.specs.declared.steps.Due.{Due}
-use Rattle.lynx_cluster.specs.declared.steps.Heard.{Heard}
-use Rattle.lynx_cluster.specs.declared.steps.Receipt.{Receipt}
+use Rattle.lynx_worker.specs.declared.steps.Due.{Due}
+use Rattle.lynx_worker.specs.declared.steps.Heard.{Heard}
+use Rattle.lynx_worker.specs.declared.steps.Receipt.{Receipt}
 
 -- the hop of the message was done, now or before
 abbrev pub was_done : Delivered → Bool

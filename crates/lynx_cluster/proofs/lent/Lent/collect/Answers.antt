@@ -3,7 +3,7 @@ use Rattle.lynx_entry.specs.declared.message.Message.{Message}
 use Rattle.lynx_entry.specs.Entry.{History}
 use Rattle.lynx_server.specs.Owed.{IsFirstOwed}
 use Rattle.lynx_set.specs.Set.{Set}
-use Rattle.lynx_cluster.specs.declared.steps.Due.{Due}
+use Rattle.lynx_worker.specs.declared.steps.Due.{Due}
 use Rattle.lynx_cluster.specs.inner.Serving.{AreOwedBetween, IsDueOf}
 use Rattle.lynx_cluster.proofs.Owings.{due_more, owed_end, owed_few, owed_within}
 use Rattle.lynx_cluster.proofs.lent.Lent.collect.Goals as goal

@@ -3,11 +3,13 @@ use crate::unheard::Unheard;
 use std::time::{Clock, Duration, Instant};
 
 /// Milliseconds that go by at least between the beginnings of two passes over all that is owed to a
-/// server. While nothing is heard of it they double, up to [`LONGEST_MILLIS`].
+/// server; more where messages take long until they are acknowledged. While nothing is heard of it
+/// they double, up to [`LONGEST_MILLIS`].
 pub const RESEND_MILLIS: u64 = 100;
 
 /// Milliseconds that go by at least between the beginnings of two passes over the first that is
-/// owed to a server. While the very first stays owed they double, up to [`LONGEST_MILLIS`].
+/// owed to a server; more where messages take long until they are acknowledged. While the very
+/// first stays owed they double, up to [`LONGEST_MILLIS`].
 const FIRST_MILLIS: u64 = 8;
 
 /// Milliseconds between the beginnings of two passes, at most.
@@ -93,8 +95,15 @@ impl Passes {
         }
     }
 
-    /// Begins a pass, if the last one ended, something is owed and it is time.
-    pub(crate) fn begin<R: Clock>(&mut self, rt: &R, unheard: &Unheard) {
+    /// Milliseconds from one pass to the next, at least, where a message is likely lost after so
+    /// many.
+    fn shortest(&self, patience: u64) -> u64 {
+        self.reach.shortest().max(patience)
+    }
+
+    /// Begins a pass, if the last one ended, something is owed and it is time. A message is likely
+    /// lost after so many milliseconds.
+    pub(crate) fn begin<R: Clock>(&mut self, rt: &R, unheard: &Unheard, patience: u64) {
         let Some(first) = unheard.first() else {
             return;
         };
@@ -105,7 +114,7 @@ impl Passes {
         let is_early = self.reach == Reach::First && !stays;
         self.left = if is_early { 0 } else { self.reach.messages() };
         self.wait = if is_early {
-            self.reach.shortest()
+            self.shortest(patience)
         } else {
             self.wait.saturating_mul(2).min(LONGEST_MILLIS)
         };
@@ -116,10 +125,11 @@ impl Passes {
         self.since = Instant::now(rt).ok();
     }
 
-    /// Something was heard of the server, so the next pass over all need not wait long.
-    pub(crate) fn hear(&mut self) {
+    /// Something was heard of the server, so the next pass over all need not wait long: a message
+    /// is likely lost after so many milliseconds.
+    pub(crate) fn hear(&mut self, patience: u64) {
         if self.reach == Reach::All {
-            self.wait = self.reach.shortest();
+            self.wait = self.shortest(patience);
         }
     }
 

@@ -1,9 +1,10 @@
 //! What a worker sends to one server.
-ghost use Rattle.std.specs.Prelude.{◌≡◌, MatchBool, None, Some, unwrap_or};
-ghost use Rattle.lynx_cluster.specs.inner.Sending.{SendsNothing, SendsTo};
+ghost use Rattle.std.specs.Prelude.{◌≡◌, MatchBool, None, Some, take, unwrap_or};
+ghost use Rattle.lynx_worker.specs.Sending.{CatchesUp, SendsAll, SendsNothing, SendsTo};
 
 use crate::resending::{Passes, Reach};
 use crate::steps::{Due, Owed, Steps};
+use crate::trips::Trips;
 use crate::unheard::Unheard;
 use lynx_link::{Ends, Parcel};
 use lynx_names::ServerId;
@@ -14,6 +15,13 @@ use std::time::Clock;
 /// Messages that are sent again under one lock, at most.
 const BURST: usize = 64;
 
+/// What was sent to one server and isn't acknowledged, and how long that takes.
+#[derive(Drop)]
+struct Flight {
+    unheard: Unheard,
+    trips: Trips,
+}
+
 /// What a worker sends to one server: how far it has come, and what it hasn't heard of.
 #[derive(Drop)]
 pub(crate) struct Route {
@@ -21,15 +29,14 @@ pub(crate) struct Route {
     /// The first message to this server that wasn't sent, where its ring was full while others were
     /// sent on. None where the route is as far as the worker.
     lags_at: Option<u64>,
-    unheard: Unheard,
+    flight: Flight,
     /// The passes over the first messages that are owed to this server.
     first: Passes,
     /// The passes over all of them.
     all: Passes,
 }
 
-/// Whether the ring to that server took the parcel. One that it didn't take is dropped: what it
-/// tells comes again.
+/// Whether the ring to that server took the parcel. One that it didn't take is dropped.
 pub(crate) fn offer(ends: &mut Ends, to: ServerId, parcel: Parcel) -> bool
     ensures { MatchBool result (SendsTo ends.old to parcel ends.new)
         (SendsNothing ends.old ends.new) }
@@ -56,90 +63,107 @@ fn send_due(ends: &mut Ends, due: Due) -> bool
     offer(ends, due.to, Parcel::Message(due.message))
 }
 
-/// Sends messages again that a pass came to. How far it is gone over then, and how many were sent.
-fn offer_again(ends: &mut Ends, dues: Vec<Due>, end: u64) -> (u64, usize) {
-    let mut count: usize = 0;
-    for due in dues {
-        let place = due.place;
-        if !send_due(ends, due) {
-            return (place, count);
+impl Flight {
+    /// Those of the places that owe nothing any more were acknowledged, though nobody told.
+    fn hear_absent(&mut self, places: &[u64], dues: &[Due]) {
+        if dues.len() >= places.len() {
+            return;
         }
-        count = count.saturating_add(1);
-    }
-    (end, count)
-}
-
-/// Those of the places that owe nothing any more were acknowledged, though nobody told.
-fn hear_absent(unheard: &mut Unheard, places: &[u64], dues: &[Due]) {
-    if dues.len() >= places.len() {
-        return;
-    }
-    for place in places {
-        if !dues.iter().any(|due| due.place == *place) {
-            unheard.hear(*place);
+        for place in places {
+            if !dues.iter().any(|due| due.place == *place) {
+                self.unheard.hear(*place);
+                self.trips.forget(*place);
+            }
         }
     }
-}
 
-/// Goes on with a pass, after it began one if it is time. Whether messages were sent again.
-fn go_over<S: Steps, R: Wait + Clock>(
-    rt: &R,
-    alloc: Global,
-    steps: &S,
-    ends: &mut Ends,
-    passes: &mut Passes,
-    unheard: &mut Unheard,
-) -> bool {
-    passes.begin(rt, unheard);
-    let Some((from, end, left)) = passes.next() else {
-        return false;
-    };
-    let Ok(places) = unheard.between(alloc, from, end, left.min(BURST)) else {
-        return false;
-    };
-    let behind = match places.as_slice().last() {
-        Some(last) => last.saturating_add(1),
-        None => end,
-    };
-    let Ok(dues) = steps.owed_at(rt, alloc, places.as_slice()) else {
-        return false;
-    };
-    hear_absent(unheard, places.as_slice(), dues.as_slice());
-    let (next, count) = offer_again(ends, dues, behind);
-    passes.went(next, count);
-    count > 0
+    /// Sends messages again that a pass came to. How far it is gone over then, and how many were
+    /// sent.
+    fn offer_again(&mut self, ends: &mut Ends, dues: Vec<Due>, end: u64) -> (u64, usize)
+        // Just so many of them, from the first on, each to its server.
+        ensures { SendsAll (take result.1 dues.items) ends.old ends.new }
+    {
+        let mut count: usize = 0;
+        for due in dues {
+            let place = due.place;
+            if !send_due(ends, due) {
+                return (place, count);
+            }
+            self.trips.forget(place);
+            count = count.saturating_add(1);
+        }
+        (end, count)
+    }
+
+    /// Goes on with a pass, after it began one if it is time. Whether messages were sent again.
+    fn go_over<S: Steps, R: Wait + Clock>(
+        &mut self,
+        rt: &R,
+        alloc: Global,
+        steps: &S,
+        ends: &mut Ends,
+        passes: &mut Passes,
+    ) -> bool {
+        passes.begin(rt, &self.unheard, self.trips.patience());
+        let Some((from, end, left)) = passes.next() else {
+            return false;
+        };
+        let Ok(places) = self.unheard.between(alloc, from, end, left.min(BURST)) else {
+            return false;
+        };
+        let behind = match places.as_slice().last() {
+            Some(last) => last.saturating_add(1),
+            None => end,
+        };
+        let Ok(dues) = steps.owed_at(rt, alloc, places.as_slice()) else {
+            return false;
+        };
+        self.hear_absent(places.as_slice(), dues.as_slice());
+        let (next, count) = self.offer_again(ends, dues, behind);
+        passes.went(next, count);
+        count > 0
+    }
 }
 
 impl Route {
     /// Nothing was sent to that server yet.
-    pub(crate) fn new(alloc: Global, to: ServerId) -> Route {
+    pub(crate) fn new(alloc: Global, to: ServerId) -> Route
+        ensures to { result.to ≡ to }
+        ensures lags { result.lags_at ≡ None }
+    {
         Route {
             to,
             lags_at: None,
-            unheard: Unheard::new(alloc),
+            flight: Flight {
+                unheard: Unheard::new(alloc),
+                trips: Trips::new(),
+            },
             first: Passes::new(Reach::First),
             all: Passes::new(Reach::All),
         }
     }
 
     /// The server to which it leads.
-    pub(crate) fn to(&self) -> ServerId {
+    pub(crate) fn to(&self) -> ServerId
+        ensures { result ≡ self.now.to }
+    {
         self.to
     }
 
     /// Whether a message lags, or nothing was heard of one that was sent.
     pub(crate) fn awaits(&self) -> bool {
-        self.lags_at.is_some() || self.unheard.first().is_some()
+        self.lags_at.is_some() || self.flight.unheard.first().is_some()
     }
 
     /// Sends a message, if the route doesn't lag. Where its ring is full, or there is no memory to
     /// note it, the route lags from there on. Whether it was sent.
-    pub(crate) fn send(&mut self, ends: &mut Ends, due: Due) -> bool
+    pub(crate) fn send<R: Clock>(&mut self, rt: &R, ends: &mut Ends, due: Due) -> bool
         // Sent is just that message, to just that server; or nothing is, and it isn't forgotten.
         ensures sent { MatchBool result
             (SendsTo ends.old self.old.to (Parcel.Message due.message) ends.new)
             (SendsNothing ends.old ends.new) }
-        ensures lags { MatchBool result (self.new.lags_at ≡ None)
+        ensures lags { MatchBool result
+            ((self.old.lags_at ≡ None) × (self.new.lags_at ≡ None))
             (self.new.lags_at ≡ Some (unwrap_or self.old.lags_at due.place)) }
         ensures to { self.new.to ≡ self.old.to }
     {
@@ -147,7 +171,7 @@ impl Route {
             return false;
         }
         let place = due.place;
-        if self.unheard.reserve().is_err() {
+        if self.flight.unheard.reserve().is_err() {
             self.lags_at = Some(place);
             return false;
         }
@@ -155,7 +179,8 @@ impl Route {
             self.lags_at = Some(place);
             return false;
         }
-        self.unheard.went(place);
+        self.flight.unheard.went(place);
+        self.flight.trips.went(rt, place);
         true
     }
 
@@ -169,7 +194,17 @@ impl Route {
 
     /// Sends of these messages those to this server, which lie from where it lags on. It lags no
     /// more once it is as far as the worker. Whether any was sent.
-    pub(crate) fn catch_up(&mut self, ends: &mut Ends, owed: Owed, reached: u64) -> bool {
+    pub(crate) fn catch_up<R: Clock>(
+        &mut self,
+        rt: &R,
+        ends: &mut Ends,
+        owed: Owed,
+        reached: u64,
+    ) -> bool
+        ensures goes { CatchesUp self.old.to owed reached ends.old self.old.lags_at ends.new
+            self.new.lags_at }
+        ensures to { self.new.to ≡ self.old.to }
+    {
         let Some(mut next) = self.lags_at.take() else {
             return false;
         };
@@ -183,7 +218,7 @@ impl Route {
             if due.to != self.to {
                 continue;
             }
-            if !self.send(ends, due) {
+            if !self.send(rt, ends, due) {
                 return has_sent;
             }
             has_sent = true;
@@ -195,9 +230,13 @@ impl Route {
     }
 
     /// The message of that place was acknowledged.
-    pub(crate) fn hear(&mut self, place: u64) {
-        self.unheard.hear(place);
-        self.all.hear();
+    pub(crate) fn hear<R: Clock>(&mut self, rt: &R, place: u64)
+        ensures to { self.new.to ≡ self.old.to }
+        ensures lags { self.new.lags_at ≡ self.old.lags_at }
+    {
+        self.flight.trips.hear(rt, place);
+        self.flight.unheard.hear(place);
+        self.all.hear(self.flight.trips.patience());
     }
 
     /// Sends again what wasn't acknowledged for a while. Whether there was any.
@@ -207,13 +246,16 @@ impl Route {
         alloc: Global,
         steps: &S,
         ends: &mut Ends,
-    ) -> bool {
+    ) -> bool
+        ensures to { self.new.to ≡ self.old.to }
+        ensures lags { self.new.lags_at ≡ self.old.lags_at }
+    {
         if is_full(ends, self.to) {
             return false;
         }
-        let unheard = &mut self.unheard;
-        let has_first = go_over(rt, alloc, steps, ends, &mut self.first, unheard);
-        let has_all = go_over(rt, alloc, steps, ends, &mut self.all, unheard);
+        let flight = &mut self.flight;
+        let has_first = flight.go_over(rt, alloc, steps, ends, &mut self.first);
+        let has_all = flight.go_over(rt, alloc, steps, ends, &mut self.all);
         has_first || has_all
     }
 }

@@ -1,5 +1,5 @@
-use Rattle.lynx_cluster.proofs.Sendings.{offered}
-use Rattle.lynx_cluster.proofs.route.offer.Goals as goal
+use Rattle.lynx_worker.proofs.Sendings.{offered}
+use Rattle.lynx_worker.proofs.route.offer.Goals as goal
 
 pub returns-in-Some : goal.returns-in-Some
 returns-in-Some c =

@@ -1,11 +1,13 @@
 //! Workers: one thread for each server, which sends what the server owes and delivers what comes
 //! in.
-ghost use Rattle.lynx_cluster.specs.inner.Sending.{TellsOf};
+ghost use Rattle.std.specs.Prelude.{◌≡◌};
+ghost use Rattle.lynx_worker.specs.Sending.{reached_after, Sends};
 
 use crate::rest::{pause, rest};
-use crate::route::{Route, offer};
-use crate::steps::{Arrived, Heard, Owed, Receipt, Steps};
-use lynx_link::{Ends, Parcel};
+use crate::routes::Routes;
+use crate::steps::{Arrived, Owed, Receipt, Steps};
+use crate::telling::{add_receipts, tell};
+use lynx_link::Ends;
 use lynx_names::{Memory, ServerId};
 use std::alloc::Global;
 use std::collections::VecDeque;
@@ -13,7 +15,7 @@ use std::sync::Wait;
 use std::sync::atomic::{AtomicBool, Ordering};
 use std::time::Clock;
 
-/// Messages that one turn sends, at most, and as many for each route that lags.
+/// Messages that one turn sends, at most.
 const TURN_MESSAGES: usize = 64;
 
 /// Rounds over all rings in which one turn takes parcels out of them, ..
@@ -28,37 +30,13 @@ const ROUND_PARCELS: usize = 16;
 pub struct Worker<S: Steps> {
     steps: S,
     ends: Ends,
-    /// By server.
-    routes: Vec<Route>,
+    routes: Routes,
     /// The messages of all entries before this place were sent, but for those of routes that lag.
     reached: u64,
     /// What was taken out of the rings and isn't served yet.
     inbox: VecDeque<Arrived>,
-}
-
-/// A route to each of so many servers.
-fn routes(alloc: Global, servers: u8) -> Result<Vec<Route>, Memory> {
-    let mut routes = Vec::with_capacity(alloc, usize::from(servers))?;
-    for number in 0..servers {
-        if let Some(to) = ServerId::new(number) {
-            routes.push(Route::new(alloc, to))?;
-        }
-    }
-    Ok(routes)
-}
-
-/// Tells the senders of these hops that they were done, and sends nothing else. A receipt whose
-/// ring is full is let go: the message comes again.
-fn tell(ends: &mut Ends, receipts: &[Receipt])
-    ensures { TellsOf receipts.now ends.old ends.new }
-{
-    for receipt in receipts {
-        let parcel = Parcel::Done {
-            chain: receipt.chain,
-            hop: receipt.hop,
-        };
-        let _ = offer(ends, receipt.to, parcel);
-    }
+    /// What was done, of which the senders weren't told yet.
+    untold: VecDeque<Receipt>,
 }
 
 impl<S: Steps> Worker<S> {
@@ -67,26 +45,29 @@ impl<S: Steps> Worker<S> {
     where
         S: Drop,
     {
-        let routes = routes(alloc, servers)?;
+        let routes = Routes::new(alloc, servers)?;
         Ok(Worker {
             steps,
             ends,
             routes,
             reached: 0,
             inbox: VecDeque::new(alloc),
+            untold: VecDeque::new(alloc),
         })
     }
 
     /// Sends what is owed and was not sent yet. A message whose ring is full makes its route lag,
     /// and no other. Whether there was any.
-    fn send(&mut self, owed: Owed) -> bool {
+    fn send<R: Clock>(&mut self, rt: &R, owed: Owed) -> bool
+        ensures sends { Sends owed.dues.items self.old.ends self.old.routes self.new.ends
+            self.new.routes }
+        ensures reached { self.new.reached ≡ reached_after self.old.reached owed }
+    {
         let mut is_busy = false;
         for due in owed.dues {
             self.reached = due.place.saturating_add(1);
             let to = due.to;
-            if let Some(route) = self.routes.get_mut(to.index())
-                && route.send(&mut self.ends, due)
-            {
+            if self.routes.send(rt, &mut self.ends, due) {
                 self.steps.ring(to);
                 is_busy = true;
             }
@@ -97,31 +78,10 @@ impl<S: Steps> Worker<S> {
         is_busy
     }
 
-    /// Sends what lags. Whether there was any.
-    fn catch_up<R: Wait>(&mut self, rt: &R, alloc: Global) -> bool {
-        let mut is_busy = false;
-        for route in self.routes.iter_mut() {
-            if let Some(from) = route.lags_at(&mut self.ends) {
-                let owed = self.steps.owed(rt, alloc, from, TURN_MESSAGES);
-                if route.catch_up(&mut self.ends, owed, self.reached) {
-                    self.steps.ring(route.to());
-                    is_busy = true;
-                }
-            }
-        }
-        is_busy
-    }
-
-    /// Sends again what was not acknowledged for a while. Whether there was any.
-    fn send_again<R: Wait + Clock>(&mut self, rt: &R, alloc: Global) -> bool {
-        let mut is_busy = false;
-        for route in self.routes.iter_mut() {
-            if route.send_again(rt, alloc, &self.steps, &mut self.ends) {
-                self.steps.ring(route.to());
-                is_busy = true;
-            }
-        }
-        is_busy
+    /// Tells what was done: before anything else is sent, so that what can't be told for want of
+    /// room goes first where there is some again.
+    fn tell(&mut self) {
+        tell(&self.steps, &mut self.ends, &mut self.untold);
     }
 
     /// Puts what came from that server into the inbox. What there is no memory for stays in its
@@ -166,50 +126,43 @@ impl<S: Steps> Worker<S> {
         !self.inbox.is_empty()
     }
 
-    /// Notes which messages were acknowledged.
-    fn hear(&mut self, heard: Vec<Heard>) {
-        for heard in heard {
-            if let Some(route) = self.routes.get_mut(heard.from.index()) {
-                route.hear(heard.place);
-            }
-        }
-    }
-
     /// Wakes what is held, and does what the parcels of the inbox ask, for as long as the lock may
     /// be held. Whether there was any.
     fn serve<R: Wait + Clock>(&mut self, rt: &R, alloc: Global) -> bool {
         let served = self.steps.serve(rt, alloc, &mut self.inbox);
-        tell(&mut self.ends, served.receipts.as_slice());
-        for receipt in served.receipts.as_slice() {
-            self.steps.ring(receipt.to);
-        }
-        self.hear(served.heard);
+        add_receipts(&mut self.untold, served.receipts.as_slice());
+        self.tell();
+        self.routes.hear(rt, served.heard);
         served.is_busy
     }
 
-    /// One turn. It sends what was not sent yet, then delivers what came in and wakes what is held,
-    /// then sends again what is owed for a while. The first 64 messages that are owed to a server
-    /// are sent again where the very first stays so for 8 milliseconds, or for a time that doubles
-    /// while it does; and all of them each [`RESEND_MILLIS`](crate::RESEND_MILLIS), or after a time
-    /// that doubles while nothing is heard of that server, up to
+    /// One turn. It tells what wasn't told, sends what was not sent yet, delivers what came in and
+    /// wakes what is held, and then sends again what is owed for a while. The first 64 messages
+    /// that are owed to a server are sent again where the very first stays so for 8 milliseconds,
+    /// and all of them each [`RESEND_MILLIS`](crate::RESEND_MILLIS); both later where the server
+    /// takes longer until it acknowledges a message, and after a time that doubles while the very
+    /// first stays owed, or nothing is heard of that server, up to
     /// [`LONGEST_MILLIS`](crate::LONGEST_MILLIS). False where there was nothing to do. A turn has a
-    /// bound: 64 messages sent, and for each server 64 more where its ring was full and 128 sent
-    /// again, 64 parcels taken, and one taking of the lock for what came in. Where there is nothing
-    /// to do it takes the server's lock once.
+    /// bound: 4,096 receipts told twice, 64 messages sent, and for each server 64 more where its
+    /// ring was full and 128 sent again, 64 parcels taken, and one taking of the lock for what came
+    /// in. Where there is nothing to do it takes the server's lock once.
     pub fn turn<R: Wait + Clock>(&mut self, rt: &R, alloc: Global) -> bool {
+        self.tell();
         let owed = self.steps.owed(rt, alloc, self.reached, TURN_MESSAGES);
         let holds = owed.holds;
-        let has_sent = self.send(owed);
-        let has_caught_up = self.catch_up(rt, alloc);
+        let has_sent = self.send(rt, owed);
+        let (steps, ends) = (&self.steps, &mut self.ends);
+        let has_caught_up = self.routes.catch_up(rt, alloc, steps, ends, self.reached);
         let has_taken = self.take();
         let has_served = (has_taken || holds) && self.serve(rt, alloc);
-        let has_sent_again = self.send_again(rt, alloc);
+        let (steps, ends) = (&self.steps, &mut self.ends);
+        let has_sent_again = self.routes.send_again(rt, alloc, steps, ends);
         has_sent || has_caught_up || has_served || has_sent_again
     }
 
-    /// Whether something that was sent may have to be sent again, or lags.
+    /// Whether something that was sent may have to be sent again, or lags, or wasn't told.
     fn awaits(&self) -> bool {
-        self.routes.iter().any(Route::awaits)
+        !self.untold.is_empty() || self.routes.awaits()
     }
 
     /// Turn after turn, with rests between them, until it is to stop.

@@ -1,16 +1,12 @@
 -- Parcels that are sent one after another.
-use Rattle.std.proofs.Common.{◌≡◌, ◌∙◌, ◌⊎◌, ℕ, zero, suc, Bool, true, false, cond, nat_eq, List, [], ◌∷◌, ◌++◌, append_assoc, slice_set, Option, Some, Result, Ok, Err, inl, inr, refl, sym, ap, subst}
+use Rattle.std.proofs.Common.{◌≡◌, ◌∙◌, ℕ, zero, suc, Bool, true, false, cond, nat_eq, List, [], ◌∷◌, ◌++◌, slice_set, Option, Some, Result, Ok, Err, refl, sym, ap, subst}
 use Rattle.std.specs.Prelude.{IfErr, MatchBool, OnOk, is_ok, slice_get}
-use Rattle.std.specs.List.{AllByRecursion}
 use Rattle.std.specs.Option.{option_map_or}
 use Rattle.std.proofs.lemmas.Bool.{eqb-true, eqb-false}
-use Rattle.std.proofs.lemmas.List.{append-nil}
 use Rattle.lynx_link.specs.EndLists.{EndLists}
 use Rattle.lynx_link.specs.Rings.{Sending, Sends}
 use Rattle.lynx_link.specs.declared.parcel.Parcel.{Parcel}
-use Rattle.lynx_link.specs.declared.parcel.Parcel.TheVariants.{Done}
-use Rattle.lynx_cluster.specs.declared.steps.Receipt.{Receipt}
-use Rattle.lynx_cluster.specs.inner.Sending.{IsToldOf, SendsNothing, SendsTo, TellsOf, sent_to}
+use Rattle.lynx_worker.specs.Sending.{SendsNothing, SendsTo, sent_to}
 
 get_set_same : {X : Type 0} (xs : List X) (i : ℕ) (x v : X) → slice_get xs i ≡ Some x → slice_get (slice_set xs i v) i ≡ Some v
 get_set_same [] i x v there = cc
@@ -62,40 +58,3 @@ offered old to before after parcel (Ok done) b there sends stays is =
 offered old to before after parcel (Err back) b there sends stays is =
     subst (λ (t : Bool). MatchBool t (SendsTo old to parcel (with_end old to after)) (SendsNothing old (with_end old to after))) (sym is)
     (sends_none old to before after there stays.1)
-
--- ---- receipts that are told
-
-told_at : (receipts : List Receipt) (place : ℕ) (receipt : Receipt) (server : ℕ) → slice_get receipts place ≡ Some receipt → receipt.to ≡ server →
-    IsToldOf receipts server (Done receipt.chain receipt.hop)
-told_at [] place receipt server there to = cc
-told_at (first ∷ receipts) zero receipt server there to =
-    let same : first ≡ receipt = cc in
-    subst (λ (r : Receipt). IsToldOf (r ∷ receipts) server (Done receipt.chain receipt.hop)) (sym same) (inl (to, refl))
-told_at (first ∷ receipts) (suc place) receipt server there to = inr (told_at receipts place receipt server there to)
-
-all_last : (P : Parcel → Type 0) (parcels : List Parcel) (parcel : Parcel) → AllByRecursion P parcels → P parcel → AllByRecursion P (parcels ++ parcel ∷ [])
-all_last P [] parcel all last = (last, tt)
-all_last P (first ∷ parcels) parcel all last = (all.0, all_last P parcels parcel all.1 last)
-
-pub tells_none : (receipts : List Receipt) (ends : EndLists) → TellsOf receipts ends ends
-tells_none receipts ends server = ([], sym (append-nil (sent_to ends server)), tt)
-
-pub tells_more : (receipts : List Receipt) (place : ℕ) (receipt : Receipt) (old mid new : EndLists) (b : Bool) → slice_get receipts place ≡ Some receipt →
-    MatchBool b (SendsTo mid receipt.to (Done receipt.chain receipt.hop) new) (SendsNothing mid new) → TellsOf receipts old mid → TellsOf receipts old new
-tells_more receipts place receipt old mid new true there sends tells server = by (nat_eq server receipt.to) refl (sends server)
-  where
-    parcel : Parcel
-    parcel = Done receipt.chain receipt.hop
-
-    before : List Parcel
-    before = (tells server).0
-
-    by : (b : Bool) → nat_eq server receipt.to ≡ b → sent_to new server ≡ cond b (sent_to mid server ++ parcel ∷ []) (sent_to mid server) →
-        (more : List Parcel) × (sent_to new server ≡ sent_to old server ++ more) × AllByRecursion (IsToldOf receipts server) more
-    by true e is = (
-      before ++ parcel ∷ [],
-      is ∙ ap (λ (l : List Parcel). l ++ parcel ∷ []) (tells server).1 ∙ append_assoc (sent_to old server) before (parcel ∷ []),
-      all_last (IsToldOf receipts server) before parcel (tells server).2 (told_at receipts place receipt server there (sym (eqb-true server receipt.to e))),
-    )
-    by false e is = (before, is ∙ (tells server).1, (tells server).2)
-tells_more receipts place receipt old mid new false there sends tells server = ((tells server).0, sends server ∙ (tells server).1, (tells server).2)

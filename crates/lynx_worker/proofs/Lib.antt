@@ -1,0 +1,5 @@
+pub mod Sendings
+pub mod Tellings
+pub mod RouteLemmas
+pub mod Advancing
+pub mod CatchingUp

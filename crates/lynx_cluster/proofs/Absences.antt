@@ -3,7 +3,7 @@ use Rattle.std.proofs.Common.{◌≡◌, ◌∙◌, ℕ, zero, suc, ◌+◌, ◌
 use Rattle.std.proofs.lemmas.Bool.{cases_lt}
 use Rattle.std.proofs.lemmas.Option.{slice_get_cases, slice_get_within}
 use Rattle.std.specs.Prelude.{replicate, unwrap_or}
-use Rattle.lynx_cluster.specs.Closing.{HasNone, HasOne, IsFirstAbsent}
+use Rattle.lynx_cluster.specs.Closing.{HasOne}
 use Rattle.lynx_cluster.specs.inner.Absent.{AreMarked, IsAbsent, IsFirstUnmarked, is_marked}
 use Rattle.lynx_cluster.specs.Sessions.{SessionState}
 

@@ -1,7 +1,7 @@
 -- What is told to be done was done.
-use Rattle.std.proofs.Common.{◌≡◌, ◌∙◌, ◌⊎◌, ◌&&◌, eq-eqb, ℕ, Bool, true, false, cond, not, nat_eq, nat_lt, List, [], ◌∷◌, ◌++◌, find, length, Option, Some, None, IsSome, Ok, Err, inl, inr, refl, sym, ap, subst}
-use Rattle.std.specs.Prelude.{if◌then◌else◌, unwrap_or}
-use Rattle.std.specs.List.{AllByRecursion, list_any}
+use Rattle.std.proofs.Common.{◌≡◌, ◌∙◌, ◌&&◌, eq-eqb, ℕ, Bool, true, false, cond, not, nat_eq, nat_lt, List, [], ◌∷◌, ◌++◌, find, length, Option, Some, None, IsSome, Ok, Err, inl, inr, refl, sym, ap, subst}
+use Rattle.std.specs.Prelude.{unwrap_or}
+use Rattle.std.specs.List.{list_any}
 use Rattle.std.proofs.lemmas.List.{append-nil}
 use Rattle.lynx_names.specs.declared.chain.ChainId.{ChainId}
 use Rattle.lynx_names.specs.declared.limits.TheConstants.{MAX_HELD}
@@ -15,7 +15,7 @@ use Rattle.lynx_hops.specs.Meaning.{HopOutcome, meaning}
 use Rattle.lynx_keep.specs.Kept.{Terms}
 use Rattle.lynx_rules.specs.Answers.{is_full}
 use Rattle.lynx_rules.specs.Checks.{is_well_formed}
-use Rattle.lynx_rules.specs.Deliveries.{Delivers as DeliveredSo, deliver_by_turn, deliver_new, delivery, done_by, early, repeated, same_hop, same_message}
+use Rattle.lynx_rules.specs.Deliveries.{Delivers as DeliveredSo, deliver_by_turn, deliver_new, delivery, done_by, early, same_hop, same_message}
 use Rattle.lynx_rules.specs.Lawful.{hop_entry_of, is_hop_of, number_at}
 use Rattle.lynx_rules.specs.Tables.{tables_of}
 use Rattle.lynx_rules.specs.Turns.{turn_of}

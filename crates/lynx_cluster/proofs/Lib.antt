@@ -6,3 +6,4 @@ pub mod Openings
 pub mod Takings
 pub mod Dones
 pub mod Owings
+pub mod Settlings

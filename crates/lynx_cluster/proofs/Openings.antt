@@ -50,7 +50,7 @@ opened_all terms set keepers number servers many all below = record {
   each = below.each;
 }
 
-there_is : {X : Type 0} (items : List X) (place : ℕ) → place < length items → (item : X) × (slice_get items place ≡ Some item)
+pub there_is : {X : Type 0} (items : List X) (place : ℕ) → place < length items → (item : X) × (slice_get items place ≡ Some item)
 there_is items place within = elim (slice_get_cases items place).1 [
   | inl found ↦ (found.0, found.2)
   | inr none ↦ let past = none.0 in absurd (omega (arith, past, within))

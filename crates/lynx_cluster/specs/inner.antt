@@ -3,3 +3,4 @@ pub mod Absent
 pub mod Serving
 pub mod Opening
 pub mod Closing
+pub mod Settling

@@ -50,7 +50,7 @@ fn is_done(delivered: &Delivered) -> bool
 }
 
 /// The server that sends the message of that hop of the chain, which was done at this one.
-fn sender_of<K: Keeper>(state: &Server<K>, chain: &ChainId, hop: u8) -> Option<ServerId>
+pub(crate) fn sender_of<K: Keeper>(state: &Server<K>, chain: &ChainId, hop: u8) -> Option<ServerId>
     ensures { IfSome result (IsSender state.now.set hop (act_of chain.now hop state.now.history)) }
 {
     let Some(Entry::Hop(ran)) = state.entry_of(*chain, hop) else {

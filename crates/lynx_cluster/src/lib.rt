@@ -26,6 +26,7 @@ mod looking;
 pub mod opening;
 mod post;
 pub mod session;
+mod settling;
 pub mod starting;
 mod taking;
 mod workers;

@@ -10,6 +10,7 @@ use crate::fault::StartFault;
 use crate::gate::Gate;
 use crate::opening::Opened;
 use crate::post::Post;
+use crate::settling::settle;
 use crate::workers::{lend_all, start_all};
 use lynx_keep::Keeper;
 use lynx_names::Memory;
@@ -53,8 +54,9 @@ fn post_all<K: Keeper + Drop>(alloc: Global, servers: Vec<Server<K>>) -> Result<
 }
 
 impl<K: Keeper + Drop> Opened<K> {
-    /// Starts a worker thread for each server. The set is copied for each of them. Where it fails
-    /// the keepers are dropped, what they stored stands, and no thread is left.
+    /// Starts a worker thread for each server. The set is copied for each of them. Messages whose
+    /// hops were done before aren't sent again. Where it fails the keepers are dropped, what they
+    /// stored stands, and no thread is left.
     pub fn start<R: Threads + Wait + Clock + Copy + Send + 'static, G: Gate + Drop>(
         self,
         rt: R,
@@ -68,7 +70,9 @@ impl<K: Keeper + Drop> Opened<K> {
         ensures started { IfOk result (Starts self.set self.servers.items) }
         ensures fault { IfErr result IsLate }
     {
-        let Opened { set, servers } = self;
+        let Opened { set, mut servers } = self;
+        // Where there is no memory for it, messages that need not come again do.
+        let _ = settle(alloc, servers.as_mut_slice());
         let Posted { posts, starts } = post_all(alloc, servers)?;
         let gate = Arc::new(alloc, gate)?;
         let stop = Arc::new(alloc, AtomicBool::new(false))?;

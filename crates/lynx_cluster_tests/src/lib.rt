@@ -30,6 +30,8 @@ mod pairs;
 #[cfg(test)]
 mod parcels;
 #[cfg(test)]
+mod reopened;
+#[cfg(test)]
 mod rows;
 #[cfg(test)]
 mod sessions;

@@ -16,9 +16,9 @@ use std::time::Clock;
 
 /// A set, what one session asks, and the order of its world.
 #[derive(Clone, Copy)]
-struct Row {
-    set: &'static str,
-    asked: &'static [Asked],
+pub struct Row {
+    pub set: &'static str,
+    pub asked: &'static [Asked],
     order: &'static [Chain],
 }
 
@@ -93,7 +93,7 @@ const PUTTING: Row = Row {
 };
 
 /// A trip, and when it came back the next.
-const TRIPS: Row = Row {
+pub const TRIPS: Row = Row {
     set: TRIP,
     asked: &[
         Asked::Begin(

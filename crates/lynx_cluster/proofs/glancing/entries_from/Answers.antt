@@ -1,4 +1,4 @@
-use Rattle.std.proofs.Common.{All, [], ◌-◌, ◌<◌, arith, drop, sym, take}
+use Rattle.std.proofs.Common.{All, [], ◌-◌, ◌<◌, arith, drop, take}
 use Rattle.std.proofs.lemmas.Result.{IfOk-weaker}
 use Rattle.std.proofs.lemmas.List.Elements.{All-drop, All-same, All-take}
 use Rattle.lynx_codec.specs.Entries.{IsEntryInRange}

@@ -1,4 +1,4 @@
-use Rattle.std.proofs.Common.{get_or, ℕ, List, Option, sym, subst}
+use Rattle.std.proofs.Common.{get_or, ℕ, Option, sym, subst}
 use Rattle.std.proofs.lemmas.Option.{slice_get-get_or}
 use Rattle.lynx_entry.specs.declared.message.Message.{Message}
 use Rattle.lynx_server.specs.Owed.{IsFirstOwed}

@@ -1,0 +1,7 @@
+use Rattle.lynx_weave.specs.Servers.{histories_of}
+use Rattle.lynx_cluster.specs.inner.Settling.{AreSettled}
+use Rattle.lynx_cluster.proofs.settling.settle.Given as goal
+
+abbrev pub invariant-loop-receiver : goal.invariant-loop-receiver
+invariant-loop-receiver g l =
+    AreSettled (histories_of l.initial.servers) l.initial.servers l.servers

@@ -19,7 +19,7 @@ use std::time::Clock;
 const TURN_MESSAGES: usize = 64;
 
 /// Rounds over all rings in which one turn takes parcels out of them, ..
-const TURN_ROUNDS: u32 = 4;
+const TURN_ROUNDS: u32 = 8;
 
 /// .. and parcels that each round takes out of each ring, at most. Chains of one origin come by
 /// several rings, and what is far ahead of the others is held, or dropped where there is no room.
@@ -144,8 +144,8 @@ impl<S: Steps> Worker<S> {
     /// first stays owed, or nothing is heard of that server, up to
     /// [`LONGEST_MILLIS`](crate::LONGEST_MILLIS). False where there was nothing to do. A turn has a
     /// bound: 4,096 receipts told twice, 64 messages sent, and for each server 64 more where its
-    /// ring was full and 128 sent again, 64 parcels taken, and one taking of the lock for what came
-    /// in. Where there is nothing to do it takes the server's lock once.
+    /// ring was full, 128 sent again and 128 parcels taken; and one taking of the lock for what
+    /// came in. Where there is nothing to do it takes the server's lock once.
     pub fn turn<R: Wait + Clock>(&mut self, rt: &R, alloc: Global) -> bool {
         self.tell();
         let owed = self.steps.owed(rt, alloc, self.reached, TURN_MESSAGES);

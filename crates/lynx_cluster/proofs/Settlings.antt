@@ -1,5 +1,5 @@
 -- Servers at which what was done is marked.
-use Rattle.std.proofs.Common.{◌≡◌, ◌∙◌, ◌⊎◌, ◌<◌, ◌≤◌, ℕ, zero, suc, Bool, true, false, cond, nat_eq, List, [], ◌∷◌, ◌++◌, drop, length, slice_set, take, Option, Some, None, IsSome, inl, inr, refl, sym, ap, subst, arith}
+use Rattle.std.proofs.Common.{◌≡◌, ◌∙◌, ◌⊎◌, ◌≤◌, ℕ, zero, suc, Bool, true, false, cond, nat_eq, List, [], ◌∷◌, ◌++◌, drop, length, slice_set, take, Option, Some, None, IsSome, inl, inr, refl, sym, ap, subst, arith}
 use Rattle.std.specs.Prelude.{map, slice_get}
 use Rattle.std.proofs.lemmas.Bool.{eqb-true, eqb-false}
 use Rattle.std.proofs.lemmas.Option.{slice_get_within}
@@ -15,6 +15,7 @@ use Rattle.lynx_worker.specs.declared.steps.Receipt.{Receipt}
 use Rattle.lynx_cluster.specs.inner.Serving.{AreDone}
 use Rattle.lynx_cluster.specs.Starting.{start_of}
 use Rattle.lynx_cluster.specs.inner.Settling.{AreSettled, IsDoneIn, IsSettled, SendsDone}
+use Rattle.lynx_worker.proofs.Sendings.{get_set_other, get_set_same}
 use Rattle.lynx_cluster.proofs.Openings.{there_is}
 
 module _ {K : Type 0} (histories : List History) where
@@ -71,27 +72,15 @@ module _ {K : Type 0} (histories : List History) where
         then here between there (first.each server here between at_old at_mid) (second.each server between there at_mid at_new);
   }
 
-  get_set_same : (xs : List (Serving K)) (i : ℕ) (v : Serving K) → i < length xs → slice_get (slice_set xs i v) i ≡ Some v
-  get_set_same [] i v within = absurd (omega (arith, within))
-  get_set_same (x ∷ xs) zero v within = refl
-  get_set_same (x ∷ xs) (suc i) v within = get_set_same xs i v (omega (arith, within))
-
-  get_set_other : (xs : List (Serving K)) (i j : ℕ) (v : Serving K) → (j ≡ i → ⊥) → slice_get (slice_set xs i v) j ≡ slice_get xs j
-  get_set_other [] i j v apart = refl
-  get_set_other (y ∷ ys) zero zero v apart = absurd (apart refl)
-  get_set_other (y ∷ ys) zero (suc j) v apart = refl
-  get_set_other (y ∷ ys) (suc i) zero v apart = refl
-  get_set_other (y ∷ ys) (suc i) (suc j) v apart = get_set_other ys i j v (λ same. apart (ap suc same))
-
   set_many : (xs : List (Serving K)) (i : ℕ) (v : Serving K) → length (slice_set xs i v) ≡ length xs
   set_many [] i v = refl
   set_many (x ∷ xs) zero v = refl
   set_many (x ∷ xs) (suc i) v = ap suc (set_many xs i v)
 
   -- one server notes it
-  pub one_noted : (servers : List (Serving K)) (i : ℕ) (old new : Serving K) (chain : ChainId) (hop : ℕ) → i < length servers → slice_get servers i ≡ Some old →
+  pub one_noted : (servers : List (Serving K)) (i : ℕ) (old new : Serving K) (chain : ChainId) (hop : ℕ) → slice_get servers i ≡ Some old →
       Acknowledges old chain hop new → IsDoneIn histories chain hop → AreSettled histories servers (slice_set servers i new)
-  one_noted servers i old new chain hop within at notes done = record {
+  one_noted servers i old new chain hop at notes done = record {
     many = set_many servers i new;
     each = λ server here there at_old at_new. by server here there at_old at_new (nat_eq server i) refl;
   }
@@ -101,7 +90,7 @@ module _ {K : Type 0} (histories : List History) where
       by server here there at_old at_new true e =
           let same = eqb-true server i e in
           let old_is : old ≡ here = let both = sym at ∙ ap (slice_get servers) (sym same) ∙ at_old in cc in
-          let new_is : new ≡ there = let both = sym (get_set_same servers i new within) ∙ ap (slice_get (slice_set servers i new)) (sym same) ∙ at_new in cc in
+          let new_is : new ≡ there = let both = sym (get_set_same servers i old new at) ∙ ap (slice_get (slice_set servers i new)) (sym same) ∙ at_new in cc in
           subst (λ (s : Serving K). IsSettled histories s there) old_is (subst (IsSettled histories old) new_is (noted old new chain hop done notes))
       by server here there at_old at_new false e =
           let same : here ≡ there = let both = sym at_old ∙ sym (get_set_other servers i server new (eqb-false server i e)) ∙ at_new in cc in

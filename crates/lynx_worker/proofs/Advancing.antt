@@ -12,7 +12,7 @@ use Rattle.lynx_worker.specs.declared.route.Route.{Route}
 use Rattle.lynx_worker.specs.declared.steps.Due.{Due}
 use Rattle.lynx_worker.specs.Routes.{AreRoutes, lags_of}
 use Rattle.lynx_worker.specs.Sending.{Advances, GoesOn, Sends, SendsAll, SendsBeginning, SendsNothing, SendsTo, behind, behind_all, dues_for, first_or, parcels_of, sent_to}
-use Rattle.lynx_worker.proofs.RouteLemmas.{set_same}
+use Rattle.lynx_worker.proofs.Sendings.{get_set_same}
 
 pub parcels-append : (xs ys : List Due) → parcels_of (xs ++ ys) ≡ parcels_of xs ++ parcels_of ys
 parcels-append [] ys = refl
@@ -125,11 +125,11 @@ one server due ends new None after false sends lags =
 one server due ends new (Some place) after false sends lags = (sends, lags)
 
 -- a message went by its route, or the route lags
-pub sends_one : (routes : List Route) (i : ℕ) (before after : Route) (ends new : EndLists) (due : Due) (b : Bool) → i < length routes → slice_get routes i ≡ Some before →
+pub sends_one : (routes : List Route) (i : ℕ) (before after : Route) (ends new : EndLists) (due : Due) (b : Bool) → slice_get routes i ≡ Some before →
     i ≡ due.to → AreRoutes routes → MatchBool b (SendsTo ends before.to (Message due.message) new) (SendsNothing ends new) →
     MatchBool b ((before.lags_at ≡ None) × (after.lags_at ≡ None)) (after.lags_at ≡ Some (unwrap_or before.lags_at due.place)) →
     Sends (due ∷ []) ends (lags_of routes) new (lags_of (slice_set routes i after))
-sends_one routes i before after ends new due b within there at are sends lags server = by (nat_eq server due.to) refl
+sends_one routes i before after ends new due b there at are sends lags server = by (nat_eq server due.to) refl
   where
     to_is : before.to ≡ due.to
     to_is = are i before there ∙ at
@@ -158,7 +158,7 @@ sends_one routes i before after ends new due b within there at are sends lags se
         let same : server ≡ i = eqb-true server due.to e ∙ sym at in
         let old_is : old_lag ≡ Some before.lags_at = ap (slice_get (lags_of routes)) same ∙ lags_get routes i before there in
         let new_is : new_lag ≡ Some after.lags_at =
-        ap (slice_get (lags_of (slice_set routes i after))) same ∙ lags_get (slice_set routes i after) i after (set_same routes i after within) in
+        ap (slice_get (lags_of (slice_set routes i after))) same ∙ lags_get (slice_set routes i after) i after (get_set_same routes i before after there) in
         subst Goal (sym e) (subst (λ (l : Option (Option ℕ)). GoesOn server (due ∷ []) ends l new new_lag) (sym old_is)
         (subst (λ (l : Option (Option ℕ)). GoesOn server (due ∷ []) ends (Some before.lags_at) new l) (sym new_is)
         (one server due ends new before.lags_at after.lags_at b (here b (ap (nat_eq server) to_is ∙ e) sends) lags)))

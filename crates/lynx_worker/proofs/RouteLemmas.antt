@@ -1,35 +1,24 @@
 -- Routes one of which changed.
-use Rattle.std.proofs.Common.{◌≡◌, ◌∙◌, ◌⊎◌, ℕ, zero, suc, ◌+◌, ◌<◌, nat_eq, Bool, true, false, List, [], ◌∷◌, ◌++◌, Option, Some, None, length, length-append, slice_set, inl, inr, refl, sym, ap, subst, arith}
+use Rattle.std.proofs.Common.{◌≡◌, ◌∙◌, ◌⊎◌, ℕ, zero, suc, ◌+◌, nat_eq, Bool, true, false, List, [], ◌∷◌, ◌++◌, Option, Some, None, length, length-append, slice_set, inl, inr, refl, sym, ap, subst}
 use Rattle.std.specs.Prelude.{slice_get}
 use Rattle.std.specs.List.{AllByRecursion}
 use Rattle.std.proofs.lemmas.Bool.{eqb-true, eqb-false}
 use Rattle.lynx_worker.specs.declared.route.Route.{Route}
 use Rattle.lynx_worker.specs.Routes.{AreRoutes, lags_of}
-
-pub set_same : {X : Type 0} (xs : List X) (i : ℕ) (v : X) → i < length xs → slice_get (slice_set xs i v) i ≡ Some v
-set_same [] i v within = absurd (omega (arith, within))
-set_same (x ∷ xs) zero v within = refl
-set_same (x ∷ xs) (suc i) v within = set_same xs i v (omega (arith, within))
-
-pub set_other : {X : Type 0} (xs : List X) (i j : ℕ) (v : X) → (j ≡ i → ⊥) → slice_get (slice_set xs i v) j ≡ slice_get xs j
-set_other [] i j v apart = refl
-set_other (y ∷ ys) zero zero v apart = absurd (apart refl)
-set_other (y ∷ ys) zero (suc j) v apart = refl
-set_other (y ∷ ys) (suc i) zero v apart = refl
-set_other (y ∷ ys) (suc i) (suc j) v apart = set_other ys i j v (λ same. apart (ap suc same))
+use Rattle.lynx_worker.proofs.Sendings.{get_set_other, get_set_same}
 
 -- a route that leads where it led
-pub routes_set : (routes : List Route) (i : ℕ) (before after : Route) → i < length routes → slice_get routes i ≡ Some before → after.to ≡ before.to →
+pub routes_set : (routes : List Route) (i : ℕ) (before after : Route) → slice_get routes i ≡ Some before → after.to ≡ before.to →
     AreRoutes routes → AreRoutes (slice_set routes i after)
-routes_set routes i before after within there to are server route is = by (nat_eq server i) refl
+routes_set routes i before after there to are server route is = by (nat_eq server i) refl
   where
     by : (b : Bool) → nat_eq server i ≡ b → route.to ≡ server
     by true e =
         let same = eqb-true server i e in
-        let here : Some route ≡ Some after = sym is ∙ ap (slice_get (slice_set routes i after)) same ∙ set_same routes i after within in
+        let here : Some route ≡ Some after = sym is ∙ ap (slice_get (slice_set routes i after)) same ∙ get_set_same routes i before after there in
         let is_after : route ≡ after = cc in
         ap (λ (r : Route). r.to) is_after ∙ to ∙ are i before there ∙ sym same
-    by false e = are server route (sym (set_other routes i server after (eqb-false server i e)) ∙ is)
+    by false e = are server route (sym (get_set_other routes i server after (eqb-false server i e)) ∙ is)
 
 get_last : (routes : List Route) (route : Route) (server : ℕ) (other : Route) → slice_get (routes ++ route ∷ []) server ≡ Some other →
     (slice_get routes server ≡ Some other) ⊎ ((server ≡ length routes) × (other ≡ route))

@@ -8,12 +8,12 @@ use Rattle.lynx_link.specs.Rings.{Sending, Sends}
 use Rattle.lynx_link.specs.declared.parcel.Parcel.{Parcel}
 use Rattle.lynx_worker.specs.Sending.{SendsNothing, SendsTo, sent_to}
 
-get_set_same : {X : Type 0} (xs : List X) (i : ℕ) (x v : X) → slice_get xs i ≡ Some x → slice_get (slice_set xs i v) i ≡ Some v
+pub get_set_same : {X : Type 0} (xs : List X) (i : ℕ) (x v : X) → slice_get xs i ≡ Some x → slice_get (slice_set xs i v) i ≡ Some v
 get_set_same [] i x v there = cc
 get_set_same (y ∷ ys) zero x v there = refl
 get_set_same (y ∷ ys) (suc i) x v there = get_set_same ys i x v there
 
-get_set_other : {X : Type 0} (xs : List X) (i j : ℕ) (v : X) → (j ≡ i → ⊥) → slice_get (slice_set xs i v) j ≡ slice_get xs j
+pub get_set_other : {X : Type 0} (xs : List X) (i j : ℕ) (v : X) → (j ≡ i → ⊥) → slice_get (slice_set xs i v) j ≡ slice_get xs j
 get_set_other [] i j v apart = refl
 get_set_other (y ∷ ys) zero zero v apart = absurd (apart refl)
 get_set_other (y ∷ ys) zero (suc j) v apart = refl

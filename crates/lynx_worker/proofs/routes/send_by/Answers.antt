@@ -10,12 +10,12 @@ returns-then-index-routes-clause-sends g c = sends_nowhere c.args.routes.now c.i
 pub returns-clause-routes : goal.returns-clause-routes
 returns-clause-routes g c =
     let here = c.index-routes-index.result in
-    routes_set c.args.routes.now c.index-index.result (slice_index_or c.args.routes.now c.index-index.result here) c.send.new.self c.if-index-routes.false
+    routes_set c.args.routes.now c.index-index.result (slice_index_or c.args.routes.now c.index-index.result here) c.send.new.self
     (slice_get-get_or c.args.routes.now c.index-index.result here c.if-index-routes.false) c.send.ensures.to c.requires
 
 pub returns-clause-sends : goal.returns-clause-sends
 returns-clause-sends g c =
     let here = c.index-routes-index.result in
     sends_one c.args.routes.now c.index-index.result (slice_index_or c.args.routes.now c.index-index.result here) c.send.new.self c.args.ends.now c.send.new.ends c.args.due
-    c.send.result c.if-index-routes.false (slice_get-get_or c.args.routes.now c.index-index.result here c.if-index-routes.false) c.index-index.ensures.value c.requires
+    c.send.result (slice_get-get_or c.args.routes.now c.index-index.result here c.if-index-routes.false) c.index-index.ensures.value c.requires
     c.send.ensures.sent c.send.ensures.lags

@@ -15,7 +15,7 @@ const MOST_LIKELY: usize = 10;
 const MOST_INTERVALS: usize = 3;
 
 /// Numbers for some arguments that are to be equal.
-#[derive(Debug, Drop)]
+#[derive(Drop)]
 pub(crate) struct Slot {
     pub numbers: Vec<u64>,
     /// The parameters.
@@ -42,7 +42,7 @@ pub(crate) fn picks(alloc: Global, pool: &[u64], numbers: &[Interval]) -> Result
 }
 
 /// Which number of each slot is taken.
-#[derive(Clone, Copy, Debug)]
+#[derive(Clone, Copy)]
 enum Choice {
     /// The first of each, but that one of the changed slot.
     Changed { slot: usize, number: usize },

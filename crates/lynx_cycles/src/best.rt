@@ -6,7 +6,7 @@ use std::alloc::Global;
 const MOST: usize = 3;
 
 /// Those of the highest rank, in order of it; of one rank those that came first.
-#[derive(Debug, Drop)]
+#[derive(Drop)]
 pub(crate) struct Best<T> {
     ranked: Vec<(u16, T)>,
 }

@@ -1,7 +1,7 @@
 //! Steps that are left.
 
 /// How many steps may still be taken.
-#[derive(Clone, Copy, Debug)]
+#[derive(Clone, Copy)]
 pub(crate) struct Budget {
     left: u64,
 }

@@ -11,7 +11,7 @@ use std::alloc::Global;
 const MOST_HELPED: u8 = 9;
 
 /// What is sought: a begin of the program with one of the lists, with help so many levels deep.
-#[derive(Debug, Drop)]
+#[derive(Drop)]
 pub(crate) struct Sought {
     pub program: usize,
     pub lists: Vec<Values>,
@@ -21,7 +21,7 @@ pub(crate) struct Sought {
 }
 
 /// The arguments that are to be begun with, and what helps.
-#[derive(Debug, Drop)]
+#[derive(Drop)]
 struct Wish {
     args: Values,
     cells: Vec<Cell>,
@@ -30,7 +30,7 @@ struct Wish {
 }
 
 /// A begin that is sought from a run on, and how far the search is.
-#[derive(Debug, Drop)]
+#[derive(Drop)]
 pub(crate) struct Call {
     run: Run,
     sought: Sought,
@@ -45,7 +45,7 @@ pub(crate) struct Call {
 }
 
 /// What the search comes to next.
-#[derive(Debug, Drop)]
+#[derive(Drop)]
 pub(crate) enum Step {
     /// A run in which the chain began.
     Begun(Run),
@@ -56,7 +56,7 @@ pub(crate) enum Step {
 }
 
 /// What a call makes of a run that the call which it made has found.
-#[derive(Debug, Drop)]
+#[derive(Drop)]
 pub(crate) enum Received {
     /// A run in which the call's own chain began.
     Begun(Run),

@@ -13,7 +13,7 @@ use lynx_names::Memory;
 use std::alloc::Global;
 
 /// What is looked for.
-#[derive(Clone, Copy, Debug)]
+#[derive(Clone, Copy)]
 pub(crate) struct Wanted {
     /// How many chains the circle has.
     pub size: usize,
@@ -22,14 +22,14 @@ pub(crate) struct Wanted {
 }
 
 /// A draft, and how far it was looked at.
-#[derive(Debug, Drop)]
+#[derive(Drop)]
 pub(crate) struct Item {
     pub draft: Draft,
     pub at: At,
 }
 
 /// Where the search stands in a draft.
-#[derive(Clone, Copy, Debug)]
+#[derive(Clone, Copy)]
 pub(crate) enum At {
     /// Its last chain is to be left.
     Growing(Growth),
@@ -41,7 +41,7 @@ pub(crate) enum At {
 
 /// The last chain is left by one of the hops from `left` on, and before `end`, by the joint `next`
 /// of those of that hop.
-#[derive(Clone, Copy, Debug)]
+#[derive(Clone, Copy)]
 pub(crate) struct Growth {
     pub left: usize,
     pub end: usize,
@@ -50,7 +50,7 @@ pub(crate) struct Growth {
 
 /// The chain is left on the way from the first chain of the pair to the second, by the joint `next`
 /// of those of the hop.
-#[derive(Clone, Copy, Debug)]
+#[derive(Clone, Copy)]
 pub(crate) struct Way {
     pub pair: usize,
     pub chain: usize,

@@ -7,7 +7,7 @@ use lynx_set::{Interval, Key};
 use std::alloc::Global;
 
 /// Keys that have to be equal, and the numbers that all of them may be.
-#[derive(Debug, Drop)]
+#[derive(Drop)]
 pub(crate) struct Class {
     pub members: Vec<KeyOf>,
     pub numbers: Vec<Interval>,

@@ -7,28 +7,28 @@ use lynx_set::Key;
 use std::alloc::Global;
 
 /// A key of a chain: a number, or an argument.
-#[derive(Clone, Copy, Debug, PartialEq, Eq)]
+#[derive(Clone, Copy, PartialEq, Eq)]
 pub(crate) struct KeyOf {
     pub chain: usize,
     pub key: Key,
 }
 
 /// Two keys that have to be equal.
-#[derive(Clone, Copy, Debug)]
+#[derive(Clone, Copy)]
 pub(crate) struct Tie {
     pub left: KeyOf,
     pub right: KeyOf,
 }
 
 /// Two chains of one origin that stand next to each other in the circle, the first begun first.
-#[derive(Clone, Copy, Debug)]
+#[derive(Clone, Copy)]
 pub(crate) struct Pair {
     pub first: usize,
     pub second: usize,
 }
 
 /// Chains, and what has to be so that they make a circle.
-#[derive(Debug, Drop)]
+#[derive(Drop)]
 pub(crate) struct Draft {
     /// The program of each chain.
     pub chains: Vec<usize>,

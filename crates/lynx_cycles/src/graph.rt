@@ -4,14 +4,14 @@ use lynx_names::Memory;
 use std::alloc::Global;
 
 /// A hop of a chain, both by their numbers.
-#[derive(Clone, Copy, Debug, PartialEq, Eq)]
+#[derive(Clone, Copy, PartialEq, Eq)]
 pub(crate) struct HopOf {
     pub chain: usize,
     pub hop: usize,
 }
 
 /// When begins come in a schedule.
-#[derive(Clone, Copy, Debug, PartialEq, Eq)]
+#[derive(Clone, Copy, PartialEq, Eq)]
 pub(crate) enum Begins {
     Late,
     Early,
@@ -19,7 +19,7 @@ pub(crate) enum Begins {
 
 /// The hops of some chains, and for each those that have to be done before it. Only the first 128
 /// hops count.
-#[derive(Debug, Drop)]
+#[derive(Drop)]
 pub(crate) struct Graph {
     hops: Vec<HopOf>,
     /// The place of each chain's first hop.

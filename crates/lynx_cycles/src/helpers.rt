@@ -11,14 +11,14 @@ use lynx_set::{Action, Key};
 use std::alloc::Global;
 
 /// A cell.
-#[derive(Clone, Copy, Debug, PartialEq, Eq)]
+#[derive(Clone, Copy, PartialEq, Eq)]
 pub(crate) struct Cell {
     pub table: TableId,
     pub key: u64,
 }
 
 /// A program that changes a cell of that key, where its own key is that.
-#[derive(Clone, Copy, Debug, PartialEq, Eq)]
+#[derive(Clone, Copy, PartialEq, Eq)]
 pub(crate) struct Helper {
     pub program: usize,
     own: Key,

@@ -3,7 +3,7 @@
 const BITS: usize = 64;
 
 /// Hops of a circle's chains, by their places among all of them: 128 at most.
-#[derive(Clone, Copy, Debug)]
+#[derive(Clone, Copy)]
 pub(crate) struct HopSet {
     words: [u64; 2],
 }

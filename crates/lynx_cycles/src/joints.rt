@@ -13,7 +13,7 @@ const MAX_LOOKS: u64 = 20_000_000;
 
 /// Two hops at one server that conflict where two keys are equal: a chain is left by the one, and
 /// another is entered by the other.
-#[derive(Clone, Copy, Debug)]
+#[derive(Clone, Copy)]
 pub(crate) struct Joint {
     pub left_hop: usize,
     pub left_key: Key,
@@ -40,7 +40,7 @@ impl Joint {
 }
 
 /// The joints by which each hop of each program is left.
-#[derive(Debug, Drop)]
+#[derive(Drop)]
 pub(crate) struct Joints {
     by_hop: Vec<Vec<Vec<Joint>>>,
 }

@@ -8,7 +8,7 @@ use std::alloc::Global;
 
 /// A begin that is sought, and behind it those that are sought for its sake, each for that before
 /// it.
-#[derive(Debug, Drop)]
+#[derive(Drop)]
 pub(crate) struct Passing {
     calls: Vec<Call>,
 }

@@ -22,7 +22,7 @@ struct Plan<'a> {
 }
 
 /// What was chosen so far.
-#[derive(Debug, Drop)]
+#[derive(Drop)]
 struct Chosen {
     /// The number in the run of each chain of the circle that began.
     numbers: Vec<Option<usize>>,
@@ -31,7 +31,7 @@ struct Chosen {
 }
 
 /// A begin of the schedule that is sought.
-#[derive(Debug, Drop)]
+#[derive(Drop)]
 struct Level {
     /// The place of the begin in the schedule.
     at: usize,
@@ -84,7 +84,7 @@ pub(crate) fn play(
 }
 
 /// What came of the hops up to the next begin.
-#[derive(Debug, Drop)]
+#[derive(Drop)]
 enum Followed {
     Ended(Run),
     Begin(Level),

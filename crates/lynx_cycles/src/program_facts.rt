@@ -6,7 +6,7 @@ use lynx_names::{Memory, ProgramId, ServerId, TableId};
 use lynx_set::{ChainSet, Interval, Key, Program, range_of};
 use std::alloc::Global;
 
-#[derive(Debug, Drop)]
+#[derive(Drop)]
 pub(crate) struct ProgramFacts {
     pub program: ProgramId,
     /// The server of each hop.

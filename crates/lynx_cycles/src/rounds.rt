@@ -38,7 +38,7 @@ const DEPTHS: [Depth; 2] = [
     },
 ];
 
-#[derive(Clone, Copy, Debug)]
+#[derive(Clone, Copy)]
 struct Depth {
     depth: u8,
     begins: u64,
@@ -222,7 +222,7 @@ impl<'a> Search<'a> {
 }
 
 /// How many circles of which programs were tried.
-#[derive(Debug, Drop)]
+#[derive(Drop)]
 struct Tries {
     counts: Vec<(Vec<usize>, u32)>,
 }

@@ -7,7 +7,7 @@ use lynx_names::{Memory, ProgramId, ServerId, TryCopy, Values};
 use std::alloc::Global;
 
 /// A chain that began.
-#[derive(Debug, Drop)]
+#[derive(Drop)]
 pub(crate) struct Begun {
     pub program: usize,
     pub args: Values,
@@ -30,7 +30,7 @@ impl Begun {
 }
 
 /// What came of a hop.
-#[derive(Debug, Drop)]
+#[derive(Drop)]
 enum Ran {
     Done { results: Values, changes: Changes },
     /// The number of the need that isn't met.
@@ -38,7 +38,7 @@ enum Ran {
 }
 
 /// What came of a begin that was tried.
-#[derive(Debug, Drop)]
+#[derive(Drop)]
 pub(crate) enum Tried {
     /// The run after it. The chain that began is the last.
     Begun(Run),
@@ -47,7 +47,7 @@ pub(crate) enum Tried {
 }
 
 /// Of a run what decides the next step.
-#[derive(Debug, Drop)]
+#[derive(Drop)]
 pub(crate) struct Run {
     pub cells: Cells,
     pub chains: Vec<Begun>,

@@ -6,7 +6,7 @@ use lynx_names::Memory;
 use std::alloc::Global;
 
 /// The program and the hop by which a block is entered that doesn't lead forward.
-#[derive(Clone, Copy, Debug)]
+#[derive(Clone, Copy)]
 pub(crate) struct Start {
     pub program: usize,
     pub hop: usize,

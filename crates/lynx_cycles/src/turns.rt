@@ -5,7 +5,7 @@ use lynx_names::Memory;
 use std::alloc::Global;
 
 /// At a server that two programs visit the last hop of the first and the first hop of the second.
-#[derive(Clone, Copy, Debug)]
+#[derive(Clone, Copy)]
 pub(crate) struct Turn {
     last: usize,
     first: usize,

@@ -7,7 +7,8 @@ use lynx_args::{CommandFault, Job, command, job_of, wants_hints};
 use lynx_cli::{Fault, Hints, do_job};
 use lynx_cluster::Host;
 use lynx_store::BatchKeeper;
-use lynx_store_files::{Files, Stores};
+use lynx_store_files::{Databases, Files, Stores};
+use sqlite::{Connection, File, FileStore};
 use std::io::{self, IsTerminal};
 use std::net::{Net, TcpListener, TcpStream};
 use std::process::ExitCode;
@@ -85,7 +86,7 @@ fn suggest_check(rt: &HostRuntime, said: &Error, words: &[String]) {
 fn do_matches<
     R: Host + Net<Listener = TcpListener, Stream = TcpStream>,
     K: BatchKeeper + Send + Drop + 'static,
-    S: Stores<K> + Sync,
+    S: Stores<K> + Databases<Connection<FileStore<File>>> + Sync,
 >(host: &HostRuntime, rt: R, stores: &S, matches: &ArgMatches) -> u8 {
     let mut hints = Hints::new(wants_hints(matches) || host.stderr().is_terminal());
     let done = match job_of(matches) {
@@ -114,7 +115,7 @@ fn do_matches<
 fn obey<
     R: Host + Net<Listener = TcpListener, Stream = TcpStream>,
     K: BatchKeeper + Send + Drop + 'static,
-    S: Stores<K> + Sync,
+    S: Stores<K> + Databases<Connection<FileStore<File>>> + Sync,
 >(host: &HostRuntime, rt: R, stores: &S, words: &[String]) -> u8 {
     let Ok(command) = command(host.alloc()) else {
         return report(host, &Fault::Memory);

@@ -2,6 +2,7 @@
 use Rattle.std.proofs.Common.{◌≡◌, ◌∙◌, ℕ, Bool, true, false, List, Option, Result, Ok, Err, inr, ap, refl, sym, subst}
 use Rattle.std.specs.Bool.{MatchBool}
 use Rattle.std.specs.Prelude.{IfErr, IfOk}
+use Rattle.sqlite.specs.State.{State}
 use Rattle.lynx_keep.specs.Kept.{Terms}
 use Rattle.lynx_graph.specs.Acceptance.{IsAccepted as IsAcceptedSet}
 use Rattle.lynx_set.proofs.Literals.{literals_home}
@@ -21,7 +22,7 @@ use Rattle.lynx_report.specs.declared.options.RunOptions.{RunOptions}
 use Rattle.lynx_rerun.specs.Reruns.{Reruns}
 use Rattle.lynx_store.specs.Stored.{Owner}
 use Rattle.lynx_cli.specs.declared.fault.Fault.{Fault}
-use Rattle.lynx_cli.specs.Done.{HasExtended, HasRerunJudged, HasRerunTexts, HasRunJudged, HasRunTexts}
+use Rattle.lynx_cli.specs.Done.{HasExtended, HasGivenText, HasRerunJudged, HasRerunTexts, HasRunJudged, HasRunTexts}
 use Rattle.lynx_cli.specs.Statuses.{status_of_ending}
 use Rattle.lynx_cli.specs.Stopped.{StopsRunJudged, StopsRunTexts}
 
@@ -85,7 +86,9 @@ rerun_judged_done terms owner_of options text script set (Ok status) old mid new
     inr ((set, accepts), ran, ran.status_is ∙ rerun_ordered terms owner_of ran.chains script options.owed ran.ending ran.printed ran.is_set accepted ran.reruns)
 
 -- a folder's stores are given to the set of a text, which is accepted
-pub extended_so : (text : List ℕ) (set : Set) (result : Result ℕ Fault) (old new : Option (List ℕ)) → Accepts text set → IfOk result (λ status. status ≡ 0) →
-    IfOk result (λ status. (read : List ℕ) × HasExtended read old new status)
-extended_so text set (Err fault) old new accepts done = tt
-extended_so text set (Ok status) old new accepts done = (text, inr ((set, accepts), done))
+pub extended_so : {K C : Type 0} (owner_of : K → Owner) (state_of : C → State) (OpenedAt : ℕ → C → Type 0) (text : List ℕ) (result : Result ℕ Fault) (old mid new : Option (List ℕ)) →
+    mid ≡ old → IfOk result (HasGivenText owner_of state_of OpenedAt text mid new) →
+    IfOk result (λ status. (read : List ℕ) × HasExtended owner_of state_of OpenedAt read old new status)
+extended_so owner_of state_of OpenedAt text (Err fault) old mid new kept done = tt
+extended_so owner_of state_of OpenedAt text (Ok status) old mid new kept done =
+    (text, inr (subst (λ before. HasGivenText owner_of state_of OpenedAt text before new status) kept done))

@@ -3,6 +3,8 @@ use Rattle.std.specs.Prelude.{◌≡◌, ◌⊎◌, false, ℕ, Bool, List, Opti
 use Rattle.std.specs.Bool.{MatchBool}
 use Rattle.std.specs.Io.KnownBytes.{Appends}
 use Rattle.lynx_cli.specs.Inputs.{IsCut}
+use Rattle.sqlite.specs.State.{State}
+use Rattle.lynx_give.specs.Given.{HasGiven}
 use Rattle.lynx_set.specs.Rules.{IsSet}
 use Rattle.lynx_set.specs.Set.{Set}
 use Rattle.lynx_set.specs.Text.{text_of}
@@ -149,10 +151,20 @@ abbrev pub HasServedJudged : {K : Type 0} → Terms K → (K → Owner) → List
 HasServedJudged terms owner_of text old new status =
     HasRefused text old new status ⊎ HasServedText terms owner_of text old new status
 
--- a set that offends is refused, and one that is accepted is given stores, with status 0
-abbrev pub HasExtended : List ℕ → Option (List ℕ) → Option (List ℕ) → ℕ → Type 0
-HasExtended text old new status =
-    HasRefused text old new status ⊎ (IsAccepted text × (status ≡ 0))
+-- the stores of a folder are given to the text's set, which is accepted, and the status is 0
+pub record HasGivenText {K C : Type 0} (owner_of : K → Owner) (state_of : C → State)
+    (OpenedAt : ℕ → C → Type 0) (text : List ℕ) (old new : Option (List ℕ))
+    (status : ℕ) : Type 0 where
+  pub chains : Set
+  pub accepts : Accepts text chains
+  pub gives : HasGiven owner_of state_of OpenedAt chains old new
+  pub status_is : status ≡ 0
+
+-- a set that offends is refused, and another is given the stores
+abbrev pub HasExtended : {K C : Type 0} → (K → Owner) → (C → State) → (ℕ → C → Type 0)
+    → List ℕ → Option (List ℕ) → Option (List ℕ) → ℕ → Type 0
+HasExtended owner_of state_of OpenedAt text old new status =
+    HasRefused text old new status ⊎ HasGivenText owner_of state_of OpenedAt text old new status
 
 -- a random script for the text's set is written, and the status is 0
 pub record HasSampled (cycle : Bool) (text : List ℕ) (old new : Option (List ℕ))

@@ -27,13 +27,13 @@ use Rattle.lynx_rerun.specs.declared.fault.RerunFault.{RerunFault}
 use Rattle.lynx_rerun.specs.declared.fault.RerunFault.TheVariants as rerun
 use Rattle.lynx_restore.specs.declared.fault.RestoreFault.{RestoreFault}
 use Rattle.lynx_restore.specs.declared.fault.RestoreFault.TheVariants as restore
-use Rattle.lynx_service.specs.Faults.{apart_fault, contents_fault, store_fault}
+use Rattle.lynx_service.specs.Faults.{apart_fault, contents_fault, missing_fault, store_fault}
 use Rattle.lynx_service.specs.declared.fault.ServeFault.{ServeFault}
 use Rattle.lynx_service.specs.declared.fault.ServeFault.TheVariants as serve
 use Rattle.lynx_show.specs.declared.fault.ShowFault.{ShowFault}
 use Rattle.lynx_show.specs.declared.fault.ShowFault.TheVariants as show
-use Rattle.lynx_show.specs.declared.extend.TakeFault.{TakeFault}
-use Rattle.lynx_show.specs.declared.extend.TakeFault.TheVariants as take
+use Rattle.lynx_give.specs.declared.fault.GiveFault.{GiveFault}
+use Rattle.lynx_give.specs.declared.fault.GiveFault.TheVariants as give
 use Rattle.lynx_store.specs.declared.fault.StoreFault.{StoreFault}
 use Rattle.lynx_store.specs.declared.fault.StoreFault.TheVariants as store
 use Rattle.lynx_store_files.specs.declared.copies.CopyFault.{CopyFault}
@@ -69,10 +69,12 @@ asking_fault ask.Write = Write
 asking_fault ask.Memory = Memory
 asking_fault fault = Ask fault
 
--- why the store of that server was not given to a set
-abbrev pub taking_fault : ℕ → TakeFault → Fault
-taking_fault server (take.Store fault) = serving_fault (store_fault server fault)
-taking_fault server take.Write = Write
+-- why stores were not given to a set, told as a service tells it
+abbrev pub giving_fault : GiveFault → Fault
+giving_fault (give.Store server fault) = serving_fault (store_fault server fault)
+giving_fault (give.Lost server) = serving_fault (missing_fault server)
+giving_fault give.Write = Write
+giving_fault give.Memory = Memory
 
 -- why a run over stores stopped: the faults of stores are told as a service tells them
 abbrev pub rerun_fault : RerunFault → Fault

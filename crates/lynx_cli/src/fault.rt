@@ -2,12 +2,13 @@
 ghost use Rattle.std.specs.Prelude.{◌≡◌};
 ghost use Rattle.lynx_cli.specs.Statuses.{status_of, status_of_run};
 ghost use Rattle.lynx_service.specs.Faults.{missing_fault, store_fault};
-ghost use Rattle.lynx_cli.specs.Stopped.{asking_fault, rerun_fault, restoring_fault, run_fault, sampling_fault, serving_fault, showing_fault, taking_fault};
+ghost use Rattle.lynx_cli.specs.Stopped.{asking_fault, giving_fault, rerun_fault, restoring_fault, run_fault, sampling_fault, serving_fault, showing_fault};
 
 use crate::shown::Shown;
 use crate::source::InputFault;
 use lynx_args::CommandFault;
 use lynx_ask::AskFault;
+use lynx_give::GiveFault;
 use lynx_lex::TextFault;
 use lynx_names::ServerId;
 use lynx_report::RunFault;
@@ -15,7 +16,7 @@ use lynx_rerun::RerunFault;
 use lynx_restore::RestoreFault;
 use lynx_sample::SampleFault;
 use lynx_service::ServeFault;
-use lynx_show::{ShowFault, TakeFault};
+use lynx_show::ShowFault;
 use lynx_store::StoreFault;
 use thiserror::Error;
 
@@ -153,13 +154,15 @@ impl<'a> Fault<'a> {
         Fault::of_serving(ServeFault::of_missing(server))
     }
 
-    /// The fault of giving the store of that server to a set.
-    pub(crate) fn of_taking(server: ServerId, fault: TakeFault) -> Fault<'a>
-        ensures { result ≡ taking_fault server fault }
+    /// The fault of giving stores to a set, told as a service tells it.
+    pub(crate) fn of_giving(fault: GiveFault) -> Fault<'a>
+        ensures { result ≡ giving_fault fault }
     {
         match fault {
-            TakeFault::Store(fault) => Fault::of_store(server, fault),
-            TakeFault::Write => Fault::Write,
+            GiveFault::Store { server, fault } => Fault::of_store(server, fault),
+            GiveFault::Lost { server } => Fault::of_lost(server),
+            GiveFault::Write => Fault::Write,
+            GiveFault::Memory => Fault::Memory,
         }
     }
 

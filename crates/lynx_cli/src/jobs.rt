@@ -19,8 +19,10 @@ use lynx_cluster::Host;
 use lynx_draw::Extent;
 use lynx_keep::Keeper;
 use lynx_report::{CheckOptions, DrawOptions};
+use lynx_sql::Rising;
 use lynx_store::BatchKeeper;
-use lynx_store_files::Stores;
+use lynx_store_files::{Databases, Stores};
+use sqlite::Connection;
 use std::io;
 use std::io::{BufWriter, Write};
 use std::net::{Net, TcpListener, TcpStream};
@@ -35,7 +37,8 @@ pub fn do_job<
     'a,
     R: Host + Net<Listener = TcpListener, Stream = TcpStream>,
     K: BatchKeeper + Send + Drop + 'static,
-    S: Stores<K> + Sync,
+    D: Rising + Drop,
+    S: Stores<K> + Databases<Connection<D>> + Sync,
 >(host: &HostRuntime, rt: R, stores: &S, job: Job<'a>, hints: &mut Hints) -> Result<u8, Fault<'a>> {
     let Ok(mut writer) = BufWriter::new(host.alloc(), io::writer(host)) else {
         return Err(Fault::Memory);
@@ -51,7 +54,8 @@ fn do_to<
     'a,
     R: Host + Net<Listener = TcpListener, Stream = TcpStream>,
     K: BatchKeeper + Send + Drop + 'static,
-    S: Stores<K> + Sync,
+    D: Rising + Drop,
+    S: Stores<K> + Databases<Connection<D>> + Sync,
     W: Write,
 >(
     host: &HostRuntime,

@@ -73,7 +73,7 @@ pub fn open_store<S: Start>(
 /// so is one that was emptied beside its log: nothing of either is changed.
 #[derive(Drop)]
 pub struct Files {
-    rt: HostRuntime,
+    pub(crate) rt: HostRuntime,
 }
 
 impl Files {

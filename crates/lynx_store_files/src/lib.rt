@@ -3,7 +3,7 @@
 #![tactic(auto)]
 
 pub use copies::{CopyFault, StoreCopy, copy_store};
-pub use databases::{Database, close_database, open_database};
+pub use databases::Databases;
 pub use files::{Files, open_store, store_path};
 pub use keeper::{FileKeeper, StoreKeeper};
 pub use stores::Stores;

@@ -13,7 +13,7 @@ use std::alloc::Global;
 use std::collections::BTreeMap;
 
 /// The last hop that a chain did: its program, and the stamp of the entry.
-#[derive(Clone, Copy, Debug)]
+#[derive(Clone, Copy)]
 pub(crate) struct Latest {
     pub(crate) program: ProgramId,
     pub(crate) stamp: Stamp,

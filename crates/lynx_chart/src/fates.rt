@@ -8,7 +8,7 @@ use lynx_names::{ChainId, Memory};
 use std::alloc::Global;
 
 /// What may befall a message.
-#[derive(Clone, Copy, Debug, PartialEq, Eq)]
+#[derive(Clone, Copy)]
 pub(crate) enum Fate {
     Lost,
     /// Its server held as many as it may.
@@ -19,7 +19,7 @@ pub(crate) enum Fate {
 }
 
 /// What an outcome says of the message of a hop.
-#[derive(Clone, Copy, Debug, PartialEq, Eq)]
+#[derive(Clone, Copy)]
 pub(crate) struct Notice {
     pub chain: ChainId,
     pub hop: u8,
@@ -27,7 +27,7 @@ pub(crate) struct Notice {
 }
 
 /// What befell a message on its way.
-#[derive(Clone, Copy, Debug, PartialEq, Eq)]
+#[derive(Clone, Copy)]
 pub(crate) struct Fates {
     pub lost: bool,
     pub dropped: bool,

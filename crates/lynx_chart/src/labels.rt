@@ -142,7 +142,7 @@ fn put_results_line(alloc: Global, out: &mut Vec<u8>, entry: &Entry) -> Result<(
 
 /// What stands in a box: in its corner, and a line each below one another. The corner, and the last
 /// lines, may have no bytes.
-#[derive(Debug, Drop)]
+#[derive(Drop)]
 pub(crate) struct Label {
     pub corner: Vec<u8>,
     pub deed: Vec<u8>,

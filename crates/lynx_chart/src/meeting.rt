@@ -14,14 +14,14 @@ use lynx_world::{Listed, World};
 use std::alloc::{AllocError, Global};
 
 /// Where an entry stands.
-#[derive(Clone, Copy, Debug, PartialEq, Eq)]
+#[derive(Clone, Copy)]
 pub(crate) struct Node {
     pub server: ServerId,
     pub stamp: Stamp,
 }
 
 /// The entries of two hops, the one before the other, and the cell at which they collide.
-#[derive(Clone, Copy, Debug, PartialEq, Eq)]
+#[derive(Clone, Copy)]
 pub(crate) struct Meeting {
     pub before: Node,
     pub after: Node,

@@ -19,7 +19,7 @@ use lynx_world::{Listed, World};
 use std::alloc::Global;
 
 /// A message that was sent.
-#[derive(Clone, Copy, Debug, PartialEq, Eq)]
+#[derive(Clone, Copy)]
 pub(crate) struct Sent {
     /// The box of the entry that sends it.
     pub from: Spot,

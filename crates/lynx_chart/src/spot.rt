@@ -6,14 +6,14 @@ use lynx_names::{Memory, ServerId};
 use std::alloc::Global;
 
 /// Where the box of an entry stands: in the column of its server, at the row of its stamp.
-#[derive(Clone, Copy, Debug, PartialEq, Eq)]
+#[derive(Clone, Copy)]
 pub(crate) struct Spot {
     pub column: ServerId,
     pub row: u32,
 }
 
 /// From the left and from above, in pixels.
-#[derive(Clone, Copy, Debug, PartialEq, Eq)]
+#[derive(Clone, Copy)]
 pub(crate) struct Point {
     pub x: u64,
     pub y: u64,

@@ -14,7 +14,7 @@ use lynx_set::ChainSet;
 use std::alloc::Global;
 
 /// A hop that a program of another origin meets, and the hop where.
-#[derive(Clone, Copy, Debug, PartialEq, Eq)]
+#[derive(Clone, Copy)]
 pub(crate) struct End {
     pub place: Place,
     pub origin: Option<ServerId>,
@@ -22,7 +22,7 @@ pub(crate) struct End {
 }
 
 /// A block that isn't forward, between two ends.
-#[derive(Clone, Copy, Debug, PartialEq, Eq)]
+#[derive(Clone, Copy)]
 pub(crate) struct Backward {
     pub entered: End,
     pub left: End,

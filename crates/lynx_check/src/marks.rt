@@ -10,7 +10,7 @@ use std::alloc::Global;
 /// Whether a walk can be closed from one hop, by what its visits so far did: whether one of them
 /// was left by another hop than it was entered at, and whether one was of a program of another
 /// origin.
-#[derive(Clone, Copy, Debug, PartialEq, Eq)]
+#[derive(Clone, Copy, PartialEq, Eq)]
 pub(crate) struct Marks {
     pub neither: bool,
     pub crossed: bool,

@@ -12,7 +12,7 @@ use lynx_names::{Items, Memory};
 use std::alloc::Global;
 
 /// What a search from one start came to.
-#[derive(Debug, Drop)]
+#[derive(Drop)]
 pub(crate) enum Outcome {
     Found(Walk),
     /// No walk from here, of whatever length.

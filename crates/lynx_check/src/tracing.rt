@@ -13,7 +13,7 @@ use std::alloc::Global;
 /// An arrival at a node, and what the visits after the walk's first did before it: whether one was
 /// left by another hop than it was entered at, and whether one was of a program of another origin
 /// than the first's.
-#[derive(Clone, Copy, Debug, PartialEq, Eq)]
+#[derive(Clone, Copy)]
 pub(crate) struct Arrival {
     pub node: usize,
     pub crossed: bool,
@@ -21,7 +21,7 @@ pub(crate) struct Arrival {
 }
 
 /// A visit, and the arrival after it.
-#[derive(Clone, Copy, Debug, PartialEq, Eq)]
+#[derive(Clone, Copy)]
 pub(crate) struct Traced {
     pub visit: Visit,
     pub next: Arrival,

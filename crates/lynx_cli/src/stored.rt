@@ -16,7 +16,7 @@ use std::alloc::Global;
 use std::io::Write;
 
 /// The stores of a folder.
-#[derive(Clone, Copy, Debug)]
+#[derive(Clone, Copy)]
 pub(crate) struct StoresIn<'a, S> {
     pub(crate) stores: &'a S,
     pub(crate) folder: &'a str,

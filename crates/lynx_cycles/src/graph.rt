@@ -4,7 +4,7 @@ use lynx_names::Memory;
 use std::alloc::Global;
 
 /// A hop of a chain, both by their numbers.
-#[derive(Clone, Copy, PartialEq, Eq)]
+#[derive(Clone, Copy)]
 pub(crate) struct HopOf {
     pub chain: usize,
     pub hop: usize,

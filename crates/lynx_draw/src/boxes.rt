@@ -23,7 +23,7 @@ const MAX_LINED: usize = 10;
 const ROW: usize = 7;
 
 /// The programs of a set with their leaders, and the leaders of its large groups.
-#[derive(Debug, Drop)]
+#[derive(Drop)]
 pub(crate) struct Boxes {
     pub members: Items<Member>,
     pub leaders: Items<ProgramId>,

@@ -13,7 +13,7 @@ use std::alloc::Global;
 
 /// The late blocks of an offending set, and the hops of programs of other origins that they meet
 /// where they are entered and where they are left.
-#[derive(Debug, Drop)]
+#[derive(Drop)]
 pub(crate) struct LateBlocks {
     pub blocks: Items<Block>,
     pub met: Items<Place>,

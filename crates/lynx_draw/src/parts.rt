@@ -18,7 +18,7 @@ use std::alloc::Global;
 
 /// The large groups, what stands in the way, the programs that are drawn, and the steps of the
 /// walk.
-#[derive(Debug, Drop)]
+#[derive(Drop)]
 pub(crate) struct Parts {
     pub boxes: Boxes,
     pub late: LateBlocks,

@@ -11,7 +11,7 @@ use lynx_text::printing::{put_number, put_word};
 use std::alloc::Global;
 
 /// A hop of the first chain of its program that is drawn, or of another one, drawn again.
-#[derive(Clone, Copy, Debug, PartialEq, Eq)]
+#[derive(Clone, Copy)]
 pub(crate) struct Spot {
     pub place: Place,
     pub again: bool,

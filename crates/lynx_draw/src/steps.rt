@@ -9,14 +9,14 @@ use lynx_names::{Items, Memory, ProgramId};
 use std::alloc::Global;
 
 /// A visit as it is drawn.
-#[derive(Clone, Copy, Debug, PartialEq, Eq)]
+#[derive(Clone, Copy)]
 pub(crate) struct Stay {
     pub entered: Spot,
     pub left: Spot,
 }
 
 /// How a step goes on.
-#[derive(Clone, Copy, Debug, PartialEq, Eq)]
+#[derive(Clone, Copy)]
 pub(crate) enum Way {
     /// To a hop of another chain, by a conflict.
     Conflict,
@@ -25,7 +25,7 @@ pub(crate) enum Way {
 }
 
 /// A step of a walk.
-#[derive(Clone, Copy, Debug, PartialEq, Eq)]
+#[derive(Clone, Copy)]
 pub(crate) struct Step {
     pub from: Spot,
     pub to: Spot,

@@ -14,7 +14,7 @@ use lynx_set::ChainSet;
 use std::alloc::Global;
 
 /// A hop, its server and its reaches.
-#[derive(Debug, Drop)]
+#[derive(Drop)]
 pub(crate) struct PlaceReaches {
     pub place: Place,
     pub server: Option<ServerId>,

@@ -10,7 +10,7 @@ use crate::word::{Mark, Word, Written, is_printable, part_of};
 use std::fmt::Write;
 
 /// Why a line isn't words with one space between two.
-#[derive(Clone, Copy, PartialEq, Eq)]
+#[derive(Clone, Copy)]
 pub(crate) enum Flaw {
     Comment,
     Blank,

@@ -15,7 +15,7 @@ const MAX_WINDOW: usize = 96;
 const BEFORE_MARK: usize = 40;
 
 /// The part of a line that is shown.
-#[derive(Clone, Copy, PartialEq, Eq)]
+#[derive(Clone, Copy)]
 struct View {
     start: usize,
     end: usize,

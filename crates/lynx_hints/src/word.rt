@@ -20,7 +20,7 @@ pub(crate) type Marked = Result<Option<Mark>, AllocError>;
 const MAX_SHOWN: usize = 40;
 
 /// A part of a line: where it begins, and how many bytes it has.
-#[derive(Clone, Copy, PartialEq, Eq)]
+#[derive(Clone, Copy)]
 pub(crate) struct Mark {
     pub start: usize,
     pub width: usize,

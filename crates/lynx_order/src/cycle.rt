@@ -24,7 +24,7 @@ fn step_back(table: &[Items<bool>], left: &[bool], place: usize) -> usize
 
 /// A walk back, from predecessor to predecessor, until it comes to a chain that it has met: those
 /// that it met, the newest first, and that chain.
-#[derive(Debug, Drop)]
+#[derive(Drop)]
 struct Trail {
     path: Items<usize>,
     current: usize,

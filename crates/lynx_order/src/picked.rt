@@ -7,7 +7,7 @@ use lynx_names::{Items, Memory};
 use std::alloc::Global;
 
 /// The chains that were picked, in order, and a mark for each that is left.
-#[derive(Debug, Drop)]
+#[derive(Drop)]
 pub(crate) struct Picked {
     pub order: Items<usize>,
     pub left: Items<bool>,

@@ -6,7 +6,7 @@ use lynx_foot::Kind;
 use lynx_order_search::ChainTouch;
 
 /// The greatest rank of the chains that touched a cell in each way, 0 where none did.
-#[derive(Clone, Copy, Debug)]
+#[derive(Clone, Copy)]
 struct Greatest {
     getting: usize,
     setting: usize,
@@ -89,7 +89,7 @@ fn rank_of(ranks: &[usize], touch: &ChainTouch) -> usize
 }
 
 /// The last touch of those that were gone over, and the greatest ranks of its cell.
-#[derive(Clone, Copy, Debug)]
+#[derive(Clone, Copy)]
 struct Sweep {
     last: ChainTouch,
     greatest: Greatest,

@@ -14,7 +14,7 @@ use lynx_world::World;
 use std::alloc::Global;
 
 /// A hop that touched something: its place in the list, and its touches.
-#[derive(Debug, Drop)]
+#[derive(Drop)]
 pub(crate) struct Touching {
     pub place: usize,
     pub touches: Items<Touch>,

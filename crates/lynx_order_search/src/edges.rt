@@ -2,14 +2,14 @@ use lynx_names::Memory;
 use std::alloc::Global;
 
 /// The one node has to be taken before the other.
-#[derive(Clone, Copy, Debug)]
+#[derive(Clone, Copy)]
 pub(crate) struct Edge {
     pub from: usize,
     pub to: usize,
 }
 
 /// Edges between nodes: the chains, and behind them joints, through which many edges go as one.
-#[derive(Debug, Drop)]
+#[derive(Drop)]
 pub(crate) struct Edges {
     pub nodes: usize,
     pub edges: Vec<Edge>,

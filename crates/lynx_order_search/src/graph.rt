@@ -4,7 +4,7 @@ use lynx_names::Memory;
 use std::alloc::Global;
 
 /// The targets of all edges, those from one node beside each other.
-#[derive(Debug, Drop)]
+#[derive(Drop)]
 pub(crate) struct Graph {
     /// For each node where its targets begin, and at the end where the last ones end.
     starts: Vec<usize>,

@@ -6,7 +6,7 @@ use std::alloc::Global;
 
 /// A chain that precedes another, with the places of the entries that conflict: its own, and that
 /// of the other.
-#[derive(Clone, Copy, Debug)]
+#[derive(Clone, Copy)]
 pub(crate) struct Predecessor {
     pub chain: usize,
     pub own: usize,
@@ -14,7 +14,7 @@ pub(crate) struct Predecessor {
 }
 
 /// The first two chains that touched a cell in one way, each with the place of an entry.
-#[derive(Clone, Copy, Debug)]
+#[derive(Clone, Copy)]
 struct FirstTwo {
     first: Option<(usize, usize)>,
     second: Option<(usize, usize)>,
@@ -51,7 +51,7 @@ impl FirstTwo {
 }
 
 /// The first chains that touched a cell in each way.
-#[derive(Clone, Copy, Debug)]
+#[derive(Clone, Copy)]
 struct Touchers {
     getting: FirstTwo,
     setting: FirstTwo,

@@ -7,14 +7,14 @@ use std::alloc::Global;
 use std::mem;
 
 /// The numbers of the last two stretches that a chain is in, from 1; 0 for none.
-#[derive(Clone, Copy, Debug)]
+#[derive(Clone, Copy)]
 struct Seen {
     last: usize,
     before: usize,
 }
 
 /// The stretch that is read and the one before it in the same cell, each chain once.
-#[derive(Debug, Drop)]
+#[derive(Drop)]
 struct Stretches {
     number: usize,
     earlier: Vec<usize>,

@@ -13,7 +13,7 @@ use lynx_text::printing::put_word;
 use std::alloc::Global;
 
 /// Why no walk through a group of programs offends.
-#[derive(Clone, Copy, Debug, PartialEq, Eq)]
+#[derive(Clone, Copy)]
 pub(crate) enum GroupReason {
     /// All programs of the group begin at one server.
     OneOrigin,

@@ -7,7 +7,7 @@ use lynx_set::ChainSet;
 use std::alloc::Global;
 
 /// A program: where it begins, the number of its group, and at which hops it meets others.
-#[derive(Clone, Copy, Debug, PartialEq, Eq)]
+#[derive(Clone, Copy)]
 struct Joined {
     origin: Option<ServerId>,
     group: usize,
@@ -16,7 +16,7 @@ struct Joined {
 }
 
 /// The programs of a set, as far as edges have joined them.
-#[derive(Debug, Drop)]
+#[derive(Drop)]
 pub(crate) struct Joining {
     programs: Vec<Joined>,
 }

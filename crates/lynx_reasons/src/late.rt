@@ -78,7 +78,7 @@ fn put_abroad_lines(
 }
 
 /// A hop, and the lines of the hops of other origins that it meets.
-#[derive(Debug, Drop)]
+#[derive(Drop)]
 struct Told {
     place: Place,
     lines: Items<u8>,

@@ -20,7 +20,7 @@ use std::alloc::Global;
 const MAX_MENDS: usize = 3;
 
 /// An action that touches a cell: its program, its line in the set's text, and what it does.
-#[derive(Clone, Copy, Debug)]
+#[derive(Clone, Copy)]
 struct Site {
     program: ProgramId,
     line: usize,
@@ -28,21 +28,21 @@ struct Site {
 }
 
 /// An action of a hop, and one of a program of another origin with which it may collide.
-#[derive(Clone, Copy, Debug)]
+#[derive(Clone, Copy)]
 struct Pair {
     own: Site,
     other: Site,
 }
 
 /// A hop that reaches abroad, and the hops that it meets there.
-#[derive(Debug, Drop)]
+#[derive(Drop)]
 struct End {
     place: Place,
     abroad: Vec<Place>,
 }
 
 /// A change of a program in words, and how many hops abroad a hop of its no longer meets by it.
-#[derive(Debug, Drop)]
+#[derive(Drop)]
 struct Mend {
     ended: usize,
     program: ProgramId,

@@ -23,7 +23,7 @@ const MAX_LOOKS: usize = 2_500;
 const MAX_EDGES_SEEN: usize = 50_000_000;
 
 /// What was found so far, how many sets without some programs were looked at, and how many may be.
-#[derive(Debug, Drop)]
+#[derive(Drop)]
 pub(crate) struct Search {
     pub(crate) found: Items<Culprit>,
     pub(crate) looks: usize,
@@ -49,7 +49,7 @@ impl Search {
 }
 
 /// What is looked for, and in which order: so many programs, all with late blocks or not.
-#[derive(Clone, Copy, Debug, PartialEq, Eq)]
+#[derive(Clone, Copy)]
 struct Aim {
     count: usize,
     is_late: bool,

@@ -13,14 +13,14 @@ use std::alloc::Global;
 
 /// A hop that reaches abroad, and programs that it meets there: all of them where they are three or
 /// fewer, else four.
-#[derive(Debug, Drop)]
+#[derive(Drop)]
 struct End {
     place: Place,
     meets: Items<ProgramId>,
 }
 
 /// What stands in the way of a set.
-#[derive(Debug, Drop)]
+#[derive(Drop)]
 pub(crate) struct Sift {
     edges: Vec<Edge>,
     ends: Vec<End>,

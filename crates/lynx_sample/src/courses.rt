@@ -4,7 +4,7 @@ use lynx_names::{ChainId, ProgramId, ServerId};
 use lynx_set::ChainSet;
 
 /// A chain that began, and how far it has come.
-#[derive(Clone, Copy, Debug)]
+#[derive(Clone, Copy)]
 pub(crate) struct Course {
     pub(crate) chain: ChainId,
     pub(crate) program: ProgramId,

@@ -103,7 +103,7 @@ impl Plan {
 }
 
 /// Which chain is to be picked.
-#[derive(Clone, Copy, Debug)]
+#[derive(Clone, Copy)]
 pub(crate) enum Wanted {
     /// It is the turn of its next hop.
     Due,

@@ -18,7 +18,7 @@ use lynx_turn::held::lesser;
 use std::alloc::Global;
 
 /// What is to become of a message.
-#[derive(Debug, Drop)]
+#[derive(Drop)]
 pub(crate) enum Sorted {
     /// It is answered so, and nothing changes.
     Answered(Delivered),

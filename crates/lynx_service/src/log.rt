@@ -9,7 +9,7 @@ use std::rt::HostRuntime;
 use std::time::{Duration, SystemTime};
 
 /// Why a client's connection ended.
-#[derive(Clone, Copy, Debug, PartialEq, Eq)]
+#[derive(Clone, Copy)]
 pub(crate) enum Leave {
     /// The client took leave, or closed its side.
     Quit,

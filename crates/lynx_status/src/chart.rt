@@ -21,7 +21,7 @@ const HEAD: u32 = 36;
 const HUES: u64 = 6;
 
 /// An entry and the row in which its box stands.
-#[derive(Clone, Copy, Debug)]
+#[derive(Clone, Copy)]
 struct Boxed {
     entry: RecentEntry,
     row: u8,

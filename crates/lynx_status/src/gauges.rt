@@ -9,7 +9,7 @@ use std::alloc::AllocError;
 use std::fmt::Write as _;
 
 /// A figure of a server.
-#[derive(Clone, Copy, Debug, PartialEq, Eq)]
+#[derive(Clone, Copy)]
 pub(crate) enum Gauge {
     Running,
     Entries,

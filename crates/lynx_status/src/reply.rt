@@ -21,7 +21,7 @@ pub enum Content {
 }
 
 /// What is answered.
-#[derive(Debug, Drop)]
+#[derive(Drop)]
 pub(crate) struct Reply {
     pub status: StatusCode,
     pub content: Content,

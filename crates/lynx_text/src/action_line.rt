@@ -14,7 +14,7 @@ use lynx_names::TableId;
 use lynx_set::{Action, Key, Operand, Operator, Relation, Update, Version};
 
 /// An action, and the name that its line binds.
-#[derive(Clone, Copy, Debug)]
+#[derive(Clone, Copy)]
 pub(crate) struct ActionLine {
     pub action: Action,
     pub binds: Option<Name>,

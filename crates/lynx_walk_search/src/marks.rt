@@ -3,7 +3,7 @@ use crate::row::Row;
 
 /// Rows of hops: whether some visit was left by another hop than it was entered at, and whether
 /// some visit was of a program of another origin.
-#[derive(Clone, Copy, Debug)]
+#[derive(Clone, Copy)]
 pub(crate) struct Marks {
     neither: Row,
     crossed: Row,

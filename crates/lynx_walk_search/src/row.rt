@@ -6,7 +6,7 @@ const BITS: usize = 64;
 const WORDS: usize = MAX_PROGRAMS as usize * MAX_HOPS / BITS;
 
 /// Some of the hops of a set, by their places in its list of hops.
-#[derive(Clone, Copy, Debug, PartialEq, Eq)]
+#[derive(Clone, Copy, Debug)]
 pub(crate) struct Row {
     words: [u64; WORDS],
 }

@@ -7,7 +7,7 @@ use lynx_names::{Items, Memory};
 use std::alloc::Global;
 
 /// An arrival at a hop, and what the visits after the walk's first did before it.
-#[derive(Clone, Copy, Debug)]
+#[derive(Clone, Copy)]
 struct Arrival {
     place: usize,
     crossed: bool,

@@ -6,7 +6,7 @@ use Rattle.std.specs.Io.KnownBytes.{Appends}
 use Rattle.lynx_extend.specs.Places.{first_lost, is_empty, were_there}
 use Rattle.lynx_extend.specs.declared.places.Place.{Place}
 use Rattle.lynx_extend.specs.declared.places.Place.TheVariants.{Empty}
-use Rattle.lynx_lines.proofs.Parts.{appends_both}
+use Rattle.lynx_lines.proofs.Parts.{appends_both, appends_nil}
 use Rattle.sqlite.specs.State.{State}
 use Rattle.lynx_set.specs.Set.{Set}
 use Rattle.lynx_store.specs.declared.extending.Extended.{Extended}
@@ -54,13 +54,6 @@ one_more Goes all rest left number at a b gave more next at_is goes more_is so_f
       (each_more Goes 0 so_far.done gave a b (subst (λ n. Goes n a b) (at_is ∙ let many = so_far.many in omega (arith, many)) goes) so_far.each);
 }
 
--- there is one more
-pub one_left : {A B : Type 0} (Goes : ℕ → A → B → Type 0) (all rest : List A) (number : ℕ) (gave : List B) → AreDone Goes all rest number gave → number < length all → rest ≡ [] → ⊥
-one_left Goes all rest number gave so_far within none =
-    let many = so_far.many in
-    let lengths = ap length (so_far.split ∙ ap (λ xs. so_far.done ++ xs) none ∙ append-nil so_far.done) in
-    absurd (omega (arith, many, lengths, within))
-
 pub all_done : {A B : Type 0} (Goes : ℕ → A → B → Type 0) (all rest : List A) (number : ℕ) (gave : List B) → AreDone Goes all rest number gave → length all ≡ number → Each Goes 0 all gave
 all_done Goes all rest number gave so_far whole =
     subst (λ xs. Each Goes 0 xs gave) (sym (so_far.split ∙ ap (λ xs. so_far.done ++ xs) (empty rest none) ∙ append-nil so_far.done)) so_far.each
@@ -86,11 +79,6 @@ told_on Goes all rest text number at b gave more first second third so_far at_is
     subst (Appends first third) (sym (ap (told_of text 0) more_is ∙ told_more text 0 gave b ∙ ap (λ n. told_of text 0 gave ++ text n b) place))
     (appends_both first second third _ _ before now)
 
--- nothing is told of none
-pub told_none : (bytes : Option (List ℕ)) → Appends bytes bytes []
-told_none None = tt
-told_none (Some bytes) = sym (append-nil bytes)
-
 -- the stores of the servers below this number are given to the set, and told of
 pub record AreGivenBelow {K C : Type 0} (state_of : C → State) (set : Set) (all rest : List (Store K C)) (number : ℕ) (given : List (Store K C)) (old new : Option (List ℕ)) : Type 0 where
   pub told : List (Store K C × Option Extended)
@@ -104,7 +92,7 @@ none_given state_of set all rest given bytes whole none = record {
   told = [];
   done = subst (λ left. AreDone (IsGiven state_of set) all left 0 []) (sym whole) (none_done (IsGiven state_of set) all);
   given_is = none;
-  lines = told_none bytes;
+  lines = appends_nil bytes;
 }
 
 pub one_given : {K C : Type 0} (state_of : C → State) (set : Set) (all rest left : List (Store K C)) (number at : ℕ) (store one : Store K C) (given more : List (Store K C)) (first second third : Option (List ℕ)) →

@@ -13,7 +13,8 @@ appends_both (Some f) None third xs ys a b = absurd a
 appends_both (Some f) (Some s) None xs ys a b = absurd b
 appends_both (Some f) (Some s) (Some t) xs ys a b = b ∙ ap (λ bytes. bytes ++ ys) a ∙ append_assoc f xs ys
 
-appends_nil : (a : Option (List ℕ)) → Appends a a []
+-- nothing more is written
+pub appends_nil : (a : Option (List ℕ)) → Appends a a []
 appends_nil None = tt
 appends_nil (Some bytes) = sym (append-nil bytes)
 

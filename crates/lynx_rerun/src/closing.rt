@@ -4,9 +4,9 @@ ghost use Rattle.lynx_rerun.specs.Reruns.{keepers_of};
 
 use crate::fault::RerunFault;
 use lynx_keep::Keeper;
-use lynx_names::{Memory, ServerId};
+use lynx_names::Memory;
 use lynx_server::Server;
-use lynx_store_files::Stores;
+use lynx_store_files::{Stores, close_all};
 use std::alloc::Global;
 
 /// The keeper of one server more.
@@ -31,23 +31,14 @@ pub(crate) fn keepers_of<K: Keeper + Drop>(
     Ok(keepers)
 }
 
-/// Closes each store, in order: its log is copied into the file. The first fault is told, once all
-/// are closed.
-pub(crate) fn close_all<K: Keeper + Drop, S: Stores<K>>(
+/// Closes each store: its log is copied into the file. The first fault is told, once all are
+/// closed.
+pub(crate) fn close_stores<K: Keeper + Drop, S: Stores<K>>(
     stores: &S,
     keepers: Vec<K>,
 ) -> Result<(), RerunFault> {
-    let mut number: u8 = 0;
-    let mut closed = Ok(());
-    for keeper in keepers {
-        if let (Err(fault), Some(server), Ok(())) = (
-            stores.close(keeper),
-            ServerId::new(number),
-            closed,
-        ) {
-            closed = Err(RerunFault::of_store(server, fault));
-        }
-        number = number.saturating_add(1);
+    match close_all(stores, keepers) {
+        Ok(()) => Ok(()),
+        Err((server, fault)) => Err(RerunFault::of_store(server, fault)),
     }
-    closed
 }

@@ -6,7 +6,7 @@ ghost use Rattle.lynx_server.specs.Serving.{Serving};
 ghost use Rattle.lynx_rerun.specs.Events.{ComeTo};
 ghost use Rattle.lynx_rerun.specs.Reruns.{AreOpened, EndsAs, Reruns, keepers_of, lines_of};
 
-use crate::closing::{close_all, keepers_of};
+use crate::closing::{close_stores, keepers_of};
 use crate::ending::write_end;
 use crate::fault::RerunFault;
 use crate::opening::open_all;
@@ -60,7 +60,7 @@ fn run_and_close<K: Keeper + Drop, S: Stores<K>, W: Write>(
     let ran = run_events(alloc, set, &mut servers, events, writer);
     let mut keepers = keepers_of(alloc, servers)?;
     let ended = end_after(alloc, set, ran, keepers.as_mut_slice(), options, writer);
-    let closed = close_all(stores, keepers);
+    let closed = close_stores(stores, keepers);
     let ending = ended?;
     closed?;
     Ok(ending)

@@ -6,31 +6,21 @@ use crate::fault::ServeFault;
 use lynx_cluster::{CloseFault, Closed};
 use lynx_keep::Keeper;
 use lynx_lines::{chains_line, write_bytes};
-use lynx_names::ServerId;
 use lynx_order::{Explained, explain};
-use lynx_store_files::Stores;
+use lynx_store_files::{Stores, close_all};
 use lynx_world::World;
 use std::alloc::Global;
 use std::io::Write;
 
-/// Lets go of the keepers of all servers, in order. The first fault is told, once all are let go.
+/// Lets go of the keepers of all servers, also behind one that fails. The first fault is told.
 fn close_keepers<K: Keeper + Drop, S: Stores<K>>(
     stores: &S,
     keepers: Vec<K>,
 ) -> Result<(), ServeFault> {
-    let mut number: u8 = 0;
-    let mut closed = Ok(());
-    for keeper in keepers {
-        if let (Err(fault), Some(server), Ok(())) = (
-            stores.close(keeper),
-            ServerId::new(number),
-            closed,
-        ) {
-            closed = Err(ServeFault::of_store(server, fault));
-        }
-        number = number.saturating_add(1);
+    match close_all(stores, keepers) {
+        Ok(()) => Ok(()),
+        Err((server, fault)) => Err(ServeFault::of_store(server, fault)),
     }
-    closed
 }
 
 /// What explains the world.
@@ -69,7 +59,7 @@ pub(crate) fn end_unheard<K: Keeper + Drop, S: Stores<K>>(
     closed: Result<Closed<K>, CloseFault>,
 ) {
     if let Ok(Closed { keepers, .. }) = closed {
-        let _ = close_keepers(stores, keepers);
+        let _ = close_all(stores, keepers);
     }
 }
 

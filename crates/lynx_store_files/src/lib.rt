@@ -2,12 +2,14 @@
 //! and the keepers over them.
 #![tactic(auto)]
 
+pub use closing::close_all;
 pub use copies::{CopyFault, StoreCopy, copy_store};
 pub use databases::Databases;
 pub use files::{Files, open_store, store_path};
 pub use keeper::{FileKeeper, StoreKeeper};
 pub use stores::Stores;
 
+pub mod closing;
 pub mod copies;
 pub mod databases;
 pub mod files;

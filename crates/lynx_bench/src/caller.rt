@@ -8,14 +8,13 @@ use lynx_names::Memory;
 use std::alloc::Global;
 use std::collections::VecDeque;
 use std::io::{ErrorKind, Read, Write};
-use std::net::TcpStream;
 use std::sync::Wait;
 use std::time::{Clock, Duration, Instant};
 
 /// A connection, and its begins at one server.
 #[derive(Drop)]
-pub(crate) struct Caller {
-    stream: TcpStream,
+pub(crate) struct Caller<S> {
+    stream: S,
     feed: Feed,
     /// The client's number, which no other connection has.
     client: u64,
@@ -47,15 +46,9 @@ fn check_begun(item: &Item) -> Result<(), LoadFault> {
     }
 }
 
-impl Caller {
+impl<S: Read + Write + Drop> Caller<S> {
     /// One that has sent nothing yet. It takes no memory.
-    pub(crate) fn new(
-        alloc: Global,
-        stream: TcpStream,
-        client: u64,
-        server: u8,
-        servers: u8,
-    ) -> Caller {
+    pub(crate) fn new(alloc: Global, stream: S, client: u64, server: u8, servers: u8) -> Caller<S> {
         Caller {
             stream,
             feed: Feed::new(alloc),

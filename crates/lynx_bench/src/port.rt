@@ -6,6 +6,7 @@ use crate::fault::Fault;
 use crate::load_fault::LoadFault;
 use lynx_cluster::Host;
 use std::alloc::Global;
+use std::io::{Read, Write};
 use std::net::{Ipv4Addr, Net, TcpListener, TcpStream};
 use std::time::{Duration, Instant, SystemTime, UNIX_EPOCH};
 use std::{fmt, thread};
@@ -84,7 +85,7 @@ fn connect<R: Host + Net<Listener = TcpListener, Stream = TcpStream>>(
     rt: &R,
     alloc: Global,
     load: PortLoad,
-) -> Result<Vec<Caller>, LoadFault> {
+) -> Result<Vec<Caller<TcpStream>>, LoadFault> {
     let first = first_client(rt)?;
     let mut callers = Vec::new(alloc);
     for connection in 0..load.connections {
@@ -99,11 +100,11 @@ fn connect<R: Host + Net<Listener = TcpListener, Stream = TcpStream>>(
 }
 
 /// Has all connections begin chains, each in a thread of its own. When all were answered.
-fn call_all<R: Host>(
+fn call_all<R: Host, S: Read + Write + Send + Drop>(
     rt: &R,
     alloc: Global,
     load: PortLoad,
-    callers: &mut [Caller],
+    callers: &mut [Caller<S>],
     first: Instant,
 ) -> Result<Instant, LoadFault> {
     let end = first
@@ -114,7 +115,7 @@ fn call_all<R: Host>(
         rt,
         callers,
         threads,
-        &|_, caller: &mut Caller| {
+        &|_, caller: &mut Caller<S>| {
             caller.call(rt, alloc, load.in_flight, end);
         },
     );
@@ -122,7 +123,10 @@ fn call_all<R: Host>(
 }
 
 /// The microseconds of all begins, ascending.
-fn times_of(alloc: Global, callers: Vec<Caller>) -> Result<Vec<u64>, LoadFault> {
+fn times_of<S: Read + Write + Drop>(
+    alloc: Global,
+    callers: Vec<Caller<S>>,
+) -> Result<Vec<u64>, LoadFault> {
     let mut times = Vec::new(alloc);
     for caller in callers {
         times.extend_from_slice(caller.into_times()?.as_slice())?;
@@ -132,12 +136,12 @@ fn times_of(alloc: Global, callers: Vec<Caller>) -> Result<Vec<u64>, LoadFault> 
 }
 
 /// Has all connections begin chains, and measures how long that takes.
-fn call_timed<R: Host + Net<Listener = TcpListener, Stream = TcpStream>>(
+fn call_timed<R: Host, S: Read + Write + Send + Drop>(
     rt: &R,
     alloc: Global,
     load: PortLoad,
+    mut callers: Vec<Caller<S>>,
 ) -> Result<PortMeasured, LoadFault> {
-    let mut callers = connect(rt, alloc, load)?;
     let first = Instant::now(rt)?;
     let end = call_all(rt, alloc, load, callers.as_mut_slice(), first)?;
     let times = times_of(alloc, callers)?;
@@ -157,5 +161,6 @@ pub fn call_service<R: Host + Net<Listener = TcpListener, Stream = TcpStream>>(
     alloc: Global,
     load: PortLoad,
 ) -> Result<PortMeasured, Fault> {
-    Ok(call_timed(rt, alloc, load)?)
+    let callers = connect(rt, alloc, load)?;
+    Ok(call_timed(rt, alloc, load, callers)?)
 }

@@ -36,7 +36,7 @@ struct Ended {
 }
 
 /// What the callers know at the end.
-#[derive(Debug, Drop)]
+#[derive(Drop)]
 struct Known {
     begun: usize,
     brought: u64,
@@ -147,7 +147,7 @@ fn run_on<D: Tearing>(alloc: Global, start: u64) -> Result<Ended, Memory> {
 
 #[test]
 fn stores_stop_again_and_again(rt: HostRuntime) -> Result<(), Memory> {
-    for number in 1..=8u64 {
+    for number in 1..=32u64 {
         let start = number * 0x9e37_79b9;
         let ended = run_on::<Fuse<File>>(rt.alloc(), start)?;
         assert!(rt;

@@ -15,6 +15,41 @@ const LOCKED_BYTES: u64 = 512;
 /// How a database begins.
 const DATABASE: [u8; 16] = *b"SQLite format 3\0";
 
+/// The line of what is said of a file or a folder, behind its name.
+fn line_of(alloc: Global, name: &str, words: &str) -> Result<String, AllocError> {
+    let shown = Shown { name };
+    format!(in alloc; "  {shown}{words}\n")
+}
+
+/// The line of what the system says of a file or a folder.
+fn line_of_error(alloc: Global, name: &str, error: &io::Error) -> Result<String, AllocError> {
+    let shown = Shown { name };
+    format!(in alloc; "  {shown}: {error}\n")
+}
+
+/// The path of the store of that number in the folder.
+fn path_of(alloc: Global, folder: &str, server: u8) -> Result<String, AllocError> {
+    format!(in alloc; "{folder}/server-{server}.lynx")
+}
+
+/// What keeps a file that is open from being locked, in a line; none where nothing does.
+fn cause_of_lock(
+    alloc: Global,
+    file: &str,
+    opened: &fs::File,
+) -> Result<Option<String>, AllocError> {
+    if os::try_lock_range(opened.as_raw_fd(), RangeLock::Shared, LOCKED, LOCKED_BYTES) == 0 {
+        return Ok(None);
+    }
+    let error = io::Error::from_raw_os_error(os::errno());
+    let line = if error.kind() == ErrorKind::WouldBlock {
+        line_of(alloc, file, ": another process has it open")
+    } else {
+        line_of_error(alloc, file, &error)
+    };
+    Ok(Some(line?))
+}
+
 /// What keeps a file of a store from being opened for reading and writing, in a line; none where
 /// nothing does.
 fn cause_of_file(
@@ -22,19 +57,23 @@ fn cause_of_file(
     alloc: Global,
     file: &str,
 ) -> Result<Option<String>, AllocError> {
-    let shown = Shown { name: file };
-    let opened = match OpenOptions::new().read(true).write(true).open(host, file) {
-        Ok(opened) => opened,
-        Err(error) => return Ok(Some(format!(in alloc; "  {shown}: {error}\n")?)),
-    };
-    if os::try_lock_range(opened.as_raw_fd(), RangeLock::Shared, LOCKED, LOCKED_BYTES) == 0 {
-        return Ok(None);
+    match OpenOptions::new().read(true).write(true).open(host, file) {
+        Ok(opened) => cause_of_lock(alloc, file, &opened),
+        Err(error) => Ok(Some(line_of_error(alloc, file, &error)?)),
     }
-    let error = io::Error::from_raw_os_error(os::errno());
-    if error.kind() == ErrorKind::WouldBlock {
-        return Ok(Some(format!(in alloc; "  {shown}: another process has it open\n")?));
+}
+
+/// The same of the log beside a store, which need not be there.
+fn cause_of_log(
+    host: &HostRuntime,
+    alloc: Global,
+    file: &str,
+) -> Result<Option<String>, AllocError> {
+    let log = format!(in alloc; "{file}-wal")?;
+    match fs::metadata(host, log.as_str()) {
+        Ok(_) => cause_of_file(host, alloc, log.as_str()),
+        Err(_) => Ok(None),
     }
-    Ok(Some(format!(in alloc; "  {shown}: {error}\n")?))
 }
 
 /// Whether a file has no byte. Where it isn't there, that isn't seen.
@@ -61,12 +100,44 @@ fn cause_of_folder(
     alloc: Global,
     folder: &str,
 ) -> Result<Option<String>, AllocError> {
-    let shown = Shown { name: folder };
     match fs::metadata(host, folder) {
         Ok(found) if found.is_dir() => Ok(None),
-        Ok(_) => Ok(Some(format!(in alloc; "  {shown} is no folder\n")?)),
-        Err(error) => Ok(Some(format!(in alloc; "  {shown}: {error}\n")?)),
+        Ok(_) => Ok(Some(line_of(alloc, folder, " is no folder")?)),
+        Err(error) => Ok(Some(line_of_error(alloc, folder, &error)?)),
     }
+}
+
+/// What is wrong with what stands where a store is to be, in a line; none where that is a file.
+fn cause_of_place(
+    host: &HostRuntime,
+    alloc: Global,
+    file: &str,
+) -> Result<Option<String>, AllocError> {
+    let words = match fs::metadata(host, file) {
+        Ok(found) if found.is_dir() => " is a folder",
+        Err(error) if error.kind() == ErrorKind::NotFound => {
+            " isn't there, and can't be made: may this user write in the folder?"
+        }
+        _ => return Ok(None),
+    };
+    Ok(Some(line_of(alloc, file, words)?))
+}
+
+/// Why a store can't be opened, in a line: what stands in its place, the log beside it, or who has
+/// them open.
+fn cause_at(host: &HostRuntime, alloc: Global, file: &str) -> Result<String, AllocError> {
+    if let Some(cause) = cause_of_place(host, alloc, file)? {
+        return Ok(cause);
+    }
+    if let Some(cause) = cause_of_file(host, alloc, file)? {
+        return Ok(cause);
+    }
+    if let Some(cause) = cause_of_log(host, alloc, file)? {
+        return Ok(cause);
+    }
+    let words =
+        " opens, and no other process has it open: the disk fails, or its bytes are no database's";
+    line_of(alloc, file, words)
 }
 
 /// Why the store of that number can't be opened in the folder, in a line: the folder, the file, the
@@ -80,30 +151,15 @@ pub(crate) fn cause_of_store(
     if let Some(cause) = cause_of_folder(host, alloc, folder)? {
         return Ok(cause);
     }
-    let file = format!(in alloc; "{folder}/server-{server}.lynx")?;
-    let shown = Shown {
-        name: file.as_str(),
-    };
-    match fs::metadata(host, file.as_str()) {
-        Ok(found) if found.is_dir() => return format!(in alloc; "  {shown} is a folder\n"),
-        Err(error) if error.kind() == ErrorKind::NotFound => {
-            return format!(in alloc;
-                "  {shown} isn't there, and can't be made: may this user write in the folder?\n"
-            );
-        }
-        _ => {}
-    }
-    if let Some(cause) = cause_of_file(host, alloc, file.as_str())? {
-        return Ok(cause);
-    }
-    let log = format!(in alloc; "{file}-wal")?;
-    if fs::metadata(host, log.as_str()).is_ok() {
-        if let Some(cause) = cause_of_file(host, alloc, log.as_str())? {
-            return Ok(cause);
-        }
-    }
+    let file = path_of(alloc, folder, server)?;
+    cause_at(host, alloc, file.as_str())
+}
+
+/// Why a store keeps what its server didn't do, in a line.
+fn line_of_history(alloc: Global, file: &str, server: u8) -> Result<String, AllocError> {
+    let shown = Shown { name: file };
     format!(in alloc;
-        "  {shown} opens, and no other process has it open: the disk fails, or its bytes are no database's\n"
+        "  {shown} keeps what server {server} didn't do: it follows another folder, or one that was restored since; take an empty one\n"
     )
 }
 
@@ -115,23 +171,37 @@ pub(crate) fn cause_of_copy(
     server: u8,
     word: CopyWord,
 ) -> Result<String, AllocError> {
-    let file = format!(in alloc; "{folder}/server-{server}.lynx")?;
-    let shown = Shown {
-        name: file.as_str(),
-    };
+    let path = path_of(alloc, folder, server)?;
+    let file = path.as_str();
     match word {
-        CopyWord::OtherHistory => format!(in alloc;
-            "  {shown} keeps what server {server} didn't do: it follows another folder, or one that was restored since; take an empty one\n"
-        ),
-        CopyWord::OtherSet | CopyWord::OtherVersion => format!(in alloc;
-            "  {shown} is of another set: lynx extend gives it to this one, where this one extends it; or take an empty folder\n"
-        ),
-        CopyWord::Damaged => match cause_of_damage(host, alloc, folder, server)? {
+        CopyWord::OtherHistory => line_of_history(alloc, file, server),
+        CopyWord::OtherSet | CopyWord::OtherVersion => {
+            let words =
+                " is of another set: lynx extend gives it to this one, where this one extends it; or take an empty folder";
+            line_of(alloc, file, words)
+        }
+        CopyWord::Damaged => match cause_of_bytes(host, alloc, file)? {
             Some(cause) => Ok(cause),
-            None => format!(in alloc; "  {shown} is damaged: take an empty folder\n"),
+            None => line_of(alloc, file, " is damaged: take an empty folder"),
         },
         CopyWord::Store | CopyWord::Memory => cause_of_store(host, alloc, folder, server),
     }
+}
+
+/// Why a file can't be a database's, in a line; none where it may be.
+fn cause_of_bytes(
+    host: &HostRuntime,
+    alloc: Global,
+    file: &str,
+) -> Result<Option<String>, AllocError> {
+    let words = if is_empty(host, file) {
+        " is empty, and the log beside it isn't: put back the file, and the log with it"
+    } else if is_no_database(host, file) {
+        " is no SQLite database"
+    } else {
+        return Ok(None);
+    };
+    Ok(Some(line_of(alloc, file, words)?))
 }
 
 /// Why the file of the store of that number can't be a database's, in a line; none where it may be.
@@ -141,17 +211,6 @@ pub(crate) fn cause_of_damage(
     folder: &str,
     server: u8,
 ) -> Result<Option<String>, AllocError> {
-    let file = format!(in alloc; "{folder}/server-{server}.lynx")?;
-    let shown = Shown {
-        name: file.as_str(),
-    };
-    if is_empty(host, file.as_str()) {
-        return Ok(Some(format!(in alloc;
-            "  {shown} is empty, and the log beside it isn't: put back the file, and the log with it\n"
-        )?));
-    }
-    if is_no_database(host, file.as_str()) {
-        return Ok(Some(format!(in alloc; "  {shown} is no SQLite database\n")?));
-    }
-    Ok(None)
+    let file = path_of(alloc, folder, server)?;
+    cause_of_bytes(host, alloc, file.as_str())
 }

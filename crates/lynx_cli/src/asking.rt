@@ -1,12 +1,12 @@
 //! Asking a service what the lines of standard input ask.
-use crate::comparing::compare_sets;
+use crate::comparing::{compare_sets, connected};
 use crate::fault::Fault;
 use crate::hints::{Hints, Named};
 use crate::reading::{is_named_pipe, text_of};
 use crate::source::{InputFault, MAX_FILE_BYTES, read_all};
 use crate::texts::{DONE, FAULTY};
 use lynx_args::INPUT;
-use lynx_ask::{AskFault, AskSession, LineReply};
+use lynx_ask::{AskSession, LineReply};
 use lynx_codec::Item;
 use lynx_entry::Answer;
 use lynx_hints::{Part, asked_begin_hint, hint};
@@ -16,8 +16,8 @@ use lynx_report::read_set;
 use lynx_set::ChainSet;
 use std::alloc::Global;
 use std::fs;
-use std::io::{BufRead, BufReader, ErrorKind, Write};
-use std::net::{Ipv4Addr, Net, TcpListener, TcpStream};
+use std::io::{BufRead, BufReader, ErrorKind, Read, Write};
+use std::net::{Net, TcpListener, TcpStream};
 
 /// How hints name standard input.
 const STANDARD_INPUT: &str = "standard input";
@@ -83,13 +83,42 @@ fn next_line<'a, L: BufRead>(alloc: Global, lines: &mut L) -> Result<Option<Vec<
     }
 }
 
+/// Asks over the stream what a line asks: the status of the line, or None where the service takes
+/// leave. A faulty line is told.
+fn ask_line<'a, S: Read + Write, W: Write>(
+    host: &HostRuntime,
+    set: &ChainSet,
+    session: &mut AskSession,
+    line: &AskedLine<'_>,
+    stream: &mut S,
+    hints: &Hints,
+    writer: &mut W,
+) -> Result<Option<u8>, Fault<'a>> {
+    let asked = line
+        .text
+        .strip_suffix(b"\n".as_slice())
+        .unwrap_or(line.text);
+    match session.ask(host, host.alloc(), set, asked, stream, writer) {
+        Ok(LineReply::Answered(answer)) => {
+            tell_count(host, hints, set, line, &answer);
+            Ok(Some(DONE))
+        }
+        Ok(LineReply::Bye) => Ok(None),
+        Ok(LineReply::Faulty(fault)) => {
+            tell_fault(host, hints, set, line, fault);
+            Ok(Some(FAULTY))
+        }
+        Err(fault) => Err(Fault::of_asking(fault)),
+    }
+}
+
 /// Asks over the stream what the lines ask, one after the other, until there are none or the
-/// service takes leave. Faulty lines are told, and the status is theirs if there is one.
-fn ask_lines<'a, L: BufRead, W: Write>(
+/// service takes leave. The status is that of faulty lines if there is one.
+fn ask_lines<'a, L: BufRead, S: Read + Write, W: Write>(
     host: &HostRuntime,
     set: &ChainSet,
     lines: &mut L,
-    stream: &mut TcpStream,
+    stream: &mut S,
     hints: &Hints,
     writer: &mut W,
 ) -> Result<u8, Fault<'a>> {
@@ -97,22 +126,32 @@ fn ask_lines<'a, L: BufRead, W: Write>(
     let mut status = DONE;
     for number in 1..usize::MAX {
         let Some(read) = next_line(host.alloc(), lines)? else {
-            return Ok(status);
+            break;
         };
         let text = read.as_slice();
         let line = AskedLine { text, number };
-        let asked = text.strip_suffix(b"\n".as_slice()).unwrap_or(text);
-        match session.ask(host, host.alloc(), set, asked, stream, writer) {
-            Ok(LineReply::Answered(answer)) => tell_count(host, hints, set, &line, &answer),
-            Ok(LineReply::Bye) => return Ok(status),
-            Ok(LineReply::Faulty(fault)) => {
-                tell_fault(host, hints, set, &line, fault);
-                status = FAULTY;
-            }
-            Err(fault) => return Err(Fault::of_asking(fault)),
+        match ask_line(host, set, &mut session, &line, stream, hints, writer)? {
+            Some(of_line) => status = status.max(of_line),
+            None => break,
         }
     }
     Ok(status)
+}
+
+/// Asks over a connection what the lines of standard input ask, by this set, and lets go of it.
+fn ask_by<'a, S: Read + Write + Drop, W: Write>(
+    host: &HostRuntime,
+    set: &ChainSet,
+    mut stream: S,
+    hints: &mut Hints,
+    writer: &mut W,
+) -> Result<u8, Fault<'a>> {
+    let Ok(mut lines) = BufReader::new(host.alloc(), host.reader()) else {
+        return Err(Fault::Memory);
+    };
+    let done = ask_lines(host, set, &mut lines, &mut stream, hints, writer);
+    hints.note_lost(host.alloc(), &done);
+    done
 }
 
 /// Asks the service at the port what the lines of standard input ask, by this set.
@@ -124,19 +163,8 @@ fn ask_at<'a, R: Net<Listener = TcpListener, Stream = TcpStream>, W: Write>(
     hints: &mut Hints,
     writer: &mut W,
 ) -> Result<u8, Fault<'a>> {
-    let mut stream = match TcpStream::connect(rt, (Ipv4Addr::LOCALHOST, port)) {
-        Ok(stream) => stream,
-        Err(error) => {
-            hints.note_port(host.alloc(), port, &error);
-            return Err(Fault::of_asking(AskFault::Connect));
-        }
-    };
-    let Ok(mut lines) = BufReader::new(host.alloc(), host.reader()) else {
-        return Err(Fault::Memory);
-    };
-    let done = ask_lines(host, set, &mut lines, &mut stream, hints, writer);
-    hints.note_lost(host.alloc(), &done);
-    done
+    let stream = connected(host, rt, port, hints)?;
+    ask_by(host, set, stream, hints, writer)
 }
 
 /// Asks the service at the port what the lines of standard input ask, by the set of a file, which

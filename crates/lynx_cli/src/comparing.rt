@@ -9,7 +9,8 @@ use lynx_ask::AskFault;
 use lynx_extend::extend_fault;
 use lynx_report::read_set;
 use lynx_set::ChainSet;
-use std::io::Write;
+use std::alloc::Global;
+use std::io::{Read, Write};
 use std::net::{Ipv4Addr, Net, TcpListener, TcpStream};
 use std::time::Duration;
 
@@ -65,6 +66,37 @@ fn body_of(answer: &[u8]) -> Option<&[u8]>
     body_in(after(answer, FOUND)?)
 }
 
+/// A connection to whoever listens at the port of this machine.
+pub(crate) fn connected<'a, R: Net<Listener = TcpListener, Stream = TcpStream>>(
+    host: &HostRuntime,
+    rt: &R,
+    port: u16,
+    hints: &mut Hints,
+) -> Result<TcpStream, Fault<'a>> {
+    match TcpStream::connect(rt, (Ipv4Addr::LOCALHOST, port)) {
+        Ok(stream) => Ok(stream),
+        Err(error) => {
+            hints.note_port(host.alloc(), port, &error);
+            Err(Fault::of_asking(AskFault::Connect))
+        }
+    }
+}
+
+/// What is answered over the connection to whoever asks for the set. The connection is let go.
+fn answer_of<'a, S: Read + Write + Drop>(
+    alloc: Global,
+    mut stream: S,
+) -> Result<Vec<u8>, Fault<'a>> {
+    if stream.write_all(ASKED).is_err() {
+        return Err(Fault::NoStatus);
+    }
+    match read_all(alloc, &mut stream, MAX_FILE_BYTES + MAX_HEAD_BYTES) {
+        Ok(answer) => Ok(answer),
+        Err(InputFault::Read) => Err(Fault::NoStatus),
+        Err(InputFault::Memory) => Err(Fault::Memory),
+    }
+}
+
 /// What is answered to whoever asks for the set at the port.
 fn answered<'a, R: Net<Listener = TcpListener, Stream = TcpStream>>(
     host: &HostRuntime,
@@ -72,21 +104,11 @@ fn answered<'a, R: Net<Listener = TcpListener, Stream = TcpStream>>(
     port: u16,
     hints: &mut Hints,
 ) -> Result<Vec<u8>, Fault<'a>> {
-    let mut stream = match TcpStream::connect(rt, (Ipv4Addr::LOCALHOST, port)) {
-        Ok(stream) => stream,
-        Err(error) => {
-            hints.note_port(host.alloc(), port, &error);
-            return Err(Fault::of_asking(AskFault::Connect));
-        }
-    };
+    let stream = connected(host, rt, port, hints)?;
     let silence = Some(Duration::from_secs(MAX_SILENT_SECONDS));
-    if stream.set_read_timeout(silence).is_err() || stream.write_all(ASKED).is_err() {
-        return Err(Fault::NoStatus);
-    }
-    match read_all(host.alloc(), &mut stream, MAX_FILE_BYTES + MAX_HEAD_BYTES) {
-        Ok(answer) => Ok(answer),
-        Err(InputFault::Read) => Err(Fault::NoStatus),
-        Err(InputFault::Memory) => Err(Fault::Memory),
+    match stream.set_read_timeout(silence) {
+        Ok(()) => answer_of(host.alloc(), stream),
+        Err(_) => Err(Fault::NoStatus),
     }
 }
 

@@ -1,6 +1,7 @@
 //! Tests of links and of a running cluster: full rings, the order of parcels and the rings of all
 //! pairs; the worked sessions, two threads inside two servers at once, why a cluster doesn't start
-//! or close, a worker over a server that stands in, and many begins.
+//! or close, and a worker over a server that stands in. Many begins by many clients are tried at a
+//! service, in tests/loads.
 #![tactic(auto)]
 
 #[cfg(test)]
@@ -9,8 +10,6 @@ mod apart;
 mod barrier;
 #[cfg(test)]
 mod busy;
-#[cfg(test)]
-mod clients;
 #[cfg(test)]
 mod closes;
 #[cfg(test)]
@@ -21,8 +20,6 @@ mod fake;
 mod full;
 #[cfg(test)]
 mod keepers;
-#[cfg(test)]
-mod loads;
 #[cfg(test)]
 mod meetings;
 #[cfg(test)]

@@ -7,13 +7,16 @@ use lynx_args::{CommandFault, Job, command, job_of, wants_hints};
 use lynx_cli::{Fault, Hints, do_job};
 use lynx_cluster::Host;
 use lynx_store::BatchKeeper;
-use lynx_store_files::{Databases, Files, Stores};
+use lynx_store_files::{Copies, Databases, Files, StoreCopy, Stores};
 use sqlite::{Connection, File, FileStore};
 use std::io::{self, IsTerminal};
 use std::net::{Net, TcpListener, TcpStream};
 use std::process::ExitCode;
 use std::rt::Env;
 use std::{env, fs};
+
+/// The database of a store, in its files.
+type Database = Connection<FileStore<File>>;
 
 /// The status of faulty words.
 const BAD_WORDS: u8 = 2;
@@ -86,7 +89,7 @@ fn suggest_check(rt: &HostRuntime, said: &Error, words: &[String]) {
 fn do_matches<
     R: Host + Net<Listener = TcpListener, Stream = TcpStream>,
     K: BatchKeeper + Send + Drop + 'static,
-    S: Stores<K> + Databases<Connection<FileStore<File>>> + Sync,
+    S: Stores<K> + Databases<Database> + Copies<StoreCopy> + Sync,
 >(host: &HostRuntime, rt: R, stores: &S, matches: &ArgMatches) -> u8 {
     let mut hints = Hints::new(wants_hints(matches) || host.stderr().is_terminal());
     let done = match job_of(matches) {
@@ -115,7 +118,7 @@ fn do_matches<
 fn obey<
     R: Host + Net<Listener = TcpListener, Stream = TcpStream>,
     K: BatchKeeper + Send + Drop + 'static,
-    S: Stores<K> + Databases<Connection<FileStore<File>>> + Sync,
+    S: Stores<K> + Databases<Database> + Copies<StoreCopy> + Sync,
 >(host: &HostRuntime, rt: R, stores: &S, words: &[String]) -> u8 {
     let Ok(command) = command(host.alloc()) else {
         return report(host, &Fault::Memory);

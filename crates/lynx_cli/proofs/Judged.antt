@@ -22,7 +22,7 @@ use Rattle.lynx_report.specs.declared.options.RunOptions.{RunOptions}
 use Rattle.lynx_rerun.specs.Reruns.{Reruns}
 use Rattle.lynx_store.specs.Stored.{Owner}
 use Rattle.lynx_cli.specs.declared.fault.Fault.{Fault}
-use Rattle.lynx_cli.specs.Done.{HasExtended, HasGivenText, HasRerunJudged, HasRerunTexts, HasRunJudged, HasRunTexts}
+use Rattle.lynx_cli.specs.Done.{HasExtended, HasGivenText, HasRerunJudged, HasRerunTexts, HasRunJudged, HasRunTexts, HasServedJudged, HasServedText}
 use Rattle.lynx_cli.specs.Statuses.{status_of_ending}
 use Rattle.lynx_cli.specs.Stopped.{StopsRunJudged, StopsRunTexts}
 
@@ -92,3 +92,11 @@ pub extended_so : {K C : Type 0} (owner_of : K → Owner) (state_of : C → Stat
 extended_so owner_of state_of OpenedAt text (Err fault) old mid new kept done = tt
 extended_so owner_of state_of OpenedAt text (Ok status) old mid new kept done =
     (text, inr (subst (λ before. HasGivenText owner_of state_of OpenedAt text before new status) kept done))
+
+-- clients are served over a text's set, which is accepted
+pub served_so : {K : Type 0} (terms : Terms K) (owner_of : K → Owner) (text : List ℕ) (result : Result ℕ Fault) (old mid new : Option (List ℕ)) →
+    mid ≡ old → IfOk result (HasServedText terms owner_of text mid new) →
+    IfOk result (λ status. (read : List ℕ) × HasServedJudged terms owner_of read old new status)
+served_so terms owner_of text (Err fault) old mid new kept done = tt
+served_so terms owner_of text (Ok status) old mid new kept done =
+    (text, inr (subst (λ before. HasServedText terms owner_of text before new status) kept done))

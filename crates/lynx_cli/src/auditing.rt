@@ -12,21 +12,18 @@ use lynx_names::ServerId;
 use lynx_order::Explained;
 use lynx_service::ServeFault;
 use lynx_set::ChainSet;
+use lynx_sql::Rising;
 use lynx_store::{SqlKeeper, StoreFault, inspect};
-use lynx_store_files::{CopyFault, StoreCopy, copy_store, store_path};
-use sqlite::FileStore;
-use sqlite_disk::Memory;
+use lynx_store_files::{Copies, CopyFault, store_path};
+use sqlite::Connection;
 use std::fs;
 use std::io::{ErrorKind, Write};
 
-/// A keeper over the copy of a store.
-pub(crate) type CopyKeeper = SqlKeeper<FileStore<Memory>>;
-
 /// The stores of a folder: the set that they are of, and a keeper over a copy of each.
 #[derive(Drop)]
-pub(crate) struct Copies {
+pub(crate) struct Copied<K> {
     pub(crate) set: ChainSet,
-    pub(crate) keepers: Vec<CopyKeeper>,
+    pub(crate) keepers: Vec<K>,
 }
 
 /// What a person at a terminal is told meanwhile.
@@ -64,20 +61,29 @@ fn uncopied<'a>(rt: &HostRuntime, path: &str, server: ServerId, fault: CopyFault
 }
 
 /// A copy of the store of that server in the folder.
-fn copy_of<'a>(rt: &HostRuntime, folder: &str, server: ServerId) -> Result<StoreCopy, Fault<'a>> {
+fn copy_of<'a, C, S: Copies<C>>(
+    rt: &HostRuntime,
+    copies: &S,
+    folder: &str,
+    server: ServerId,
+) -> Result<C, Fault<'a>> {
     let Ok(path) = store_path(rt.alloc(), folder, server) else {
         return Err(Fault::Memory);
     };
-    match copy_store(rt, path.as_str()) {
+    match copies.copy(path.as_str()) {
         Ok(copy) => Ok(copy),
         Err(fault) => Err(uncopied(rt, path.as_str(), server, fault)),
     }
 }
 
 /// The set that the store of server 0 is of.
-fn set_of<'a>(rt: &HostRuntime, folder: &str) -> Result<ChainSet, Fault<'a>> {
+fn set_of<'a, C: Rising + Drop, S: Copies<Connection<C>>>(
+    rt: &HostRuntime,
+    copies: &S,
+    folder: &str,
+) -> Result<ChainSet, Fault<'a>> {
     let first = ServerId::first();
-    let mut copy = copy_of(rt, folder, first)?;
+    let mut copy = copy_of(rt, copies, folder, first)?;
     match inspect(rt.alloc(), &mut copy) {
         Ok(held) => Ok(held.set),
         Err(fault) => Err(Fault::of_store(first, fault)),
@@ -85,13 +91,14 @@ fn set_of<'a>(rt: &HostRuntime, folder: &str) -> Result<ChainSet, Fault<'a>> {
 }
 
 /// A keeper over a copy of the store of that server.
-fn keeper_of<'a>(
+fn keeper_of<'a, C: Rising + Drop, S: Copies<Connection<C>>>(
     rt: &HostRuntime,
+    copies: &S,
     folder: &str,
     set: &ChainSet,
     server: ServerId,
-) -> Result<CopyKeeper, Fault<'a>> {
-    let copy = copy_of(rt, folder, server)?;
+) -> Result<SqlKeeper<C>, Fault<'a>> {
+    let copy = copy_of(rt, copies, folder, server)?;
     match SqlKeeper::open(rt.alloc(), copy, set, server) {
         Ok(keeper) => Ok(keeper),
         Err((fault, _)) => Err(Fault::of_store(server, fault)),
@@ -99,16 +106,17 @@ fn keeper_of<'a>(
 }
 
 /// Keepers over copies of the stores of the set's servers.
-fn keepers_of<'a>(
+fn keepers_of<'a, C: Rising + Drop, S: Copies<Connection<C>>>(
     rt: &HostRuntime,
+    copies: &S,
     folder: &str,
     set: &ChainSet,
-) -> Result<Vec<CopyKeeper>, Fault<'a>>
+) -> Result<Vec<SqlKeeper<C>>, Fault<'a>>
     ensures { IfOk result (λ keepers. length keepers.items ≡ set.now.servers) }
 {
     let mut keepers = Vec::new(rt.alloc());
     for number in 0..set.servers() {
-        let keeper = keeper_of(rt, folder, set, ServerId::at(number))?;
+        let keeper = keeper_of(rt, copies, folder, set, ServerId::at(number))?;
         if keepers.push(keeper).is_err() {
             return Err(Fault::Memory);
         }
@@ -117,21 +125,26 @@ fn keepers_of<'a>(
 }
 
 /// Copies of the stores of the folder.
-pub(crate) fn copies_of<'a>(rt: &HostRuntime, folder: &str) -> Result<Copies, Fault<'a>>
-    ensures { IfOk result (λ copies. length copies.keepers.items ≡ copies.set.servers) }
+pub(crate) fn copied_of<'a, C: Rising + Drop, S: Copies<Connection<C>>>(
+    rt: &HostRuntime,
+    copies: &S,
+    folder: &str,
+) -> Result<Copied<SqlKeeper<C>>, Fault<'a>>
+    ensures { IfOk result (λ copied. length copied.keepers.items ≡ copied.set.servers) }
 {
-    let set = set_of(rt, folder)?;
-    let keepers = keepers_of(rt, folder, &set)?;
-    Ok(Copies { set, keepers })
+    let set = set_of(rt, copies, folder)?;
+    let keepers = keepers_of(rt, copies, folder, &set)?;
+    Ok(Copied { set, keepers })
 }
 
 /// Audits copies of the stores of the folder.
-fn audit_copies<'a, W: Write>(
+fn audit_copies<'a, C: Rising + Drop, S: Copies<Connection<C>>, W: Write>(
     rt: &HostRuntime,
+    copies: &S,
     folder: &str,
     writer: &mut W,
 ) -> Result<u8, Fault<'a>> {
-    let Copies { set, keepers } = copies_of(rt, folder)?;
+    let Copied { set, keepers } = copied_of(rt, copies, folder)?;
     match audit(rt.alloc(), &set, keepers, writer) {
         Ok(Explained::Order(_)) => Ok(DONE),
         Ok(Explained::Cycle(_)) => Ok(OFFENDING),
@@ -140,12 +153,13 @@ fn audit_copies<'a, W: Write>(
 }
 
 /// Lists what is owed in copies of the stores of the folder.
-fn list_owed_of<'a, W: Write>(
+fn list_owed_of<'a, C: Rising + Drop, S: Copies<Connection<C>>, W: Write>(
     rt: &HostRuntime,
+    copies: &S,
     folder: &str,
     writer: &mut W,
 ) -> Result<u8, Fault<'a>> {
-    let Copies { set, keepers } = copies_of(rt, folder)?;
+    let Copied { set, keepers } = copied_of(rt, copies, folder)?;
     match list_owed(rt.alloc(), &set, keepers, writer) {
         Ok(()) => Ok(DONE),
         Err(fault) => Err(Fault::of_serving(fault)),
@@ -153,14 +167,15 @@ fn list_owed_of<'a, W: Write>(
 }
 
 /// Audits the stores of the folder, and tells a person at a terminal so meanwhile.
-pub(crate) fn audit_folder<'a, W: Write>(
+pub(crate) fn audit_folder<'a, C: Rising + Drop, S: Copies<Connection<C>>, W: Write>(
     rt: &HostRuntime,
+    copies: &S,
     folder: &str,
     hints: &mut Hints,
     writer: &mut W,
 ) -> Result<u8, Fault<'a>> {
     tell(rt, READING);
-    let done = audit_copies(rt, folder, writer);
+    let done = audit_copies(rt, copies, folder, writer);
     tell(rt, WIPED);
     hints.note_store(rt, folder, &done);
     done
@@ -168,14 +183,15 @@ pub(crate) fn audit_folder<'a, W: Write>(
 
 /// Lists the hops that are owed in the stores of the folder, and tells a person at a terminal so
 /// meanwhile.
-pub(crate) fn list_owed_in<'a, W: Write>(
+pub(crate) fn list_owed_in<'a, C: Rising + Drop, S: Copies<Connection<C>>, W: Write>(
     rt: &HostRuntime,
+    copies: &S,
     folder: &str,
     hints: &mut Hints,
     writer: &mut W,
 ) -> Result<u8, Fault<'a>> {
     tell(rt, READING);
-    let done = list_owed_of(rt, folder, writer);
+    let done = list_owed_of(rt, copies, folder, writer);
     tell(rt, WIPED);
     hints.note_store(rt, folder, &done);
     done

@@ -14,7 +14,7 @@ use lynx_give::give_stores;
 use lynx_keep::Keeper;
 use lynx_set::ChainSet;
 use lynx_sql::Rising;
-use lynx_store_files::{Databases, Stores};
+use lynx_store_files::{Copies, Databases, Stores};
 use sqlite::Connection;
 use std::io::Write;
 
@@ -57,7 +57,8 @@ pub(crate) fn extend_folder<
     'a,
     K: Keeper + Drop,
     D: Rising + Drop,
-    S: Stores<K> + Databases<Connection<D>>,
+    C: Rising + Drop,
+    S: Stores<K> + Databases<Connection<D>> + Copies<Connection<C>>,
     W: Write,
 >(
     rt: &HostRuntime,
@@ -80,6 +81,6 @@ pub(crate) fn extend_folder<
     };
     let done = extend_accepted(rt, stores, folder, text, &set, writer);
     hints.note_store(rt, folder, &done);
-    hints.note_foreign(rt, folder, &set, &done);
+    hints.note_foreign(rt.alloc(), stores, folder, &set, &done);
     done
 }

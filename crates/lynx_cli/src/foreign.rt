@@ -5,9 +5,11 @@ use lynx_lex::lines::next_line;
 use lynx_names::ServerId;
 use lynx_service::{ServeFault, StoreWord};
 use lynx_set::ChainSet;
+use lynx_sql::Rising;
 use lynx_store::{Inspected, inspect};
-use lynx_store_files::{copy_store, store_path};
+use lynx_store_files::{Copies, store_path};
 use lynx_text::print;
+use sqlite::Connection;
 use std::alloc::{AllocError, Global};
 use std::str;
 
@@ -61,6 +63,16 @@ fn lines_apart<'a>(there: At<'a>, here: At<'a>) -> Option<(At<'a>, At<'a>)> {
     None
 }
 
+/// The lines of both texts, of a store's set and of this one, at which this part differs.
+fn parted_in(alloc: Global, held: &[u8], text: &[u8], word: &[u8], part: usize) -> Option<String> {
+    let (there, here) = lines_apart(part_at(held, word, part)?, part_at(text, word, part)?)?;
+    let (number, line) = (there.number, str::from_utf8(there.text).ok()?);
+    let (own_number, own) = (here.number, str::from_utf8(here.text).ok()?);
+    format!(in alloc;
+        "  line {number} of the store's set: {line}\n  line {own_number} of this set: {own}\n"
+    ).ok()
+}
+
 /// The lines of both sets at which this part differs.
 fn parted(
     alloc: Global,
@@ -69,15 +81,9 @@ fn parted(
     word: &[u8],
     part: usize,
 ) -> Option<String> {
-    let (there, here) = (print(alloc, held).ok()?, print(alloc, set).ok()?);
-    let there = part_at(there.as_slice(), word, part)?;
-    let here = part_at(here.as_slice(), word, part)?;
-    let (there, here) = lines_apart(there, here)?;
-    let (number, line) = (there.number, str::from_utf8(there.text).ok()?);
-    let (own_number, own) = (here.number, str::from_utf8(here.text).ok()?);
-    format!(in alloc;
-        "  line {number} of the store's set: {line}\n  line {own_number} of this set: {own}\n"
-    ).ok()
+    let held = print(alloc, held).ok()?;
+    let text = print(alloc, set).ok()?;
+    parted_in(alloc, held.as_slice(), text.as_slice(), word, part)
 }
 
 /// What is told of a part that the set hasn't any more.
@@ -116,15 +122,21 @@ fn difference(alloc: Global, held: &ChainSet, set: &ChainSet) -> Option<String> 
 }
 
 /// What a store keeps, and of which set, by a copy of its file.
-fn held_at(rt: &HostRuntime, folder: &str, server: ServerId) -> Option<Inspected> {
-    let path = store_path(rt.alloc(), folder, server).ok()?;
-    let mut copy = copy_store(rt, path.as_str()).ok()?;
-    inspect(rt.alloc(), &mut copy).ok()
+fn held_at<C: Rising + Drop, S: Copies<Connection<C>>>(
+    alloc: Global,
+    copies: &S,
+    folder: &str,
+    server: ServerId,
+) -> Option<Inspected> {
+    let path = store_path(alloc, folder, server).ok()?;
+    let mut copy = copies.copy(path.as_str()).ok()?;
+    inspect(alloc, &mut copy).ok()
 }
 
 /// Why the store that a job was to open is another set's, in lines; none where nothing is known.
-pub(crate) fn foreign_lines<T>(
-    rt: &HostRuntime,
+pub(crate) fn foreign_lines<T, C: Rising + Drop, S: Copies<Connection<C>>>(
+    alloc: Global,
+    copies: &S,
     folder: &str,
     set: &ChainSet,
     done: &Result<T, Fault<'_>>,
@@ -135,10 +147,10 @@ pub(crate) fn foreign_lines<T>(
     if !matches!(word, StoreWord::OtherSet | StoreWord::OtherVersion) {
         return None;
     }
-    let held = held_at(rt, folder, ServerId::new(*server)?)?;
+    let held = held_at(alloc, copies, folder, ServerId::new(*server)?)?;
     if held.server.number() != *server {
         let owner = held.server;
-        return format!(in rt.alloc(); "  it is the store of server {owner}\n").ok();
+        return format!(in alloc; "  it is the store of server {owner}\n").ok();
     }
-    difference(rt.alloc(), &held.set, set)
+    difference(alloc, &held.set, set)
 }

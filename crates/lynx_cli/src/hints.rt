@@ -17,7 +17,10 @@ use lynx_reasons::mends;
 use lynx_restore::Undone;
 use lynx_service::{CopyWord, Damage, ServeFault, StoreWord};
 use lynx_set::ChainSet;
+use lynx_sql::Rising;
+use lynx_store_files::Copies;
 use lynx_text::parse;
+use sqlite::Connection;
 use std::alloc::{AllocError, Global};
 use std::io::Read;
 use std::net::{Ipv4Addr, Net, TcpListener, TcpStream};
@@ -29,7 +32,7 @@ const LOST: &str =
     "  the service ended, or hung up\n  what was asked last was done or was not: asked again under its number, it tells\n";
 
 /// A text, and the name by which its lines are told.
-#[derive(Clone, Copy, Debug)]
+#[derive(Clone, Copy)]
 pub(crate) struct Named<'a> {
     pub name: &'a str,
     pub text: &'a [u8],
@@ -221,15 +224,16 @@ impl Hints {
     }
 
     /// Notes how the set of a store differs from the one that it was to be opened for.
-    pub(crate) fn note_foreign<T>(
+    pub(crate) fn note_foreign<T, C: Rising + Drop, S: Copies<Connection<C>>>(
         &mut self,
-        host: &HostRuntime,
+        alloc: Global,
+        copies: &S,
         folder: &str,
         set: &ChainSet,
         done: &Result<T, Fault<'_>>,
     ) {
         if self.is_wanted {
-            if let Some(lines) = foreign_lines(host, folder, set, done) {
+            if let Some(lines) = foreign_lines(alloc, copies, folder, set, done) {
                 self.lines = Some(lines);
             }
         }

@@ -21,7 +21,7 @@ use lynx_keep::Keeper;
 use lynx_report::{CheckOptions, DrawOptions};
 use lynx_sql::Rising;
 use lynx_store::BatchKeeper;
-use lynx_store_files::{Databases, Stores};
+use lynx_store_files::{Copies, Databases, StoreCopy, Stores};
 use sqlite::Connection;
 use std::io;
 use std::io::{BufWriter, Write};
@@ -38,7 +38,7 @@ pub fn do_job<
     R: Host + Net<Listener = TcpListener, Stream = TcpStream>,
     K: BatchKeeper + Send + Drop + 'static,
     D: Rising + Drop,
-    S: Stores<K> + Databases<Connection<D>> + Sync,
+    S: Stores<K> + Databases<Connection<D>> + Copies<StoreCopy> + Sync,
 >(host: &HostRuntime, rt: R, stores: &S, job: Job<'a>, hints: &mut Hints) -> Result<u8, Fault<'a>> {
     let Ok(mut writer) = BufWriter::new(host.alloc(), io::writer(host)) else {
         return Err(Fault::Memory);
@@ -55,7 +55,7 @@ fn do_to<
     R: Host + Net<Listener = TcpListener, Stream = TcpStream>,
     K: BatchKeeper + Send + Drop + 'static,
     D: Rising + Drop,
-    S: Stores<K> + Databases<Connection<D>> + Sync,
+    S: Stores<K> + Databases<Connection<D>> + Copies<StoreCopy> + Sync,
     W: Write,
 >(
     host: &HostRuntime,
@@ -81,12 +81,12 @@ fn do_to<
             run_over_stores(host, over, set, script, flags, hints, writer)
         }
         Job::RunInput { flags } => run_standard_input(host, flags, hints, writer),
-        Job::Show { store } => show_file(host, store, hints, writer),
-        Job::Upgrade { store } => upgrade_file(host, store, hints, writer),
+        Job::Show { store } => show_file(host, stores, store, hints, writer),
+        Job::Upgrade { store } => upgrade_file(host, stores, store, hints, writer),
         Job::Extend { folder, set } => { extend_folder(host, stores, folder, set, hints, writer) }
         Job::Restore { place } => restore_folder(host, stores, place, hints, writer),
-        Job::Audit { folder } => audit_folder(host, folder, hints, writer),
-        Job::Owed { folder } => list_owed_in(host, folder, hints, writer),
+        Job::Audit { folder } => audit_folder(host, stores, folder, hints, writer),
+        Job::Owed { folder } => list_owed_in(host, stores, folder, hints, writer),
         Job::Serve {
             set,
             folder,

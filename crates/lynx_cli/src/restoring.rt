@@ -1,5 +1,5 @@
 //! New stores of what copies of stores hold together.
-use crate::auditing::{Copies, READING, copies_of};
+use crate::auditing::{Copied, READING, copied_of};
 use crate::fault::Fault;
 use crate::hints::Hints;
 use crate::salvaged::{Found, found_in};
@@ -12,8 +12,10 @@ use lynx_names::limits::MAX_SERVERS;
 use lynx_restore::{
     RestoreFault, Restored, RestoredServer, restore, restore_longest, restored_lines,
 };
+use lynx_sql::Rising;
 use lynx_store::StoreFault;
-use lynx_store_files::{Stores, store_path};
+use lynx_store_files::{Copies, Stores, store_path};
+use sqlite::Connection;
 use std::fs;
 use std::io::{ErrorKind, Write};
 
@@ -144,26 +146,26 @@ fn moved<'a>(
 }
 
 /// Makes stores in the folder of what the copies in another hold together, each of which is whole.
-fn restore_whole<'a, K: Keeper + Drop, S: Stores<K>>(
+fn restore_whole<'a, K: Keeper + Drop, C: Rising + Drop, S: Stores<K> + Copies<Connection<C>>>(
     rt: &HostRuntime,
     stores: &S,
     from: &str,
     folder: &str,
 ) -> Result<Restored, Fault<'a>> {
-    let Copies { set, keepers } = copies_of(rt, from)?;
+    let Copied { set, keepers } = copied_of(rt, stores, from)?;
     let room = prepare(rt, stores, folder)?;
     let made = restore(rt.alloc(), &set, keepers, stores, room.as_str());
     moved(rt, room.as_str(), folder, made)
 }
 
 /// Makes stores in the folder of what can still be read of the copies in another.
-fn restore_found<'a, K: Keeper + Drop, S: Stores<K>>(
+fn restore_found<'a, K: Keeper + Drop, C: Rising + Drop, S: Stores<K> + Copies<Connection<C>>>(
     rt: &HostRuntime,
     stores: &S,
     from: &str,
     folder: &str,
 ) -> Result<Restored, Fault<'a>> {
-    let Found { set, entries } = found_in(rt, from)?;
+    let Found { set, entries } = found_in(rt.alloc(), stores, from)?;
     let room = prepare(rt, stores, folder)?;
     let made = restore_longest(rt.alloc(), &set, entries, stores, room.as_str());
     moved(rt, room.as_str(), folder, made)
@@ -186,7 +188,13 @@ fn write_restored<'a, W: Write>(
 
 /// Makes stores in the folder, which has none, of what the copies in another hold together, and
 /// tells how much of each that is. The copies are only read.
-pub(crate) fn restore_folder<'a, K: Keeper + Drop, S: Stores<K>, W: Write>(
+pub(crate) fn restore_folder<
+    'a,
+    K: Keeper + Drop,
+    C: Rising + Drop,
+    S: Stores<K> + Copies<Connection<C>>,
+    W: Write,
+>(
     rt: &HostRuntime,
     stores: &S,
     place: RestorePlace<'_>,

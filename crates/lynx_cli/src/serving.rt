@@ -18,8 +18,10 @@ use lynx_notice::Board;
 use lynx_order::Explained;
 use lynx_service::{Log, Progress, ServeFault, Service, StatusPort, serve_stores};
 use lynx_set::ChainSet;
+use lynx_sql::Rising;
 use lynx_store::BatchKeeper;
-use lynx_store_files::Stores;
+use lynx_store_files::{Copies, Stores};
+use sqlite::Connection;
 use std::alloc::Global;
 use std::hash::RandomState;
 use std::io::Write;
@@ -150,13 +152,53 @@ fn serve_accepted<
     Ok(status_of_order(&explained))
 }
 
+/// Serves clients over an accepted set, until one of them asks for the end. Why it can't be served
+/// is noted.
+fn serve_set<
+    'a,
+    R: Host + Net<Listener = TcpListener, Stream = TcpStream>,
+    K: BatchKeeper + Send + Drop + 'static,
+    C: Rising + Drop,
+    S: Stores<K> + Copies<Connection<C>> + Sync,
+    W: Write,
+>(
+    host: &HostRuntime,
+    rt: R,
+    stores: &S,
+    text: &[u8],
+    set: &ChainSet,
+    place: ServePlace<'_>,
+    flags: ServeFlags<'_>,
+    hints: &mut Hints,
+    writer: &mut W,
+) -> Result<u8, Fault<'a>>
+    requires accepts { Accepts text.now set.now }
+    ensures { IfOk result (HasServedText K.terms S.owner_of text.now (W.contents writer.old)
+        (W.contents writer.new)) }
+{
+    let service = service_of(host, place, flags)?;
+    let log = Log::new(*host, flags.log);
+    match serve_accepted(host, rt, stores, text, set, service, log, writer) {
+        Ok(status) => Ok(status),
+        Err(fault) => {
+            note_ports(host, &rt, service, fault, hints);
+            note_copy(host, service, fault, hints);
+            let done = Err(Fault::of_serving(fault));
+            hints.note_store(host, service.folder, &done);
+            hints.note_foreign(host.alloc(), stores, service.folder, set, &done);
+            done
+        }
+    }
+}
+
 /// Serves clients over the set of a file, until one of them asks for the end. An offending set is
 /// refused as by a check, and nothing is opened.
 pub(crate) fn serve_file<
     'a,
     R: Host + Net<Listener = TcpListener, Stream = TcpStream>,
     K: BatchKeeper + Send + Drop + 'static,
-    S: Stores<K> + Sync,
+    C: Rising + Drop,
+    S: Stores<K> + Copies<Connection<C>> + Sync,
     W: Write,
 >(
     host: &HostRuntime,
@@ -179,17 +221,5 @@ pub(crate) fn serve_file<
     let Some(set) = accepted? else {
         return Ok(OFFENDING);
     };
-    let service = service_of(host, place, flags)?;
-    let log = Log::new(*host, flags.log);
-    match serve_accepted(host, rt, stores, text, &set, service, log, writer) {
-        Ok(status) => Ok(status),
-        Err(fault) => {
-            note_ports(host, &rt, service, fault, hints);
-            note_copy(host, service, fault, hints);
-            let done = Err(Fault::of_serving(fault));
-            hints.note_store(host, service.folder, &done);
-            hints.note_foreign(host, service.folder, &set, &done);
-            done
-        }
-    }
+    serve_set(host, rt, stores, text, &set, place, flags, hints, writer)
 }

@@ -6,10 +6,12 @@ use crate::fault::Fault;
 use crate::hints::Hints;
 use crate::source::InputFault;
 use crate::texts::DONE;
+use lynx_keep::Keeper;
 use lynx_server::{OpenFault, Server};
 use lynx_show::{ShowFault, check_upgrade, show_store, upgrade_and_tell};
-use lynx_store::{SqlKeeper, inspect};
-use lynx_store_files::{CopyFault, StoreCopy, copy_store};
+use lynx_sql::Rising;
+use lynx_store::{Inspected, SqlKeeper, inspect};
+use lynx_store_files::{Copies, CopyFault};
 use sqlite::Connection;
 use std::alloc::Global;
 use std::io::{IsTerminal, Write};
@@ -31,33 +33,45 @@ fn uncopied<'a>(store: &'a str, fault: CopyFault) -> Fault<'a>
 }
 
 /// A copy of the store of a file, as it is before anything is done to it.
-fn copied<'a>(rt: &HostRuntime, store: &'a str) -> Result<StoreCopy, Fault<'a>> {
-    match copy_store(rt, store) {
+fn copied<'a, C, S: Copies<C>>(copies: &S, store: &'a str) -> Result<C, Fault<'a>> {
+    match copies.copy(store) {
         Ok(copy) => Ok(copy),
         Err(fault) => Err(uncopied(store, fault)),
+    }
+}
+
+/// At which place the entries that a keeper keeps aren't lawful after those before it. None where a
+/// server opens over them, and for want of memory.
+fn unlawful_in<K: Keeper + Drop>(alloc: Global, held: &Inspected, keeper: K) -> Option<u64> {
+    match Server::open(alloc, &held.set, held.server, keeper) {
+        Err(OpenFault::Damaged { place }) => Some(place),
+        _ => None,
     }
 }
 
 /// At which place the entries of a store aren't lawful after those before it, or how many there are
 /// where only the cells aren't theirs, and how many there are. None where a server would open it,
 /// and for want of memory.
-fn unlawful_at(alloc: Global, mut copy: StoreCopy) -> Option<(u64, u64)> {
+fn unlawful_at<D: Rising + Drop>(alloc: Global, mut copy: Connection<D>) -> Option<(u64, u64)> {
     let held = inspect(alloc, &mut copy).ok()?;
-    let count = held.loaded.entries.len() as u64;
     let keeper = SqlKeeper::open(alloc, copy, &held.set, held.server).ok()?;
-    match Server::open(alloc, &held.set, held.server, keeper) {
-        Err(OpenFault::Damaged { place }) => Some((place, count)),
-        _ => None,
-    }
+    let place = unlawful_in(alloc, &held, keeper)?;
+    Some((place, held.loaded.entries.len() as u64))
 }
 
 /// Says behind what was written that no server would open the store of a file, where it is so and
 /// hints are wanted.
-fn hint_unlawful<W: Write>(rt: &HostRuntime, store: &str, hints: &Hints, writer: &mut W) {
+fn hint_unlawful<C: Rising + Drop, S: Copies<Connection<C>>, W: Write>(
+    rt: &HostRuntime,
+    copies: &S,
+    store: &str,
+    hints: &Hints,
+    writer: &mut W,
+) {
     if !hints.are_wanted() {
         return;
     }
-    let Ok(copy) = copied(rt, store) else {
+    let Ok(copy) = copied(copies, store) else {
         return;
     };
     let Some((place, count)) = unlawful_at(rt.alloc(), copy) else {
@@ -76,19 +90,20 @@ fn hint_unlawful<W: Write>(rt: &HostRuntime, store: &str, hints: &Hints, writer:
 }
 
 /// Lists the store of a file.
-pub(crate) fn show_file<'a, W: Write>(
+pub(crate) fn show_file<'a, C: Rising + Drop, S: Copies<Connection<C>>, W: Write>(
     rt: &HostRuntime,
+    copies: &S,
     store: &'a str,
     hints: &Hints,
     writer: &mut W,
 ) -> Result<u8, Fault<'a>> {
-    let mut copy = copied(rt, store)?;
+    let mut copy = copied(copies, store)?;
     match show_store(rt.alloc(), &mut copy, writer) {
         Ok(()) => {}
         Err(fault) => return Err(Fault::of_showing(fault)),
     }
     drop(copy);
-    hint_unlawful(rt, store, hints, writer);
+    hint_unlawful(rt, copies, store, hints, writer);
     Ok(DONE)
 }
 
@@ -107,42 +122,57 @@ pub(crate) fn tell(rt: &HostRuntime, text: &str) {
 }
 
 /// Whether the store of a file can be upgraded, by a copy of it.
-fn look_at<'a>(rt: &HostRuntime, store: &'a str) -> Result<(), Fault<'a>> {
-    let mut copy = copied(rt, store)?;
-    match check_upgrade(rt.alloc(), &mut copy) {
+fn look_at<'a, C: Rising + Drop, S: Copies<Connection<C>>>(
+    alloc: Global,
+    copies: &S,
+    store: &'a str,
+) -> Result<(), Fault<'a>> {
+    let mut copy = copied(copies, store)?;
+    match check_upgrade(alloc, &mut copy) {
         Ok(()) => Ok(()),
         Err(fault) => Err(Fault::of_showing(fault)),
     }
 }
 
-/// Makes the store of a file one of version 2.
-fn upgrade<'a, W: Write>(
-    rt: &HostRuntime,
-    store: &'a str,
+/// Makes a store one of version 2, and lets go of it.
+fn upgrade_opened<'a, D: Rising + Drop, W: Write>(
+    alloc: Global,
+    mut conn: Connection<D>,
     writer: &mut W,
 ) -> Result<u8, Fault<'a>> {
-    look_at(rt, store)?;
-    let Ok(mut conn) = Connection::open(rt, store) else {
-        return Err(Fault::Store(ShowFault::Store));
-    };
-    match upgrade_and_tell(rt.alloc(), &mut conn, writer) {
+    match upgrade_and_tell(alloc, &mut conn, writer) {
         Ok(()) => Ok(DONE),
         Err(fault) => Err(Fault::of_showing(fault)),
     }
 }
 
-/// Makes the store of a file one of version 2, and tells a person at a terminal so meanwhile.
-pub(crate) fn upgrade_file<'a, W: Write>(
+/// Makes the store of a file one of version 2.
+fn upgrade<'a, C: Rising + Drop, S: Copies<Connection<C>>, W: Write>(
     rt: &HostRuntime,
+    copies: &S,
+    store: &'a str,
+    writer: &mut W,
+) -> Result<u8, Fault<'a>> {
+    look_at(rt.alloc(), copies, store)?;
+    match Connection::open(rt, store) {
+        Ok(conn) => upgrade_opened(rt.alloc(), conn, writer),
+        Err(_) => Err(Fault::Store(ShowFault::Store)),
+    }
+}
+
+/// Makes the store of a file one of version 2, and tells a person at a terminal so meanwhile.
+pub(crate) fn upgrade_file<'a, C: Rising + Drop, S: Copies<Connection<C>>, W: Write>(
+    rt: &HostRuntime,
+    copies: &S,
     store: &'a str,
     hints: &Hints,
     writer: &mut W,
 ) -> Result<u8, Fault<'a>> {
     tell(rt, UPGRADING);
-    let done = upgrade(rt, store, writer);
+    let done = upgrade(rt, copies, store, writer);
     tell(rt, WIPED);
     if done.is_ok() {
-        hint_unlawful(rt, store, hints, writer);
+        hint_unlawful(rt, copies, store, hints, writer);
     }
     done
 }

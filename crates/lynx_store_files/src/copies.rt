@@ -1,4 +1,4 @@
-//! Private copies of stores: their files are only read.
+//! Private copies of stores: what is copied is only read.
 ghost use Rattle.std.specs.Prelude.{◌≡◌, IfOk, IfSome, IsTrue, take};
 ghost use Rattle.sqlite_disk.specs.Memory.{memory_bytes, memory_is_usable};
 ghost use Rattle.lynx_store_files.specs.Copies.{image_in};
@@ -6,6 +6,7 @@ ghost use Rattle.sqlite.specs.Files.{file_state};
 ghost use Rattle.sqlite.specs.Start.{FindsIn};
 ghost use Rattle.sqlite.specs.State.{HasCleanDisk};
 
+use crate::files;
 use crate::heads::{FILE_HEAD, is_database};
 use crate::presence::log_path;
 use lynx_store::StoreFault;
@@ -23,6 +24,14 @@ use thiserror::Error;
 
 /// The database of a store, in memory.
 pub type StoreCopy = Connection<FileStore<Memory>>;
+
+/// Where stores are copied from.
+pub trait Copies<C> {
+    /// A copy in memory of the store at the path, and of the log beside it, neither of which is
+    /// written or made. Nobody else may have the store open. Takes the memory of both, and of what
+    /// they hold.
+    fn copy(&self, path: &str) -> Result<C, CopyFault>;
+}
 
 /// Why a store was not copied.
 #[derive(Clone, Copy, Debug, PartialEq, Eq, Error)]
@@ -175,9 +184,8 @@ fn has_journal(rt: &HostRuntime, path: &str) -> Result<bool, CopyFault> {
     }
 }
 
-/// A copy in memory of the store of a file and of the log beside it, neither of which is written
-/// or made. Nobody else may have the store open. Takes the memory of both, and of what they hold.
-pub fn copy_store(rt: &HostRuntime, path: &str) -> Result<StoreCopy, CopyFault> {
+/// A copy of the store of a file and of the log beside it.
+fn copy_store(rt: &HostRuntime, path: &str) -> Result<StoreCopy, CopyFault> {
     let real = path_to(rt, path)?;
     let (mut file, lock) = opened(rt, real.as_str())?;
     let mut bytes = match head_of(rt.alloc(), &mut file, FILE_HEAD) {
@@ -200,4 +208,10 @@ pub fn copy_store(rt: &HostRuntime, path: &str) -> Result<StoreCopy, CopyFault> 
     let log = log_bytes(rt, log_path(rt, path)?.as_str())?;
     drop(file);
     copy_of(rt.alloc(), bytes.as_slice(), log.as_slice())
+}
+
+impl Copies<StoreCopy> for files::Files {
+    fn copy(&self, path: &str) -> Result<StoreCopy, CopyFault> {
+        copy_store(&self.rt, path)
+    }
 }

@@ -3,7 +3,7 @@
 #![tactic(auto)]
 
 pub use closing::close_all;
-pub use copies::{CopyFault, StoreCopy, copy_store};
+pub use copies::{Copies, CopyFault, StoreCopy};
 pub use databases::Databases;
 pub use files::{Files, open_store, store_path};
 pub use keeper::{FileKeeper, StoreKeeper};

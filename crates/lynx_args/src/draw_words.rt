@@ -4,37 +4,35 @@ ghost use Rattle.clap.specs.Words.{found_of, rows_of};
 ghost use Rattle.lynx_args.specs.Jobs.{AskedBy, TakesFound};
 
 use crate::job::{CommandFault, Job, job_of_draw};
-use crate::parser::{SCRIPT, flag, flag_at, found_at, hints_flag, script_file, set_file, text_at};
-use clap::{ArgMatches, Command};
-use std::alloc::{AllocError, Global};
+use crate::parser::{flag_at, found_at, text_at};
+use crate::words::{CommandText, HINTS_FLAG, Place, Reads, SCRIPT, SCRIPT_FILE, SET_FILE, Word};
+use clap::ArgMatches;
 
 /// The options of a picture.
 const WALK: &str = "walk";
 
 const LATE: &str = "late";
 
-pub(crate) fn draw_command<'a>(alloc: Global) -> Result<Command<'a>, AllocError> {
-    Command::new(alloc, "draw")
-        .about(
-            "Draw a set of chain programs as a text for Graphviz, or a run of a script as an SVG",
-        )
-        .after_help(
-            "Of a set: dashed lines join hops that may conflict, red steps are those by which the set offends.\nStatus 0 where the set is accepted, 1 where it offends: it is drawn all the same.\nOf a run: each server's entries stand in a column, arrows are messages, red lines lead around a cycle.\nStatus 0 where an order explains the run, 1 where it ends with a cycle. The set isn't checked.\nExamples: lynx draw payment.set | dot -Tsvg > payment.svg\n          lynx draw payment.set payment.script > run.svg",
-        )
-        .arg(set_file(alloc))?
-        .arg(script_file(alloc))?
-        .arg(flag(
-            alloc,
-            WALK,
-            "Draw the programs of the walk alone by which the set offends, or would if it weren't excused",
-        ))?
-        .arg(flag(
-            alloc,
-            LATE,
-            "Draw the programs alone that stand in the way of a set that offends, in thick frames, and those that they meet",
-        ))?
-        .arg(hints_flag(alloc))
-}
+pub(crate) const DRAW: CommandText = CommandText {
+    name: "draw",
+    about: "Draw a set of chain programs as a text for Graphviz, or a run of a script as an SVG",
+    after: "Of a set: dashed lines join hops that may conflict, red steps are those by which the set offends.\nStatus 0 where the set is accepted, 1 where it offends: it is drawn all the same.\nOf a run: each server's entries stand in a column, arrows are messages, red lines lead around a cycle.\nStatus 0 where an order explains the run, 1 where it ends with a cycle. The set isn't checked.\nExamples: lynx draw payment.set | dot -Tsvg > payment.svg\n          lynx draw payment.set payment.script > run.svg",
+    words: &[
+        SET_FILE,
+        SCRIPT_FILE,
+        Word {
+            name: WALK,
+            place: Place::Flag,
+            help: "Draw the programs of the walk alone by which the set offends, or would if it weren't excused",
+        },
+        Word {
+            name: LATE,
+            place: Place::Flag,
+            help: "Draw the programs alone that stand in the way of a set that offends, in thick frames, and those that they meet",
+        },
+        HINTS_FLAG,
+    ],
+};
 
 /// What the words behind `draw` ask for.
 pub(crate) fn job_of_drawing<'a>(words: &ArgMatches<'a>) -> Result<Job<'a>, CommandFault>

@@ -4,8 +4,10 @@
 pub use job::{CommandFault, INPUT, Job, RestorePlace, RunFlags, SampleFlags, ServeFlags};
 pub use parser::{VERSION, command, job_of, wants_hints};
 
+mod commands;
 mod draw_words;
 pub mod job;
 pub mod parser;
 mod sample_words;
 mod serve_words;
+mod words;

@@ -4,9 +4,9 @@ ghost use Rattle.clap.specs.Words.{found_of, rows_of};
 ghost use Rattle.lynx_args.specs.Jobs.{AreServeFlags, AskedBy, IsNumber, IsPort, TakesFound};
 
 use crate::job::{CommandFault, Job, ServeFlags};
-use crate::parser::{flag, flag_at, found_at, hints_flag, set_file, text_at};
-use clap::{Arg, ArgAction, ArgMatches, Command, value_parser};
-use std::alloc::{AllocError, Global};
+use crate::parser::{flag_at, found_at, text_at};
+use crate::words::{CommandText, HINTS_FLAG, Place, Reads, SET_FILE, Word};
+use clap::ArgMatches;
 
 /// The port, of a service or of one that is asked.
 const PORT: &str = "PORT";
@@ -20,91 +20,64 @@ const COPY: &str = "copy";
 /// The option by which a service tells what befalls it.
 const LOG: &str = "log";
 
-/// The port of a service.
-fn port<'a>(alloc: Global) -> Arg<'a> {
-    Arg::new(alloc, PORT)
-        .required(true)
-        .value_parser(value_parser!(u16).range(1..=65535))
-        .help("The port of 127.0.0.1, 1 to 65535")
-}
+pub(crate) const SERVE: CommandText = CommandText {
+    name: "serve",
+    about: "Serve clients at a port, over the stores of a folder, until one asks for the end",
+    after: "An offending set is refused as by check, and nothing is opened. The end checks all that clients were\ntold. Clients: lynx ask, clients/python/lynx.py; docs/FORMATS.md has the bytes.\nExample: lynx serve payment.set stores 7000 --status 7001",
+    words: &[
+        SET_FILE,
+        Word {
+            name: "DIR",
+            place: Place::Needed(Reads::Text),
+            help: "The folder of the stores, server-0.lynx and so on; those that aren't there are made",
+        },
+        Word {
+            name: PORT,
+            place: Place::Needed(Reads::Port),
+            help: "The port of 127.0.0.1, 1 to 65535",
+        },
+        Word {
+            name: STATUS,
+            place: Place::Value(PORT, Reads::Port),
+            help: "Tell how the service is over HTTP at this port of 127.0.0.1: /status for people, /metrics for Prometheus,\n/healthz, /set and /chain/ORIGIN:INDEX",
+        },
+        Word {
+            name: COPY,
+            place: Place::Value("DIR2", Reads::Text),
+            help: "Have the stores of another folder, on another disk say, follow those of DIR: what they hold is at all times\nwhat DIR held, a moment and a thousand entries ago at most, and lynx restore makes stores of it",
+        },
+        Word {
+            name: LOG,
+            place: Place::Flag,
+            help: "Tell on standard error what befalls the service, a line with its time for each event",
+        },
+        HINTS_FLAG,
+    ],
+};
 
-/// The port of the status of a service.
-fn status<'a>(alloc: Global, help: &'a str) -> Arg<'a> {
-    Arg::new(alloc, STATUS)
-        .long(STATUS)
-        .value_name(PORT)
-        .action(ArgAction::Set)
-        .value_parser(value_parser!(u16).range(1..=65535))
-        .help(help)
-}
-
-/// The folder that follows a service.
-fn copy_folder<'a>(alloc: Global) -> Arg<'a> {
-    Arg::new(alloc, COPY)
-        .long(COPY)
-        .value_name("DIR2")
-        .action(ArgAction::Set)
-        .help(
-            "Have the stores of another folder, on another disk say, follow those of DIR: what they hold is at all times\nwhat DIR held, a moment and a thousand entries ago at most, and lynx restore makes stores of it",
-        )
-}
-
-pub(crate) fn serve_command<'a>(alloc: Global) -> Result<Command<'a>, AllocError> {
-    let folder = Arg::new(alloc, "DIR").required(true).help(
-        "The folder of the stores, server-0.lynx and so on; those that aren't there are made",
-    );
-    Command::new(alloc, "serve")
-        .about("Serve clients at a port, over the stores of a folder, until one asks for the end")
-        .after_help(
-            "An offending set is refused as by check, and nothing is opened. The end checks all that clients were\ntold. Clients: lynx ask, clients/python/lynx.py; docs/FORMATS.md has the bytes.\nExample: lynx serve payment.set stores 7000 --status 7001",
-        )
-        .arg(set_file(alloc))?
-        .arg(folder)?
-        .arg(port(alloc))?
-        .arg(status(
-            alloc,
-            "Tell how the service is over HTTP at this port of 127.0.0.1: /status for people, /metrics for Prometheus,\n/healthz, /set and /chain/ORIGIN:INDEX",
-        ))?
-        .arg(copy_folder(alloc))?
-        .arg(flag(
-            alloc,
-            LOG,
-            "Tell on standard error what befalls the service, a line with its time for each event",
-        ))?
-        .arg(hints_flag(alloc))
-}
-
-/// The port of the service that is asked.
-fn asked_port<'a>(alloc: Global) -> Arg<'a> {
-    Arg::new(alloc, PORT)
-        .value_parser(value_parser!(u16).range(1..=65535))
-        .help("The port of 127.0.0.1, 1 to 65535; behind a folder none, since its service is asked")
-}
-
-/// The set of a service that is asked, or its folder.
-fn asked_set<'a>(alloc: Global) -> Arg<'a> {
-    Arg::new(alloc, "SET")
-        .value_name("DIR|SET")
-        .required(true)
-        .help(
-            "The folder of a service, which tells its port and its set; or the file of the set's text",
-        )
-}
-
-pub(crate) fn ask_command<'a>(alloc: Global) -> Result<Command<'a>, AllocError> {
-    Command::new(alloc, "ask")
-        .about("Ask a service what the lines of standard input ask, and print its answers")
-        .after_help(
-            "Lines:\n  begin CLIENT NUMBER PROGRAM ARG..  begin a chain; the same CLIENT and NUMBER never begin two\n  look ORIGIN:INDEX HOP              whether that hop of a chain is done, and its results\n  look ORIGIN:INDEX HOP wait         the same, once the hop is done, or after ten seconds\n  quit                               leave, as the end of the input does\n  shut                               have the service end\nA faulty line is told on standard error, and the next one asked; the status is then 2.\nA request tells a program by its number: SET and PORT are right where SET is the service's, to the word, or one\nthat the service's extends. With --status that is looked at first.\nExamples: echo 'begin 1 1 pay 30' | lynx ask stores\n          echo 'begin 1 1 pay 30' | lynx ask payment.set 7000",
-        )
-        .arg(asked_set(alloc))?
-        .arg(asked_port(alloc))?
-        .arg(status(
-            alloc,
-            "The port at which the service tells its status, by which the set is compared before anything is asked",
-        ))?
-        .arg(hints_flag(alloc))
-}
+pub(crate) const ASK: CommandText = CommandText {
+    name: "ask",
+    about: "Ask a service what the lines of standard input ask, and print its answers",
+    after: "Lines:\n  begin CLIENT NUMBER PROGRAM ARG..  begin a chain; the same CLIENT and NUMBER never begin two\n  look ORIGIN:INDEX HOP              whether that hop of a chain is done, and its results\n  look ORIGIN:INDEX HOP wait         the same, once the hop is done, or after ten seconds\n  quit                               leave, as the end of the input does\n  shut                               have the service end\nA faulty line is told on standard error, and the next one asked; the status is then 2.\nA request tells a program by its number: SET and PORT are right where SET is the service's, to the word, or one\nthat the service's extends. With --status that is looked at first.\nExamples: echo 'begin 1 1 pay 30' | lynx ask stores\n          echo 'begin 1 1 pay 30' | lynx ask payment.set 7000",
+    words: &[
+        Word {
+            name: "SET",
+            place: Place::NeededAs("DIR|SET", Reads::Text),
+            help: "The folder of a service, which tells its port and its set; or the file of the set's text",
+        },
+        Word {
+            name: PORT,
+            place: Place::Free(Reads::Port),
+            help: "The port of 127.0.0.1, 1 to 65535; behind a folder none, since its service is asked",
+        },
+        Word {
+            name: STATUS,
+            place: Place::Value(PORT, Reads::Port),
+            help: "The port at which the service tells its status, by which the set is compared before anything is asked",
+        },
+        HINTS_FLAG,
+    ],
+};
 
 /// The number of the port. The parser lets no other words through.
 pub(crate) fn port_of(words: &ArgMatches<'_>) -> u16

@@ -70,6 +70,21 @@ stored-more bytes more entry are has is =
     ∙ ap (λ (b : List ℕ). forms_of entries ++ b) (sym (append-nil (form_of entry)))
     ∙ sym (flat_map-append form_of entries (entry ∷ [])))
 
+all_both : (entries others : History) → AllByRecursion HasForm entries → AllByRecursion HasForm others → AllByRecursion HasForm (entries ++ others)
+all_both [] others are more = more
+all_both (first ∷ entries) others are more = (are.0, all_both entries others are.1 more)
+
+-- stored entries behind others
+pub stored-both : (bytes more all : List ℕ) → AreStored bytes → AreStored more → all ≡ bytes ++ more →
+    AreStored all × (entries_in all ≡ entries_in bytes ++ entries_in more)
+stored-both bytes more all are has is =
+    let entries = entries_in bytes in
+    let others = entries_in more in
+    stored-forms all (entries ++ others) (all_both entries others are.have_forms has.have_forms)
+    (is ∙ ap (λ (b : List ℕ). b ++ more) are.forms
+    ∙ ap (λ (b : List ℕ). forms_of entries ++ b) has.forms
+    ∙ sym (flat_map-append form_of entries others))
+
 -- what is given of stored entries is the first of them
 pub record IsFirst (old new : List ℕ) (item : Item) : Type 0 where
   pub entry : Entry

@@ -24,6 +24,14 @@ pub record Terms (K : Type 0) : Type 1 where
   pub leaves : K → KeptState → KeptState → Type 0
   -- how often the store has failed
   pub counted : K → ℕ
+  -- the first is kept for good, and the second is kept, with what is held back behind the first
+  pub rests : K → KeptState → KeptState → Type 0
+
+-- what was kept for good is so still, and what is kept goes from the one to the other
+abbrev pub RestsOn : {K : Type 0} → Terms K → K → K → KeptState → KeptState → Type 0
+RestsOn terms old new before after =
+    terms.sound new → (settled : KeptState) → terms.rests old settled before
+    → terms.rests new settled after
 
 -- what was read back
 abbrev pub kept_in : Loaded → KeptState
@@ -38,6 +46,11 @@ abbrev pub with_entry : KeptState → Entry → ChangeSet → KeptState
 with_entry kept entry changes =
     record { entries = kept.entries ++ entry ∷ []; cells = applied changes kept.cells }
 
+-- more entries, with the changes of their cells
+abbrev pub with_entries : KeptState → History → ChangeSet → KeptState
+with_entries kept entries changes =
+    record { entries = kept.entries ++ entries; cells = applied changes kept.cells }
+
 -- a keeper in memory: what it is seen as is kept, and it never fails
 abbrev pub memory_terms : Terms KeptState
 memory_terms = record {
@@ -45,6 +58,7 @@ memory_terms = record {
   keeps = λ keeper kept. kept ≡ keeper;
   leaves = λ keeper one other. (keeper ≡ one) ⊎ (keeper ≡ other);
   counted = λ keeper. 0;
+  rests = λ keeper settled kept. Unit {0};
 }
 
 -- the count rose, unless it is at the limit of a u64

@@ -1,5 +1,6 @@
 ghost use Rattle.std.specs.Prelude.{◌≡◌, Some};
 
+use crate::batch_keeper::BatchKeeper;
 use crate::fault::KeepFault;
 use crate::keeper::{Keeper, Loaded};
 use crate::memory_keeper::MemoryKeeper;
@@ -14,12 +15,12 @@ pub enum Planned {
     Memory,
     /// It fails, and nothing more is kept.
     FailsBefore,
-    /// It fails, and the whole entry is kept.
+    /// It fails, and all that was to be kept is.
     FailsAfter,
 }
 
-/// Keeps everything in memory, and answers one chosen commit by a fault: for tests of what is
-/// above.
+/// Keeps everything in memory, and answers one chosen commit by a fault, whether it is of one entry
+/// or of many: for tests of what is above.
 #[derive(Debug, Drop)]
 pub struct FaultKeeper {
     inner: MemoryKeeper,
@@ -79,6 +80,7 @@ impl Keeper for FaultKeeper {
       keeps = λ keeper kept. kept ≡ keeper.inner;
       leaves = λ keeper one other. (keeper.inner ≡ one) ⊎ (keeper.inner ≡ other);
       counted = λ keeper. keeper.faults;
+      rests = λ keeper settled kept. Unit {0};
     } };
 
     fn commit(&mut self, alloc: Global, entry: &Entry, changes: &Changes) -> Result<(), KeepFault> {
@@ -105,4 +107,24 @@ impl Keeper for FaultKeeper {
     ghost settled = { λ keeper kept sound keeps. inl (sym keeps) };
 
     ghost weaker = { λ keeper kept other left. Prim.search rules };
+}
+
+impl BatchKeeper for FaultKeeper {
+    fn commit_all(
+        &mut self,
+        alloc: Global,
+        entries: &[Entry],
+        changes: &Changes,
+    ) -> Result<(), KeepFault> {
+        if !self.is_chosen() {
+            return self.inner.commit_all(alloc, entries, changes);
+        }
+        match self.planned {
+            Planned::Memory => return Err(KeepFault::Memory),
+            Planned::FailsBefore => {}
+            Planned::FailsAfter => self.inner.commit_all(alloc, entries, changes)?,
+        }
+        self.faults = self.faults.saturating_add(1);
+        Err(KeepFault::Failed)
+    }
 }

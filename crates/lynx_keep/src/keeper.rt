@@ -1,6 +1,6 @@
 ghost use Rattle.std.specs.Prelude.{◌≡◌, ◌≤◌, IsErrOf, OnOk, IfOk, ℕ};
 ghost use Rattle.lynx_codec.specs.Entries.{IsEntryInRange};
-ghost use Rattle.lynx_keep.specs.Kept.{HasRisen, KeptState, Terms, kept_in, with_entry};
+ghost use Rattle.lynx_keep.specs.Kept.{HasRisen, KeptState, RestsOn, Terms, kept_in, with_entry};
 
 use crate::cause::Cause;
 use crate::fault::KeepFault;
@@ -36,7 +36,11 @@ pub trait Keeper {
             → terms.leaves self.new before (with_entry before entry.now changes.now) }
         ensures failed { IsErrOf result KeepFault.Failed → HasRisen (terms.counted self.old)
             (terms.counted self.new) }
-        ensures counts { terms.counted self.old ≤ terms.counted self.new };
+        ensures counts { terms.counted self.old ≤ terms.counted self.new }
+        ensures rests { OnOk result ((before : KeptState)
+            → RestsOn terms self.old self.new before (with_entry before entry.now changes.now)) }
+        ensures rests_still { IsErrOf result KeepFault.Memory → (before : KeptState)
+            → RestsOn terms self.old self.new before before };
 
     /// Reads back what is kept, also after a failure.
     fn load(&mut self, alloc: Global) -> Result<Loaded, KeepFault>

@@ -1,8 +1,9 @@
 ghost use Rattle.std.specs.Prelude.{◌≡◌, ◌++◌, ◌∷◌, [], All, IfOk, OnOk, OnErr};
 ghost use Rattle.lynx_codec.specs.Entries.{IsEntryInRange};
-ghost use Rattle.lynx_keep.specs.Kept.{nothing_kept, with_entry};
+ghost use Rattle.lynx_keep.specs.Kept.{nothing_kept, with_entries, with_entry};
 ghost use Rattle.lynx_keep.specs.Stored.{AreStored, entries_in};
 
+use crate::batch_keeper::BatchKeeper;
 use crate::copying::copy_cells;
 use crate::fault::KeepFault;
 use crate::keeper::{Keeper, Loaded};
@@ -57,10 +58,7 @@ impl MemoryKeeper {
         ensures { IfOk result (λ keeper. keeper
             ≡ record { entries = entries.now; cells = cells.now.database }) }
     {
-        let mut forms = Vec::new(alloc);
-        for entry in entries {
-            add_form(&mut forms, entry)?;
-        }
+        let forms = forms_of(alloc, entries)?;
         let cells = copy_cells(alloc, cells)?;
         Ok(MemoryKeeper { forms, cells })
     }
@@ -73,6 +71,24 @@ impl MemoryKeeper {
     {
         self.cells.stage(changes)?;
         add_form(&mut self.forms, entry)?;
+        self.cells.apply(changes);
+        Ok(())
+    }
+
+    /// All growth comes first.
+    fn keep_all(
+        &mut self,
+        alloc: Global,
+        entries: &[Entry],
+        changes: &Changes,
+    ) -> Result<(), Memory>
+        requires { All IsEntryInRange entries.now }
+        ensures ok { OnOk result (self.new ≡ with_entries self.old entries.now changes.now) }
+        ensures err { OnErr result (self.new ≡ self.old) }
+    {
+        let forms = forms_of(alloc, entries)?;
+        self.cells.stage(changes)?;
+        self.forms.extend_from_slice(forms.as_slice())?;
         self.cells.apply(changes);
         Ok(())
     }
@@ -90,6 +106,19 @@ fn add_form(forms: &mut Vec<u8>, entry: &Entry) -> Result<(), Memory>
     forms.reserve(MAX_FORM_BYTES)?;
     append_entry(entry, forms);
     Ok(())
+}
+
+/// The forms of entries, one behind the other.
+fn forms_of(alloc: Global, entries: &[Entry]) -> Result<Vec<u8>, Memory>
+    requires { All IsEntryInRange entries.now }
+    ensures { IfOk result (λ forms. AreStored forms.items
+        × (entries_in forms.items ≡ entries.now)) }
+{
+    let mut forms = Vec::new(alloc);
+    for entry in entries {
+        add_form(&mut forms, entry)?;
+    }
+    Ok(forms)
 }
 
 impl TryCopy for MemoryKeeper {
@@ -130,4 +159,16 @@ impl Keeper for MemoryKeeper {
     ghost settled = { λ keeper kept sound keeps. inl (sym keeps) };
 
     ghost weaker = { λ keeper kept other left. Prim.search rules };
+}
+
+impl BatchKeeper for MemoryKeeper {
+    fn commit_all(
+        &mut self,
+        alloc: Global,
+        entries: &[Entry],
+        changes: &Changes,
+    ) -> Result<(), KeepFault> {
+        self.keep_all(alloc, entries, changes)?;
+        Ok(())
+    }
 }

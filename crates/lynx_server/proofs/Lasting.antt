@@ -3,7 +3,7 @@ use Rattle.std.proofs.Common.{◌≡◌, ◌≤◌, ◌<◌, ℕ, Bool, Option, 
 use Rattle.std.proofs.lemmas.List.{length-append}
 use Rattle.lynx_entry.specs.declared.entry.Entry.{Entry}
 use Rattle.lynx_entry.specs.Entry.{History}
-use Rattle.lynx_keep.specs.Kept.{KeptState, HasRisen, Terms}
+use Rattle.lynx_keep.specs.Kept.{HasRisen, Terms}
 use Rattle.lynx_server.specs.Books.{BooksState}
 use Rattle.lynx_server.specs.inner.Begins.{books_with}
 use Rattle.lynx_server.specs.History.{grown}

@@ -1,5 +1,5 @@
 -- What a waking leaves is the definition's.
-use Rattle.std.proofs.Common.{◌≡◌, ℕ, Bool, not, if◌then◌else◌, filter, List, ap, ◌∙◌}
+use Rattle.std.proofs.Common.{◌≡◌, Bool, not, if◌then◌else◌, filter, List, ap, ◌∙◌}
 use Rattle.lynx_entry.specs.declared.answer.Delivered.{Delivered}
 use Rattle.lynx_entry.specs.declared.answer.Delivered.TheVariants.{Done, Repeat, Held, Dropped, Malformed, Full, Stopped, Memory}
 use Rattle.lynx_entry.specs.declared.message.Message.{Message}

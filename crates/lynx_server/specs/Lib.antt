@@ -9,3 +9,4 @@ pub mod Returning
 pub mod Serving
 pub mod Rebuilding
 pub mod inner
+pub mod Settling

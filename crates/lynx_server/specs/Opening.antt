@@ -1,8 +1,6 @@
 -- What a server is when it is opened over what was kept.
-use Rattle.std.specs.Prelude.{◌≡◌, ◌≤◌, ◌⊎◌, ℕ, false, [], length, take, slice_get, Option, Some, None, Result, Ok, Err}
+use Rattle.std.specs.Prelude.{◌≡◌, ◌≤◌, ◌⊎◌, ℕ, false, [], length, Result, Ok, Err}
 use Rattle.lynx_set.specs.Set.{Set}
-use Rattle.lynx_entry.specs.declared.entry.Entry.{Entry}
-use Rattle.lynx_entry.specs.Entry.{History}
 use Rattle.lynx_keep.specs.Kept.{KeptState, HasRisen, Terms}
 use Rattle.lynx_keep.specs.declared.fault.KeepFault.{KeepFault}
 use Rattle.lynx_keep.specs.declared.fault.KeepFault.TheVariants as keep

@@ -1,10 +1,13 @@
 -- Next messages that were not acknowledged.
-use Rattle.std.specs.Prelude.{◌≡◌, ◌≤◌, ◌<◌, ℕ, zero, suc, Bool, true, false, List, length, slice_get, unwrap_or, if◌then◌else◌, ◌==◌, Option, Some, None}
+use Rattle.std.specs.Prelude.{◌≡◌, ◌≤◌, ◌<◌, ◌-◌, ℕ, zero, suc, Bool, true, false, List, length, slice_get, unwrap_or, if◌then◌else◌, ◌==◌, Option, Some, None}
 use Rattle.lynx_names.specs.declared.chain.ChainId.{ChainId}
 use Rattle.lynx_entry.specs.declared.entry.Entry.{Entry}
+use Rattle.lynx_entry.specs.declared.entry.Entry.TheVariants.{Hop}
 use Rattle.lynx_entry.specs.Entry.{History}
 use Rattle.lynx_entry.specs.declared.message.Message.{Message}
 use Rattle.lynx_rules.specs.Messages.{next_message}
+use Rattle.lynx_set.specs.Lookups.{server_at}
+use Rattle.lynx_set.specs.Set.{Set}
 use Rattle.lynx_server.specs.Acts.{act_of}
 use Rattle.lynx_server.specs.Serving.{Serving}
 
@@ -50,6 +53,12 @@ pub record IsMarked {K : Type 0} (old : Serving K) (place : ℕ) (new : Serving 
 abbrev pub sender_of : ChainId → ℕ → History → Option Entry
 sender_of chain zero history = None
 sender_of chain (suc before) history = act_of chain before history
+
+-- the server of the hop before that of the entry
+abbrev pub IsSender : Set → ℕ → Option Entry → ℕ → Type 0
+IsSender set hop (Some (Hop ran)) server =
+    server_at set ran.message.program (hop - 1) ≡ Some server
+IsSender set hop other server = ⊥
 
 -- the place of the entry is marked
 pub record IsNoted {K : Type 0} (old : Serving K) (entry : Entry) (new : Serving K) : Type 0 where

@@ -1,5 +1,5 @@
 -- What contracts see of a server over its keeper, and what a call leaves of it.
-use Rattle.std.specs.Prelude.{length, ◌==◌, filter, not, unwrap_or, if◌then◌else◌, ◌≡◌, ◌≤◌, ℕ, Bool, true, false, List, Option, None, Result, Ok, Err, refl}
+use Rattle.std.specs.Prelude.{length, ◌==◌, filter, not, unwrap_or, if◌then◌else◌, ◌≡◌, ◌≤◌, ℕ, Bool, true, false, List, Option, None, refl}
 use Rattle.std.specs.Coded.{Coded, code_by, coded×, coded_ℕ, coded_bool, coded_list}
 use Rattle.lynx_set.specs.Set.{Set}
 use Rattle.lynx_set.specs.contracts.set.ChainSet as set
@@ -8,18 +8,14 @@ use Rattle.lynx_entry.specs.contracts.message.Message as message
 use Rattle.lynx_entry.specs.declared.answer.Answer.{Answer}
 use Rattle.lynx_entry.specs.declared.answer.Answer.TheVariants.{Stopped, Memory}
 use Rattle.lynx_entry.specs.declared.answer.Delivered.{Delivered}
-use Rattle.lynx_entry.specs.declared.answer.Delivered.TheVariants.{Done, Repeat, Held, Dropped, Malformed, Full, Stopped as StoppedThen, Memory as WithoutMemory}
+use Rattle.lynx_entry.specs.declared.answer.Delivered.TheVariants.{Full, Stopped as StoppedThen, Memory as WithoutMemory}
 use Rattle.lynx_names.specs.declared.limits.TheConstants.{MAX_HELD}
-use Rattle.lynx_hops.specs.Meaning.{meaning}
-use Rattle.lynx_rules.specs.Deliveries.{Delivers as DeliveredSo, delivery, done_by}
-use Rattle.lynx_rules.specs.Tables.{tables_of}
+use Rattle.lynx_rules.specs.Deliveries.{Delivers as DeliveredSo, delivery}
 use Rattle.lynx_entry.specs.declared.entry.Entry.{Entry}
 use Rattle.lynx_entry.specs.declared.message.Message.{Message}
 use Rattle.lynx_entry.specs.declared.request.Request.{Request}
 use Rattle.lynx_entry.specs.Entry.{History}
-use Rattle.lynx_keep.specs.Kept.{KeptState, HasRisen, Terms}
-use Rattle.lynx_keep.specs.declared.fault.KeepFault.{KeepFault}
-use Rattle.lynx_keep.specs.declared.fault.KeepFault.TheVariants.{Memory as WantOfMemory, Failed}
+use Rattle.lynx_keep.specs.Kept.{HasRisen, RestsOn, Terms}
 use Rattle.lynx_rules.specs.Answers.{Begins as AnsweredSo, answer}
 use Rattle.std.specs.Prelude.{Some}
 use Rattle.lynx_turn.specs.Held.{is_for, least_of}
@@ -113,6 +109,9 @@ pub record Lasts {K : Type 0} (terms : Terms K) (old : Serving K) (added : Optio
       (kept_of old.set (grown old.history added))
   pub kept : new.is_stopped ≡ false → terms.sound new.keeper
       → terms.leaves new.keeper (kept_of new.set new.history) (kept_of new.set new.history)
+  pub rests : new.is_stopped ≡ false
+      → RestsOn terms old.keeper new.keeper (kept_of old.set old.history)
+      (kept_of new.set new.history)
 
 -- what comes of a begin here
 abbrev pub begins_here : {K : Type 0} → Serving K → Request → ℕ → AnsweredSo

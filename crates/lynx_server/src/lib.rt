@@ -24,5 +24,6 @@ pub mod rebuilding;
 pub mod register;
 mod replay;
 pub mod server;
+mod settling;
 mod sorting;
 pub mod steps;

@@ -1,12 +1,13 @@
 //! The messages that a server owes: those that its entries send and nobody acknowledged.
-ghost use Rattle.std.specs.Prelude.{◌≡◌, IfOk};
-ghost use Rattle.lynx_server.specs.Owed.{Acknowledges, IsFirstOwed, is_acknowledged, owed_by};
+ghost use Rattle.std.specs.Prelude.{◌≡◌, IfOk, IfSome};
+ghost use Rattle.lynx_server.specs.Acts.{act_of};
+ghost use Rattle.lynx_server.specs.Owed.{Acknowledges, IsFirstOwed, IsSender, is_acknowledged, owed_by};
 
 use crate::marks::mark;
 use crate::server::Server;
 use lynx_entry::{Entry, Message};
 use lynx_keep::Keeper;
-use lynx_names::{ChainId, Memory};
+use lynx_names::{ChainId, Memory, ServerId};
 use lynx_rules::next_of;
 use std::alloc::Global;
 
@@ -49,6 +50,19 @@ impl<K: Keeper> Server<K> {
         if let Some(place) = self.register.place_of(chain, hop - 1) {
             mark(&mut self.acknowledged, place);
         }
+    }
+
+    /// The server that sends the message of that hop of the chain, where the hop ran here. Two
+    /// look-ups at most.
+    pub fn sender_of(&self, chain: &ChainId, hop: u8) -> Option<ServerId>
+        ensures { IfSome result (IsSender self.now.set hop (act_of chain.now hop
+            self.now.history)) }
+    {
+        let Some(Entry::Hop(ran)) = self.entry_of(*chain, hop) else {
+            return None;
+        };
+        let before = usize::from(hop.checked_sub(1)?);
+        Some(self.set().hop(ran.message.program, before)?.server)
     }
 
     fn is_acknowledged(&self, place: usize) -> bool

@@ -34,10 +34,10 @@ use std::marker::Model;
 #[derive(Drop)]
 pub struct Server<K: Keeper> {
     pub(crate) register: Register,
-    held: HeldBuffer,
-    keeper: K,
-    is_stopped: bool,
-    opened: u64,
+    pub(crate) held: HeldBuffer,
+    pub(crate) keeper: K,
+    pub(crate) is_stopped: bool,
+    pub(crate) opened: u64,
     /// By place of the history, with room for each entry. Past its end nothing was acknowledged.
     pub(crate) acknowledged: Vec<bool>,
 }

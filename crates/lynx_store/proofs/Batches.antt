@@ -9,7 +9,7 @@ use Rattle.sqlite_trees.proofs.ListLemmas.{all-append}
 use Rattle.lynx_cells.specs.Database.{ChangeSet, applied}
 use Rattle.lynx_entry.specs.declared.entry.Entry.{Entry}
 use Rattle.lynx_entry.specs.Entry.{History}
-use Rattle.lynx_keep.specs.Kept.{KeptState}
+use Rattle.lynx_keep.specs.Kept.{KeptState, with_entries}
 use Rattle.lynx_keep.specs.Stored.{form_of, HasForm}
 use Rattle.lynx_sql.specs.declared.acts.Acted.{Acted}
 use Rattle.lynx_sql.specs.declared.version.StoreVersion.{StoreVersion}
@@ -18,7 +18,6 @@ use Rattle.lynx_sql.specs.Acts.{AreNext, version_of, with_acts}
 use Rattle.lynx_sql.specs.Contents.{Contents, bodies_in, with_bodies}
 use Rattle.lynx_sql.specs.Steps.{Holds, Keeps}
 use Rattle.lynx_store.specs.Acts.{act_at, acted_of, acts_from, added, with_act}
-use Rattle.lynx_store.specs.Batches.{with_entries}
 use Rattle.lynx_store.specs.Stored.{bodies_of, contents_of, title_for, Owner, IsKept}
 use Rattle.lynx_store.proofs.ActLemmas.{Lies, acts-append, lie_from, lows}
 use Rattle.lynx_store.proofs.Kept.{bodies-append, length-bodies, version_kept}

@@ -2,7 +2,6 @@ pub mod Acts
 pub mod Premise
 pub mod Stored
 pub mod Salvages
-pub mod Batches
 pub mod Heading
 pub mod Laws
 pub mod Upgrades

@@ -1,11 +1,9 @@
 //! Many entries that are kept at once.
-ghost use Rattle.std.specs.Prelude.{◌≡◌, ◌+◌, ◌≤◌, ◌^◌, All, IfNone, IfOk, IfSome, IsErrOf, OnOk};
+ghost use Rattle.std.specs.Prelude.{◌≡◌, ◌+◌, ◌≤◌, ◌^◌, All, IfNone, IfOk, IfSome, OnOk};
 ghost use Rattle.std.specs.List.{AllByRecursion};
 ghost use Rattle.lynx_codec.specs.Entries.{IsEntryInRange};
-ghost use Rattle.lynx_keep.specs.Kept.{HasRisen, KeptState};
 ghost use Rattle.lynx_keep.specs.Stored.{HasForm};
 ghost use Rattle.lynx_sql.specs.Contents.{bodies_in};
-ghost use Rattle.lynx_store.specs.Batches.{with_entries};
 ghost use Rattle.lynx_store.specs.Stored.{bodies_of};
 
 use crate::acts::acts_from;
@@ -13,38 +11,10 @@ use crate::body::body_of;
 use crate::keeper::{SqlKeeper, cause_of};
 use lynx_cells::Changes;
 use lynx_entry::Entry;
-use lynx_keep::{Cause, KeepFault, Keeper};
+use lynx_keep::{BatchKeeper, Cause, KeepFault};
 use lynx_names::Memory;
 use lynx_sql::{Rising, write_entries};
 use std::alloc::Global;
-
-/// A keeper that can keep many entries at once.
-pub trait BatchKeeper: Keeper {
-    /// Keeps these entries, each of which has a byte form, and what all of them change of the
-    /// cells, all or nothing. A stop at any moment of the call leaves what was kept, or that with
-    /// all of these entries. Meanwhile it takes memory for the form of each.
-    fn commit_all(
-        &mut self,
-        alloc: Global,
-        entries: &[Entry],
-        changes: &Changes,
-    ) -> Result<(), KeepFault>
-        requires range { All IsEntryInRange entries.now }
-        ensures sound { Self.terms.sound self.new → Self.terms.sound self.old }
-        ensures ok { Self.terms.sound self.new
-            → OnOk result ((before : KeptState) → Self.terms.keeps self.old before
-            → Self.terms.keeps self.new (with_entries before entries.now changes.now)) }
-        ensures memory { Self.terms.sound self.new → IsErrOf result KeepFault.Memory
-            → (before : KeptState)
-            → Self.terms.keeps self.old before → Self.terms.keeps self.new before }
-        ensures stop { Self.terms.sound self.new → (before : KeptState)
-            → Self.terms.keeps self.old before
-            → Self.terms.leaves self.new before
-            (with_entries before entries.now changes.now) }
-        ensures failed { IsErrOf result KeepFault.Failed
-            → HasRisen (Self.terms.counted self.old) (Self.terms.counted self.new) }
-        ensures counts { Self.terms.counted self.old ≤ Self.terms.counted self.new };
-}
 
 /// The count of entries with so many more; None where it has more than 32 bits.
 fn count_with(count: u32, more: usize) -> Option<u32>

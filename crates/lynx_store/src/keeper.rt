@@ -161,6 +161,7 @@ impl<S: Rising> Keeper for SqlKeeper<S> {
       leaves = λ keeper one other. LeavesOneOf (state S.Store keeper.conn).may_leave
           (owner_in keeper.heading) one other;
       counted = λ keeper. keeper.faults;
+      rests = λ keeper settled kept. Unit {0};
     } };
 
     fn commit(&mut self, alloc: Global, entry: &Entry, changes: &Changes) -> Result<(), KeepFault> {

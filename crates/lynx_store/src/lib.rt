@@ -1,7 +1,6 @@
 //! A keeper of entries and cells in an SQLite database.
 #![tactic(auto)]
 
-pub use batch::BatchKeeper;
 pub use extending::{Extended, check_extend, extend_store};
 pub use fault::StoreFault;
 pub use heading::Heading;

@@ -11,8 +11,8 @@ ghost use Rattle.lynx_keep.specs.Kept.{KeptState};
 
 use lynx_cells::Changes;
 use lynx_entry::Entry;
-use lynx_keep::{Cause, KeepFault, Keeper, Loaded};
-use lynx_store::{BatchKeeper, SqlKeeper, StoreFault};
+use lynx_keep::{BatchKeeper, Cause, KeepFault, Keeper, Loaded};
+use lynx_store::{SqlKeeper, StoreFault};
 use sqlite::{FileStore, Files};
 use sqlite_disk::Disk;
 use std::alloc::Global;
@@ -77,6 +77,7 @@ impl<D: Disk> Keeper for FileKeeper<D> {
       leaves = λ keeper one other. LeavesOneOf (file_state keeper.keeper.conn).may_leave
           (owner_in keeper.keeper.heading) one other;
       counted = λ keeper. keeper.keeper.faults;
+      rests = λ keeper settled kept. Unit {0};
     } };
 
     fn commit(&mut self, alloc: Global, entry: &Entry, changes: &Changes) -> Result<(), KeepFault> {

@@ -4,7 +4,7 @@ use Rattle.lynx_cells.specs.Database.{ChangeSet, applied}
 use Rattle.lynx_set.specs.Set.{Set}
 use Rattle.lynx_entry.specs.declared.entry.Entry.{Entry}
 use Rattle.lynx_entry.specs.Entry.{History}
-use Rattle.lynx_keep.specs.Kept.{KeptState, HasRisen, Terms}
+use Rattle.lynx_keep.specs.Kept.{KeptState, HasRisen, RestsOn, Terms}
 use Rattle.lynx_keep.specs.declared.fault.KeepFault.{KeepFault}
 use Rattle.lynx_keep.specs.declared.fault.KeepFault.TheVariants.{Memory, Failed}
 use Rattle.lynx_rules.specs.Tables.{after_entry, tables_of}
@@ -15,6 +15,7 @@ pub record GoesTo {K : Type 0} (terms : Terms K) (old new : K) (before after : K
   pub sound_before : terms.sound new → terms.sound old
   pub keeps_after : terms.sound new → terms.keeps old before → terms.keeps new after
   pub counts : terms.counted old ≤ terms.counted new
+  pub rests : RestsOn terms old new before after
 
 -- a stop leaves one of the two, unless the keeper is as it was
 abbrev pub StopLeaves : {K : Type 0} → Terms K → K → K → KeptState → KeptState → Type 0

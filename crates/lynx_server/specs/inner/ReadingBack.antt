@@ -2,7 +2,6 @@
 use Rattle.std.specs.Prelude.{ℕ, Result, Ok, Err}
 use Rattle.lynx_set.specs.Set.{Set}
 use Rattle.lynx_keep.specs.Kept.{Terms}
-use Rattle.lynx_keep.specs.declared.fault.KeepFault.TheVariants as keep
 use Rattle.lynx_server.specs.declared.fault.OpenFault.{OpenFault}
 use Rattle.lynx_server.specs.Keeping.{kept_of}
 use Rattle.lynx_server.specs.inner.Repeating.{IsReplayed}

@@ -1,8 +1,6 @@
 -- A server that is asked for what entries did.
 use Rattle.std.specs.Prelude.{◌≡◌, ℕ, Bool, true, false, [], ◌∷◌, ◌++◌, List, Option}
 use Rattle.lynx_set.specs.Set.{Set}
-use Rattle.lynx_entry.specs.declared.answer.Answer.{Answer}
-use Rattle.lynx_entry.specs.declared.answer.Delivered.{Delivered}
 use Rattle.lynx_entry.specs.declared.entry.Entry.{Entry}
 use Rattle.lynx_entry.specs.declared.entry.Entry.TheVariants.{Begun, Refused, Hop}
 use Rattle.lynx_entry.specs.declared.message.Message.{Message}
@@ -23,6 +21,7 @@ unkept_terms = record {
   keeps = λ keeper kept. ⊥;
   leaves = λ keeper one other. ⊥;
   counted = λ keeper. 0;
+  rests = λ keeper settled kept. Unit {0};
 }
 
 -- what a server adds when it is asked for what the entry did

@@ -4,7 +4,7 @@ use Rattle.lynx_entry.specs.declared.answer.Answer.{Answer}
 use Rattle.lynx_entry.specs.declared.answer.Delivered.{Delivered}
 use Rattle.lynx_entry.specs.declared.answer.Delivered.TheVariants.{Done}
 use Rattle.lynx_hops.specs.Meaning.{meaning}
-use Rattle.lynx_rules.specs.Deliveries.{Delivers as DeliveredSo, delivery, done_by}
+use Rattle.lynx_rules.specs.Deliveries.{Delivers as DeliveredSo, done_by}
 use Rattle.lynx_rules.specs.Tables.{tables_of}
 use Rattle.lynx_server.specs.inner.Hops.{IsDue}
 use Rattle.lynx_entry.specs.declared.entry.Entry.{Entry}

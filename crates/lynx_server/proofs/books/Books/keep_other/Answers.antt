@@ -23,12 +23,12 @@ invariant_of-self-2 g c =
 pub returns-clause-commits : goal.returns-clause-commits
 returns-clause-commits g c =
     committed g.K.Keeper.terms c.args.self.now.set c.args.self.now.history c.args.entry c.args.changes _ _ c.requires.changes
-    c.commit.ensures.sound c.commit.ensures.counts (λ sound before keeps. c.in_default.ensures.ok sound before keeps) c.commit.ensures.stop
+    c.commit.ensures.sound c.commit.ensures.counts (λ before. c.in_default.ensures.rests before) (λ sound before keeps. c.in_default.ensures.ok sound before keeps) c.commit.ensures.stop
 
 pub returns-in-Err-clause-commits : goal.returns-in-Err-clause-commits
 returns-in-Err-clause-commits g c =
     not_committed g.K.Keeper.terms c.args.self.now.set c.args.self.now.history c.args.entry c.args.changes _ _ c.in-Err.fault c.requires.changes
-    c.commit.ensures.sound c.commit.ensures.counts c.in-Err.ensures.memory c.in-Err.ensures.failed c.commit.ensures.stop
+    c.commit.ensures.sound c.commit.ensures.counts c.in-Err.ensures.rests_still c.in-Err.ensures.memory c.in-Err.ensures.failed c.commit.ensures.stop
 
 pub commit-requires : goal.commit-requires
 commit-requires g c = record {

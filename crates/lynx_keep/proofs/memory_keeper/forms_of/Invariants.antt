@@ -1,6 +1,6 @@
 use Rattle.std.proofs.Common.{◌≡◌, take}
 use Rattle.lynx_keep.specs.Stored.{AreStored, entries_in}
-use Rattle.lynx_keep.proofs.memory_keeper.MemoryKeeper.keeping.Given as goal
+use Rattle.lynx_keep.proofs.memory_keeper.forms_of.Given as goal
 
 -- the forms of the entries so far
 abbrev pub invariant-loop-entry : goal.invariant-loop-entry

@@ -1,5 +1,5 @@
 -- Talks that a fault stopped.
-use Rattle.std.proofs.Common.{◌≡◌, ℕ, List, [], ◌++◌, Option, None, Ok, Err, refl, sym, ◌∙◌, subst, inl, inr}
+use Rattle.std.proofs.Common.{◌≡◌, ℕ, List, [], ◌++◌, Option, None, Ok, Err, refl, sym, ◌∙◌, subst, inl, inr, arith}
 use Rattle.std.specs.Prelude.{Result, IfErr}
 use Rattle.std.specs.Io.KnownBytes.{Appends}
 use Rattle.std.proofs.KnownBytes.{Appends-nil}
@@ -10,9 +10,9 @@ use Rattle.lynx_codec.specs.Form.{form}
 use Rattle.lynx_codec.specs.Ranges.{IsItem}
 use Rattle.lynx_port.specs.declared.fault.PortFault.{PortFault}
 use Rattle.lynx_port.specs.declared.fault.PortFault.TheVariants as faults
-use Rattle.lynx_port.specs.Desks.{Begins, Looks, Replies}
+use Rattle.lynx_port.specs.Desks.{Begins, Looks, Answering, Replies}
 use Rattle.lynx_port.specs.Talks.{Answered}
-use Rattle.lynx_port.specs.Exits.{IsBad, BrokeOff, Stops, Stopped}
+use Rattle.lynx_port.specs.Exits.{IsBad, Unwritten, BrokeOff, Stops, Stopped}
 use Rattle.lynx_port.specs.inner.Steps.{CutsShort, NoFrame, Refuses, IsReply}
 use Rattle.lynx_port.proofs.TalkLemmas.{talked_none, talked_join, go_on_join}
 
@@ -103,6 +103,10 @@ pub stopped_refused : {D : Type 0} (begins : Begins D) (looks : Looks D) (first 
 stopped_refused begins looks first last wrote frame fault is_item refuses more =
     stopped_first begins looks first last wrote wrote (form frame ++ more) [] ⊥ fault (Appends-nil wrote) (refused_stops begins looks first last frame more fault is_item refuses)
 
+-- nothing more was asked
+unwritten_none : {D : Type 0} (replies : Answering D) (desk : D) (left : List ℕ) → Unwritten replies desk desk left
+unwritten_none replies desk left = record { requests = []; given = []; more = left; talks = refl; are_items = tt; stand = refl; few = omega arith }
+
 -- the frame's answer was not written whole
 pub stopped_cut : {D : Type 0} (begins : Begins D) (looks : Looks D) (first last : D) (unwritten wrote : Option (List ℕ)) (frame : Item) (bytes : List ℕ) (fault : PortFault)
     → IsItem frame → IsReply (Replies begins looks) first last frame bytes → CutsShort unwritten wrote bytes fault
@@ -112,11 +116,13 @@ stopped_cut begins looks first last unwritten wrote frame bytes fault is_item re
       frame = frame;
       reply = reply.reply;
       stands = (more, is_item, refl);
+      next = last;
       replied = reply.replied;
       is_reply = reply.is_reply;
       rest = cut.1.0;
       cut = sym reply.bytes_are ∙ cut.1.2.cut;
       missing = cut.1.1;
+      behind = unwritten_none (Replies begins looks) last more;
     } in
     let at : PortFault → Type 0 = λ fault. Stopped begins looks first last unwritten wrote (form frame ++ more) ⊥ fault in
     elim cut.0 [

@@ -12,7 +12,7 @@ use Rattle.lynx_port.specs.Desks.{Answering}
 use Rattle.lynx_port.specs.Talks.{Talks, Talked, Answered, AreAt, GoOn, ended_by}
 use Rattle.lynx_port.specs.inner.Steps.{WritesReply}
 
-all_join : {X : Type 0} (P : X → Type 0) (xs ys : List X) → AllByRecursion P xs → AllByRecursion P ys → AllByRecursion P (xs ++ ys)
+pub all_join : {X : Type 0} (P : X → Type 0) (xs ys : List X) → AllByRecursion P xs → AllByRecursion P ys → AllByRecursion P (xs ++ ys)
 all_join P [] ys a b = b
 all_join P (x ∷ xs) ys a b = (a.0, all_join P xs ys a.1 b)
 
@@ -24,7 +24,7 @@ talks_join replies first middle last (frame ∷ frames) more [] others a b = abs
 talks_join replies first middle last (frame ∷ frames) more (reply ∷ given) others a b =
     (a.0, a.1, talks_join replies a.0 middle last frames more given others a.2 b)
 
-forms_join : (frames more : List Item) (rest : List ℕ) → flat_map form frames ++ (flat_map form more ++ rest) ≡ flat_map form (frames ++ more) ++ rest
+pub forms_join : (frames more : List Item) (rest : List ℕ) → flat_map form frames ++ (flat_map form more ++ rest) ≡ flat_map form (frames ++ more) ++ rest
 forms_join frames more rest =
     sym (append_assoc (flat_map form frames) (flat_map form more) rest) ∙ ap (λ forms. forms ++ rest) (sym (flat_map-append form frames more))
 
@@ -106,12 +106,12 @@ answered_more replies first middle last unwritten wrote longer bytes feed left b
     (subst (λ feed. Answered replies first middle unwritten wrote bytes feed before count None) stood a)
     (answered_one replies middle last wrote longer left count frame is_item w)
 
--- a frame that doesn't end the talk
-pub none_of : (ended : Option Bool) → is_some ended ≡ false → ended ≡ None
+-- a frame that doesn't end the talk, or no frame at all
+pub none_of : {T : Type 0} (found : Option T) → is_some found ≡ false → found ≡ None
 none_of None same = refl
-none_of (Some shut) same = absurd cc
+none_of (Some x) same = absurd cc
 
-form_some : (item : Item) → 1 ≤ length (form item)
+pub form_some : (item : Item) → 1 ≤ length (form item)
 unfolding form
 form_some item = omega arith
 

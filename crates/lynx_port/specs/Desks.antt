@@ -1,5 +1,5 @@
 -- What a desk may answer, each from one state of it to the next.
-use Rattle.std.specs.Prelude.{◌≡◌, ℕ, Result, Ok}
+use Rattle.std.specs.Prelude.{◌≡◌, ℕ, List, [], ◌∷◌, Result, Ok}
 use Rattle.lynx_names.specs.declared.chain.ChainId.{ChainId}
 use Rattle.lynx_names.specs.declared.memory.Memory.{Memory}
 use Rattle.lynx_entry.specs.declared.request.Request.{Request}
@@ -11,6 +11,14 @@ use Rattle.lynx_codec.specs.declared.item.Item.TheVariants as items
 -- to a request
 abbrev pub Begins : Type 0 → Type 1
 Begins D = D → Request → Answer → D → Type 0
+
+-- to requests in order, from the desk's first state to its last
+abbrev pub BeginsAll : {D : Type 0} → Begins D → D → List Request → List Answer → D → Type 0
+BeginsAll begins first [] [] last = last ≡ first
+BeginsAll begins first [] (answer ∷ answers) last = ⊥
+BeginsAll begins first (request ∷ requests) [] last = ⊥
+BeginsAll {D} begins first (request ∷ requests) (answer ∷ answers) last =
+    (next : D) × begins first request answer next × BeginsAll begins next requests answers last
 
 -- to a look at that hop of the chain
 abbrev pub Looks : Type 0 → Type 1

@@ -1,6 +1,8 @@
 -- How the serving of a client ends.
-use Rattle.std.specs.Prelude.{◌≡◌, ◌≢◌, ℕ, ◌++◌, Bool, false, List, [], Option, Some, None, Ok, Err, ◌⊎◌}
+use Rattle.std.specs.Prelude.{◌≡◌, ◌≢◌, ℕ, ◌<◌, ◌++◌, Bool, false, List, [], map, length, Option, Some, None, Ok, Err, ◌⊎◌}
+use Rattle.std.specs.List.{flat_map, AllByRecursion}
 use Rattle.std.specs.Io.KnownBytes.{Consumes, IsAtEnd}
+use Rattle.lynx_entry.specs.declared.request.Request.{Request}
 use Rattle.lynx_codec.specs.declared.fault.DecodeFault.{DecodeFault}
 use Rattle.lynx_codec.specs.declared.fault.DecodeFault.TheVariants as decoding
 use Rattle.lynx_codec.specs.declared.item.Item.{Item}
@@ -8,11 +10,12 @@ use Rattle.lynx_codec.specs.declared.item.Item.TheVariants as items
 use Rattle.lynx_codec.specs.Form.{form}
 use Rattle.lynx_codec.specs.Front.{front}
 use Rattle.lynx_codec.specs.Ranges.{IsItem}
+use Rattle.lynx_port.specs.declared.limits.TheConstants.{MAX_TOGETHER}
 use Rattle.lynx_port.specs.declared.fault.PortFault.{PortFault}
 use Rattle.lynx_port.specs.declared.fault.PortFault.TheVariants as faults
 use Rattle.lynx_port.specs.declared.serving.Served.{Served}
 use Rattle.lynx_port.specs.Desks.{Begins, Looks, Answering, Replies}
-use Rattle.lynx_port.specs.Talks.{Talked, Answered, GoOn}
+use Rattle.lynx_port.specs.Talks.{Talks, Talked, Answered, GoOn}
 
 -- the form of that frame stands next
 abbrev pub StandsNext : List ℕ → Item → Type 0
@@ -38,17 +41,31 @@ IsBad decoding.Memory left has_ended = ⊥
 IsBad decoding.Short left has_ended = (front left ≡ Ok None) × (left ≢ []) × has_ended
 IsBad fault left has_ended = front left ≡ Err fault
 
--- The frame that stands next was answered, and its answer was not written whole.
+-- The requests that stand next were answered, and no byte of the answers was written.
+pub record Unwritten {D : Type 0} (replies : Answering D) (first last : D)
+    (left : List ℕ) : Type 0 where
+  pub requests : List Request
+  pub given : List Item
+  pub more : List ℕ
+  pub talks : Talks replies first (map items.Request requests) given last
+  pub are_items : AllByRecursion IsItem (map items.Request requests)
+  pub stand : left ≡ flat_map form (map items.Request requests) ++ more
+  pub few : length requests < MAX_TOGETHER
+
+-- The frame that stands next was answered, and its answer was not written whole. Requests behind
+-- it may have been asked together with it.
 pub record BrokeOff {D : Type 0} (replies : Answering D) (first last : D)
     (left part : List ℕ) : Type 0 where
   pub frame : Item
   pub reply : Item
   pub stands : StandsNext left frame
-  pub replied : replies first frame reply last
+  pub next : D
+  pub replied : replies first frame reply next
   pub is_reply : IsItem reply
   pub rest : List ℕ
   pub cut : form reply ≡ part ++ rest
   pub missing : rest ≢ []
+  pub behind : Unwritten replies next last stands.0
 
 -- nothing more was asked, and nothing more was written
 abbrev pub Stays : {D : Type 0} → D → D → List ℕ → Type 0

@@ -4,9 +4,9 @@ use lynx_names::{ChainId, Memory};
 
 /// Who answers a client: a session with a cluster, say. Whatever it answers has a byte form.
 pub trait Desk {
-    ghost use Rattle.std.specs.Prelude.{◌≡◌, IfOk};
+    ghost use Rattle.std.specs.Prelude.{◌≡◌, ◌≤◌, [], length, All, IfOk, vec_capacity};
     ghost use Rattle.lynx_codec.specs.Ranges.{IsAnswerInRange, IsLookedInRange};
-    ghost use Rattle.lynx_port.specs.Desks.{Begins, Looks};
+    ghost use Rattle.lynx_port.specs.Desks.{Begins, BeginsAll, Looks};
 
     // What a begin may answer, and what a look may, each from one state of the desk to the next.
     ghost begins: { Begins Self };
@@ -18,6 +18,20 @@ pub trait Desk {
     fn begin(&mut self, request: Request) -> Answer
         ensures begins { begins self.old request result self.new }
         ensures range { IsAnswerInRange result };
+
+    /// Answers these requests in order, as `begin` does each of them: each answer is put behind
+    /// those before it, into a list that has room for all.
+    fn begin_all(&mut self, requests: Vec<Request>, answers: &mut Vec<Answer>)
+        requires empty { answers.old.items ≡ [] }
+        requires room { length requests.items ≤ vec_capacity answers.old }
+        ensures begins { BeginsAll begins self.old requests.items answers.new.items self.new }
+        ensures range { All IsAnswerInRange answers.new.items }
+    {
+        for request in requests {
+            let answer = self.begin(request);
+            answers.push(answer).unwrap();
+        }
+    }
 
     /// Looks for the entry of that hop of the chain. Want of memory has no form: it ends the
     /// connection.

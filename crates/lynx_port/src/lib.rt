@@ -12,4 +12,5 @@ pub mod fault;
 pub mod limits;
 mod replying;
 pub mod serving;
+mod together;
 mod writing;

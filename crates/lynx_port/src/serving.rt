@@ -41,11 +41,16 @@ fn end_of_input(feed: Feed, answers: u64) -> Result<Served, PortFault>
 /// Bye; what stands behind them is not read as items, though some of it may have been taken from
 /// the reader.
 ///
+/// Requests that stand behind one another, up to 64, are asked together, and their answers are
+/// written together. So where a write fails, up to 63 may have been asked behind the one whose
+/// answer was not written whole.
+///
 /// A fault comes where the bytes have it: all items before it were answered. After 1,000,000 turns
 /// it is Turns, so the call ends if those of the reader, the writer and the desk do. Nothing is
 /// flushed: the writer is to pass on what it takes. Memory is taken for what was read and isn't
-/// answered yet, at most an item that isn't whole and a read, and for one answer, before the desk
-/// is asked for it.
+/// answered yet, at most an item that isn't whole and a read, for up to 64 requests that are asked
+/// together, and for the answers to them, before the desk is asked. A request that is alone takes
+/// memory for one answer.
 pub fn serve<R: Read, W: Write, D: Desk>(
     alloc: Global,
     reader: &mut R,

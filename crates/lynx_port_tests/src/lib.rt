@@ -17,6 +17,8 @@ mod streams;
 #[cfg(test)]
 mod talk;
 #[cfg(test)]
+mod together;
+#[cfg(test)]
 mod turns;
 #[cfg(test)]
 mod worked;

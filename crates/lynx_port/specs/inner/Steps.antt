@@ -1,13 +1,16 @@
 -- One step of a talk: a form that is written, a frame that is read, a frame that is answered.
-use Rattle.std.specs.Prelude.{◌≡◌, ◌≢◌, ℕ, ◌++◌, List, [], Option, None, ◌⊎◌}
+use Rattle.std.specs.Prelude.{◌≡◌, ◌≢◌, ℕ, ◌+◌, ◌≤◌, ◌++◌, List, [], map, length, Option, Some, None, IfSome, ◌⊎◌}
+use Rattle.std.specs.List.{flat_map, AllByRecursion}
 use Rattle.std.specs.Io.KnownBytes.{Appends, Consumes}
+use Rattle.lynx_entry.specs.declared.request.Request.{Request}
 use Rattle.lynx_codec.specs.declared.item.Item.{Item}
+use Rattle.lynx_codec.specs.declared.item.Item.TheVariants as items
 use Rattle.lynx_codec.specs.Form.{form}
 use Rattle.lynx_codec.specs.Ranges.{IsItem}
 use Rattle.lynx_port.specs.declared.fault.PortFault.{PortFault}
 use Rattle.lynx_port.specs.declared.fault.PortFault.TheVariants as faults
 use Rattle.lynx_port.specs.Desks.{Looks, Answering}
-use Rattle.lynx_port.specs.Talks.{Answered}
+use Rattle.lynx_port.specs.Talks.{Talks, Answered}
 use Rattle.lynx_port.specs.Exits.{IsUnasked, LooksInVain, IsBad}
 
 -- A front of the bytes is written, and the rest is not.
@@ -47,6 +50,46 @@ abbrev pub WritesReply : {D : Type 0} → Answering D → D → D → Option (Li
     → Option (List ℕ) → Item → Type 0
 WritesReply replies first last unwritten wrote frame =
     (bytes : List ℕ) × IsReply replies first last frame bytes × Appends unwritten wrote bytes
+
+-- requests as frames
+abbrev pub as_frames : List Request → List Item
+as_frames requests = map items.Request requests
+
+-- the form of a frame, if there is one
+abbrev pub form_if : Option Item → List ℕ
+form_if None = []
+form_if (Some frame) = form frame
+
+-- From the front of the bytes requests were taken, and the frame behind them if there is one.
+pub record Takes (bytes : List ℕ) (requests : List Request) (other : Option Item)
+    (left : List ℕ) : Type 0 where
+  pub are_items : AllByRecursion IsItem (as_frames requests)
+  pub is_item : IfSome other IsItem
+  pub stood : bytes ≡ flat_map form (as_frames requests) ++ (form_if other ++ left)
+
+-- Frames were answered, none of which ends the talk, and the one behind them was taken if there is
+-- one. The count grew by no more than the bytes that were taken.
+pub record GoesOn {D : Type 0} (replies : Answering D) (first last : D)
+    (unwritten wrote : Option (List ℕ)) (bytes : List ℕ) (other : Option Item) (left : List ℕ)
+    (before count : ℕ) : Type 0 where
+  pub answered :
+      Answered replies first last unwritten wrote bytes (form_if other ++ left) before count None
+  pub is_item : IfSome other IsItem
+  pub room : count + length (form_if other ++ left) ≤ before + length bytes
+
+-- The desk answered frames in order, and these bytes are the forms of its answers.
+pub record AreReplies {D : Type 0} (replies : Answering D) (first last : D) (frames : List Item)
+    (bytes : List ℕ) : Type 0 where
+  pub given : List Item
+  pub talks : Talks replies first frames given last
+  pub are_replies : AllByRecursion IsItem given
+  pub bytes_are : bytes ≡ flat_map form given
+
+-- the forms of the frames' answers were written
+abbrev pub WritesReplies : {D : Type 0} → Answering D → D → D → Option (List ℕ)
+    → Option (List ℕ) → List Item → Type 0
+WritesReplies replies first last unwritten wrote frames =
+    (bytes : List ℕ) × AreReplies replies first last frames bytes × Appends unwritten wrote bytes
 
 -- A talk that goes on: of the bytes that were read these are left behind the frames that were
 -- answered.

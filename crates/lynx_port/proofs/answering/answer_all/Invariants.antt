@@ -1,4 +1,4 @@
-use Rattle.std.proofs.Common.{◌≡◌, ◌+◌, ◌≤◌, length, None}
+use Rattle.std.proofs.Common.{◌+◌, ◌≤◌, length, None}
 use Rattle.lynx_port.specs.Desks.{Replies}
 use Rattle.lynx_port.specs.Talks.{Answered}
 use Rattle.lynx_port.proofs.answering.answer_all.Given as goal
@@ -6,7 +6,6 @@ use Rattle.lynx_port.proofs.answering.answer_all.Given as goal
 abbrev pub invariant-loop-frame : goal.invariant-loop-frame
 invariant-loop-frame g l = record {
   answered : Answered (Replies g.D.Desk.begins g.D.Desk.looks) l.fn.desk l.desk (g.W.Write.contents l.fn.writer) (g.W.Write.contents l.writer) l.fn.feed.rest l.feed.rest l.fn.answers l.answers None;
-  is_open : l.feed.failed ≡ None;
   turns : l.turns ≤ l.fn.turns;
   room : l.answers + length l.feed.rest ≤ l.fn.answers + length l.fn.feed.rest;
 }

@@ -6,7 +6,7 @@ use clap::{ArgMatches, Error};
 use lynx_args::{CommandFault, Job, command, job_of, wants_hints};
 use lynx_cli::{Fault, Hints, do_job};
 use lynx_cluster::Host;
-use lynx_store::BatchKeeper;
+use lynx_keep::BatchKeeper;
 use lynx_store_files::{Copies, Databases, Files, StoreCopy, Stores};
 use sqlite::{Connection, File, FileStore};
 use std::io::{self, IsTerminal};

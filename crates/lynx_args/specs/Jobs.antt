@@ -139,6 +139,7 @@ pub record AreServeFlags (rows : List Row) (flags : ServeFlags) : Type 0 where
   pub status : IsPort (codes "status") rows flags.status
   pub copy : option_map (λ own. own.now) flags.copy ≡ first_of (codes "copy") rows
   pub log : IsFlag (codes "log") rows flags.log
+  pub sync_each : IsFlag (codes "sync-each") rows flags.sync_each
 
 -- a run of the files and the folder that were found, with the flags that were
 pub record RunsFound (rows : List Row) (job : Result Job CommandFault) : Type 0 where

@@ -51,6 +51,8 @@ pub struct ServeFlags<'a> {
     pub copy: Option<&'a str>,
     /// What befalls it is told on standard error, a line for each event.
     pub log: bool,
+    /// Each step has a transaction of its own.
+    pub sync_each: bool,
 }
 
 /// What the words ask for, with files as they were named.

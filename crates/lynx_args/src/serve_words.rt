@@ -20,6 +20,9 @@ const COPY: &str = "copy";
 /// The option by which a service tells what befalls it.
 const LOG: &str = "log";
 
+/// The option by which each step of a service has a transaction of its own.
+const SYNC_EACH: &str = "sync-each";
+
 pub(crate) const SERVE: CommandText = CommandText {
     name: "serve",
     about: "Serve clients at a port, over the stores of a folder, until one asks for the end",
@@ -50,6 +53,11 @@ pub(crate) const SERVE: CommandText = CommandText {
             name: LOG,
             place: Place::Flag,
             help: "Tell on standard error what befalls the service, a line with its time for each event",
+        },
+        Word {
+            name: SYNC_EACH,
+            place: Place::Flag,
+            help: "Give each step a transaction of its own, and so a sync; without it those that wait at a server share one.\nNo answer is told before what it stands on is on the disk, either way",
         },
         HINTS_FLAG,
     ],
@@ -101,6 +109,7 @@ pub(crate) fn serve_flags_of<'a>(words: &ArgMatches<'a>) -> ServeFlags<'a>
         status: status_of(words),
         copy: found_at(words, COPY),
         log: flag_at(words, LOG),
+        sync_each: flag_at(words, SYNC_EACH),
     }
 }
 

@@ -8,7 +8,7 @@ use crate::starting::start;
 use crate::texts::{last_hop, payment, seed};
 use lynx_cluster::{CloseFault, Closed, Front, Gate, Host, Session};
 use lynx_codec::Looked;
-use lynx_keep::{Keeper, MemoryKeeper};
+use lynx_keep::{BatchKeeper, MemoryKeeper};
 use lynx_names::ChainId;
 use lynx_order::{Explained, explain};
 use lynx_world::World;
@@ -94,7 +94,7 @@ fn amount(load: Load) -> u64
 }
 
 /// Fills the account that each server pays from.
-fn seed_all<R: Wait, K: Keeper, G: Gate>(
+fn seed_all<R: Wait, K: BatchKeeper, G: Gate>(
     rt: &R,
     alloc: Global,
     front: &Front<K, G>,
@@ -110,7 +110,7 @@ fn seed_all<R: Wait, K: Keeper, G: Gate>(
 }
 
 /// Has the clients make their payments, each in a thread of its own.
-fn pay<R: Threads + Wait + Sync, K: Keeper + Send + Drop, G: Gate + Send + Sync + Drop>(
+fn pay<R: Threads + Wait + Sync, K: BatchKeeper + Send + Drop, G: Gate + Send + Sync + Drop>(
     rt: &R,
     alloc: Global,
     front: &Front<K, G>,
@@ -139,7 +139,7 @@ fn collect(payers: Vec<Payer>, sessions: &mut Vec<Session>) -> Result<u64, LoadF
 }
 
 /// Looks at that hop until it is there.
-fn await_hop<R: Wait + Clock, K: Keeper, G: Gate>(
+fn await_hop<R: Wait + Clock, K: BatchKeeper, G: Gate>(
     rt: &R,
     alloc: Global,
     front: &Front<K, G>,
@@ -157,7 +157,7 @@ fn await_hop<R: Wait + Clock, K: Keeper, G: Gate>(
 }
 
 /// Begins a last payment from that server to the next.
-fn pay_last<R: Wait, K: Keeper, G: Gate>(
+fn pay_last<R: Wait, K: BatchKeeper, G: Gate>(
     rt: &R,
     alloc: Global,
     front: &Front<K, G>,
@@ -171,7 +171,7 @@ fn pay_last<R: Wait, K: Keeper, G: Gate>(
 }
 
 /// Begins a last payment from each server to the next.
-fn pay_last_of_all<R: Wait, K: Keeper, G: Gate>(
+fn pay_last_of_all<R: Wait, K: BatchKeeper, G: Gate>(
     rt: &R,
     alloc: Global,
     front: &Front<K, G>,
@@ -186,7 +186,7 @@ fn pay_last_of_all<R: Wait, K: Keeper, G: Gate>(
 }
 
 /// Looks at that hop of each of these chains until it is there. When that was.
-fn await_chains<R: Wait + Clock, K: Keeper, G: Gate>(
+fn await_chains<R: Wait + Clock, K: BatchKeeper, G: Gate>(
     rt: &R,
     alloc: Global,
     front: &Front<K, G>,
@@ -203,7 +203,7 @@ fn await_chains<R: Wait + Clock, K: Keeper, G: Gate>(
 /// Begins a last payment from each server, and waits until these are done. Each is the last of its
 /// origin, and the next server runs the hops of one origin in its order, so then all are done. When
 /// that was seen.
-fn await_all<R: Wait + Clock, K: Keeper, G: Gate>(
+fn await_all<R: Wait + Clock, K: BatchKeeper, G: Gate>(
     rt: &R,
     alloc: Global,
     front: &Front<K, G>,
@@ -218,7 +218,7 @@ fn await_all<R: Wait + Clock, K: Keeper, G: Gate>(
 /// Has the clients make their payments: when they began, and when all had ended.
 fn pay_timed<
     R: Threads + Wait + Clock + Sync,
-    K: Keeper + Send + Drop,
+    K: BatchKeeper + Send + Drop,
     G: Gate + Send + Sync + Drop,
 >(
     rt: &R,
@@ -234,7 +234,7 @@ fn pay_timed<
 /// Seeds, pays, and waits until all is done. The sessions of the clients are added to the list.
 fn carry_by<
     R: Threads + Wait + Clock + Sync,
-    K: Keeper + Send + Drop,
+    K: BatchKeeper + Send + Drop,
     G: Gate + Send + Sync + Drop,
 >(
     rt: &R,
@@ -263,7 +263,11 @@ fn carry_by<
 
 /// Carries the load by clients with sessions of their own, and one more. All of these are added to
 /// the list, where nothing fails.
-fn carry<R: Threads + Wait + Clock + Sync, K: Keeper + Send + Drop, G: Gate + Send + Sync + Drop>(
+fn carry<
+    R: Threads + Wait + Clock + Sync,
+    K: BatchKeeper + Send + Drop,
+    G: Gate + Send + Sync + Drop,
+>(
     rt: &R,
     alloc: Global,
     front: &Front<K, G>,

@@ -6,7 +6,7 @@ use crate::load_fault::LoadFault;
 use crate::texts::{payment, payment_within};
 use lynx_cluster::{Front, Gate, Session};
 use lynx_entry::Answer;
-use lynx_keep::Keeper;
+use lynx_keep::BatchKeeper;
 use lynx_names::ChainId;
 use std::alloc::Global;
 use std::sync::Wait;
@@ -90,7 +90,7 @@ pub(crate) struct Payer {
 
 impl Payer {
     /// Makes one payment.
-    fn pay<R: Wait, K: Keeper, G: Gate>(
+    fn pay<R: Wait, K: BatchKeeper, G: Gate>(
         &mut self,
         rt: &R,
         alloc: Global,
@@ -109,7 +109,7 @@ impl Payer {
     }
 
     /// Makes its payments, and counts those that began.
-    fn try_pay_all<R: Wait, K: Keeper, G: Gate>(
+    fn try_pay_all<R: Wait, K: BatchKeeper, G: Gate>(
         &mut self,
         rt: &R,
         alloc: Global,
@@ -124,7 +124,7 @@ impl Payer {
     }
 
     /// Makes its payments.
-    pub(crate) fn pay_all<R: Wait, K: Keeper, G: Gate>(
+    pub(crate) fn pay_all<R: Wait, K: BatchKeeper, G: Gate>(
         &mut self,
         rt: &R,
         alloc: Global,
@@ -140,7 +140,7 @@ impl Payer {
 }
 
 /// The clients of a load, which share its payments.
-pub(crate) fn payers<R: Wait, K: Keeper, G: Gate>(
+pub(crate) fn payers<R: Wait, K: BatchKeeper, G: Gate>(
     rt: &R,
     alloc: Global,
     front: &Front<K, G>,

@@ -5,6 +5,7 @@ use lynx_names::{Memory, ServerId};
 use std::alloc::Global;
 use std::sync::Arc;
 use std::sync::atomic::{AtomicU64, Ordering};
+use std::time::Instant;
 
 /// Lets every step pass, and counts the messages whose hop had been done already when they came.
 #[derive(Drop)]
@@ -24,7 +25,7 @@ impl Gate for Repeats {
 
     fn leave(&self, _server: ServerId, _passage: Passage) {}
 
-    fn delivered(&self, _server: ServerId, delivered: &Delivered) {
+    fn delivered(&self, _server: ServerId, delivered: &Delivered, _since: Option<Instant>) {
         if matches!(delivered, Delivered::Repeat { .. }) {
             self.count.fetch_add(1, Ordering::SeqCst);
         }

@@ -17,10 +17,9 @@ use crate::texts::{chart_script, check_set, draw_set, run_input, run_script, sam
 use lynx_args::{INPUT, Job, RunFlags, SampleFlags};
 use lynx_cluster::Host;
 use lynx_draw::Extent;
-use lynx_keep::Keeper;
+use lynx_keep::{BatchKeeper, Keeper};
 use lynx_report::{CheckOptions, DrawOptions};
 use lynx_sql::Rising;
-use lynx_store::BatchKeeper;
 use lynx_store_files::{Copies, Databases, StoreCopy, Stores};
 use sqlite::Connection;
 use std::io;

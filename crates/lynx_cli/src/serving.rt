@@ -13,13 +13,13 @@ use crate::hints::{Hints, Named};
 use crate::reading::text_of;
 use crate::texts::{DONE, OFFENDING};
 use lynx_args::{ServeFlags, VERSION};
-use lynx_cluster::Host;
+use lynx_cluster::{Host, Pace};
+use lynx_keep::BatchKeeper;
 use lynx_notice::Board;
 use lynx_order::Explained;
 use lynx_service::{Log, Progress, ServeFault, Service, StatusPort, serve_stores};
 use lynx_set::ChainSet;
 use lynx_sql::Rising;
-use lynx_store::BatchKeeper;
 use lynx_store_files::{Copies, Stores};
 use sqlite::Connection;
 use std::alloc::Global;
@@ -82,7 +82,17 @@ fn service_of<'a, 'b>(
         port: place.port,
         status: status_port(host, flags.status)?,
         copy: flags.copy,
+        pace: pace_of(flags),
     })
+}
+
+/// How many steps of a server share a transaction of its store.
+fn pace_of(flags: ServeFlags<'_>) -> Pace {
+    if flags.sync_each {
+        Pace::Each
+    } else {
+        Pace::Shared
+    }
 }
 
 /// Notes why nobody can listen at a port of the service, where that is so.

@@ -230,3 +230,10 @@ notes_done old new told telling to chain hop given leaves (inl same) done = subs
 notes_done old new told telling to chain hop given leaves (inr more) done =
     subst (AreDone new) (sym more.1.2)
     (one_more new told (record { to = more.1.0; chain = chain; hop = hop }) (leaves.there more.0) (still_done old new told leaves.grows done))
+
+-- what is told once it is settled is of what is settled
+pub settled_done : (is_settled : Bool) (history front : History) (before after : List Receipt) → AreDone history before → (is_settled ≡ true → front ≡ history) →
+    (is_settled ≡ true → after ≡ before) → (is_settled ≡ false → after ≡ []) → AreDone front after
+settled_done true history front before after done whole same none =
+    subst (λ (h : History). AreDone h after) (sym (whole refl)) (subst (λ (receipts : List Receipt). AreDone history receipts) (sym (same refl)) done)
+settled_done false history front before after done whole same none = subst (λ (receipts : List Receipt). AreDone front receipts) (sym (none refl)) tt

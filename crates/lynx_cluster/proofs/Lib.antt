@@ -7,3 +7,4 @@ pub mod Takings
 pub mod Dones
 pub mod Owings
 pub mod Settlings
+pub mod Hearing

@@ -4,3 +4,4 @@ pub mod Serving
 pub mod Opening
 pub mod Closing
 pub mod Settling
+pub mod Asking

@@ -1,19 +1,37 @@
-//! A begin of a session on the state of a server.
-ghost use Rattle.std.specs.Prelude.{◌≡◌, ◌++◌, max, true, false, IfOk, OnErr};
+//! A begin of a session on the state of a server, and its answer once it is settled.
+ghost use Rattle.std.specs.Prelude.{◌≡◌, ◌++◌, ◌<◌, ◌≤◌, max, true, false, IfOk, OnErr, length};
 ghost use Rattle.lynx_weave.specs.Told.{greatest_told};
+ghost use Rattle.lynx_keep.specs.HeldBack.{held_terms};
 ghost use Rattle.lynx_server.specs.Serving.{Begins, Lasts, begins_here};
 ghost use Rattle.lynx_server.specs.History.{IsLawfulHistory};
 ghost use Rattle.lynx_codec.specs.Ranges.{IsAnswerInRange};
 ghost use Rattle.lynx_cluster.specs.Answers.{FitsRequest, IsAbove, IsLeft, IsUnserved};
-ghost use Rattle.lynx_cluster.specs.Sessions.{is_noted, told_by};
+ghost use Rattle.lynx_cluster.specs.Sessions.{Forgets, is_noted, told_by};
 
 use crate::session::Session;
 use lynx_entry::{Answer, AnswerRoom, Request};
-use lynx_keep::Keeper;
+use lynx_keep::BatchKeeper;
 use lynx_names::{Memory, Stamp, TryCopy};
-use lynx_server::Server;
+use lynx_resting::{Mark, Resting};
 use lynx_weave::ToldItem;
 use std::alloc::Global;
+
+/// An answer that nobody is told yet: it is told once so many entries of its server are settled.
+/// It must be spent, by [`Session::hear`].
+pub(crate) struct Unsettled {
+    answer: Answer,
+    is_noted: bool,
+    reached: usize,
+}
+
+impl Unsettled {
+    /// How many entries have to be settled before it is told.
+    pub(crate) fn reached(&self) -> usize
+        ensures { result ≡ self.now.reached }
+    {
+        self.reached
+    }
+}
 
 /// The answer is noted by the session that is told it.
 fn is_noted(answer: &Answer) -> bool
@@ -36,29 +54,44 @@ pub(crate) fn later(left: Stamp, right: Stamp) -> Stamp
     }
 }
 
+/// The greatest stamp of what was told.
+fn greatest_of(told: &[ToldItem]) -> Stamp
+    ensures { result ≡ greatest_told told.now }
+{
+    let mut greatest = Stamp::zero();
+    for item in told {
+        greatest = later(greatest, item.stamp());
+    }
+    greatest
+}
+
 impl Session {
     /// Makes room, then begins the request on the state of a server, and notes the answer.
-    fn try_begin_at<K: Keeper>(
+    fn try_begin_at<K: BatchKeeper>(
         &mut self,
         alloc: Global,
-        state: &mut Server<K>,
+        state: &mut Resting<K>,
         request: Request,
     ) -> Result<Answer, Memory>
-        ensures stopped { state.old.is_stopped ≡ true → IfOk result (λ answer.
+        ensures stopped { state.old.here.is_stopped ≡ true → IfOk result (λ answer.
             (answer ≡ Answer.Stopped) × (state.new ≡ state.old)) }
-        ensures begins { state.old.is_stopped ≡ false → IfOk result (λ answer.
-            Begins K.terms state.old request (greatest_told self.old.told) answer state.new) }
-        ensures lasts { state.old.is_stopped ≡ false
-            → IfOk result (λ answer. Lasts K.terms state.old
-            (begins_here state.old request (greatest_told self.old.told)).added state.new) }
-        ensures lawful { IsLawfulHistory state.old.set state.old.server state.old.history }
+        ensures begins { state.old.here.is_stopped ≡ false → IfOk result (λ answer.
+            Begins (held_terms K.terms) state.old.here request (greatest_told self.old.told) answer
+            state.new.here) }
+        ensures lasts { state.old.here.is_stopped ≡ false
+            → IfOk result (λ answer. Lasts (held_terms K.terms) state.old.here
+            (begins_here state.old.here request (greatest_told self.old.told)).added
+            state.new.here) }
+        ensures lawful { IsLawfulHistory state.old.here.set state.old.here.server
+            state.old.here.history }
         ensures told { IfOk result (λ answer. self.new ≡ record self.old
-            { told = self.old.told ++ told_by state.old.server request answer }) }
+            { told = self.old.told ++ told_by state.old.here.server request answer }) }
+        ensures settled { state.new.settled ≡ state.old.settled }
         ensures same_state { OnErr result (state.new ≡ state.old) }
         ensures same_session { OnErr result (self.new ≡ self.old) }
     {
         // By its type the history is lawful.
-        let _ = state.history();
+        let _ = state.reached();
         self.told.reserve(1)?;
         let room = AnswerRoom::new(alloc)?;
         let copy = request.copy(alloc)?;
@@ -77,25 +110,87 @@ impl Session {
     }
 
     /// One begin on the state of a server, noted by the session. Want of memory changes neither.
-    pub(crate) fn begin_at<K: Keeper>(
+    fn begin_at<K: BatchKeeper>(
         &mut self,
         alloc: Global,
-        state: &mut Server<K>,
+        state: &mut Resting<K>,
         request: Request,
     ) -> Answer
-        ensures stopped { state.old.is_stopped ≡ true → (state.new ≡ state.old)
+        ensures stopped { state.old.here.is_stopped ≡ true → (state.new ≡ state.old)
             × IsUnserved result }
-        ensures begins { state.old.is_stopped ≡ false
-            → IsLeft K.terms state.old request (greatest_told self.old.told) result state.new }
+        ensures begins { state.old.here.is_stopped ≡ false → IsLeft (held_terms K.terms)
+            state.old.here request (greatest_told self.old.told) result state.new.here }
         ensures told { self.new ≡ record self.old
-            { told = self.old.told ++ told_by state.old.server request result } }
+            { told = self.old.told ++ told_by state.old.here.server request result } }
+        ensures settled { state.new.settled ≡ state.old.settled }
         ensures above { IsAbove (greatest_told self.old.told) result }
-        ensures fits { FitsRequest state.old.set state.old.server request result }
+        ensures fits { FitsRequest state.old.here.set state.old.here.server request result }
         ensures range { IsAnswerInRange result }
     {
         match self.try_begin_at(alloc, state, request) {
             Ok(answer) => answer,
             Err(Memory) => Answer::Memory,
         }
+    }
+
+    /// One begin on the state of a server, whose answer is told once all that the server did so far
+    /// is settled: the answers that add no entry are read of what waits, too.
+    pub(crate) fn ask_at<K: BatchKeeper>(
+        &mut self,
+        alloc: Global,
+        state: &mut Resting<K>,
+        request: Request,
+    ) -> Unsettled
+        ensures stopped { state.old.here.is_stopped ≡ true → (state.new ≡ state.old)
+            × IsUnserved result.answer }
+        ensures begins { state.old.here.is_stopped ≡ false → IsLeft (held_terms K.terms)
+            state.old.here request (greatest_told self.old.told) result.answer state.new.here }
+        ensures told { self.new ≡ record self.old
+            { told = self.old.told ++ told_by state.old.here.server request result.answer } }
+        ensures noted { result.is_noted ≡ is_noted result.answer }
+        ensures reached { result.reached ≡ length state.new.here.history }
+        ensures settled { state.new.settled ≡ state.old.settled }
+        ensures above { IsAbove (greatest_told self.old.told) result.answer }
+        ensures fits { FitsRequest state.old.here.set state.old.here.server request result.answer }
+        ensures range { IsAnswerInRange result.answer }
+    {
+        let answer = self.begin_at(alloc, state, request);
+        Unsettled {
+            is_noted: is_noted(&answer),
+            answer,
+            reached: state.reached(),
+        }
+    }
+
+    /// Forgets what it was told last.
+    fn forget(&mut self)
+        requires { 1 ≤ length self.old.told }
+        ensures { Forgets true self.old self.new }
+    {
+        let _ = self.told.pop();
+        self.greatest = greatest_of(self.told.as_slice());
+    }
+
+    /// The answer, where all is settled that it may be read of. Else its server stopped before, and
+    /// the session forgets it.
+    pub(crate) fn hear(&mut self, unsettled: Unsettled, mark: &Mark) -> Answer
+        requires { unsettled.is_noted ≡ true → 1 ≤ length self.old.told }
+        ensures settled { unsettled.reached ≤ mark.now.settled
+            → (result ≡ unsettled.answer) × (self.new ≡ self.old) }
+        ensures unsettled { mark.now.settled < unsettled.reached
+            → (result ≡ Answer.Stopped) × Forgets unsettled.is_noted self.old self.new }
+    {
+        let Unsettled {
+            answer,
+            is_noted,
+            reached,
+        } = unsettled;
+        if reached <= mark.settled() {
+            return answer;
+        }
+        if is_noted {
+            self.forget();
+        }
+        Answer::Stopped
     }
 }

@@ -11,7 +11,7 @@ use crate::gate::Gate;
 use crate::session::Session;
 use crate::taking::{take_all, told_of};
 use crate::workers::stop_all;
-use lynx_keep::Keeper;
+use lynx_keep::BatchKeeper;
 use lynx_names::ServerId;
 use lynx_set::ChainSet;
 use lynx_weave::{ServerCounts, weave_since};
@@ -23,7 +23,7 @@ use std::thread::Threads;
 
 /// A closed cluster: the world of all that its servers did, and their keepers, by server.
 #[derive(Drop)]
-pub struct Closed<K: Keeper> {
+pub struct Closed<K: BatchKeeper> {
     pub world: World,
     pub keepers: Vec<K>,
 }
@@ -42,7 +42,7 @@ fn first_uncounted(set: &ChainSet, counts: &[ServerCounts]) -> Option<ServerId>
     None
 }
 
-impl<K: Keeper + Drop, G: Gate + Drop> Cluster<K, G> {
+impl<K: BatchKeeper + Drop, G: Gate + Drop> Cluster<K, G> {
     /// Stops the workers and waits for each to end: messages aren't delivered any more. Who begins
     /// at the front still does.
     pub fn halt<R: Threads + Wait>(&mut self, rt: &R, alloc: Global)
@@ -74,7 +74,7 @@ impl<K: Keeper + Drop, G: Gate + Drop> Cluster<K, G> {
     }
 }
 
-impl<K: Keeper + Drop, G: Gate + Drop> Front<K, G> {
+impl<K: BatchKeeper + Drop, G: Gate + Drop> Front<K, G> {
     /// Takes the states out of their locks, weaves what the servers did to a world, and checks what
     /// the sessions were told in it.
     fn close(self, alloc: Global, sessions: Vec<Session>) -> Result<Closed<K>, CloseFault>

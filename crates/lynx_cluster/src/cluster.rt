@@ -1,26 +1,29 @@
 //! A cluster, and the front of it that threads are lent.
-ghost use Rattle.std.specs.Prelude.{◌≡◌, ◌↔◌, ◌+◌, ◌<◌, ◌≤◌, [], IfOk, IfSome, IsTrue, MatchOption, OnErr};
+ghost use Rattle.std.specs.Prelude.{◌≡◌, ◌↔◌, ◌+◌, ◌<◌, ◌≤◌, [], IfNone, IfOk, IfSome, IsTrue, MatchOption, OnErr, length, true};
 ghost use Rattle.lynx_codec.specs.Ranges.{IsLookedInRange};
 ghost use Rattle.lynx_cluster.specs.Calls.{AnswersBegin};
+ghost use Rattle.lynx_cluster.specs.inner.Asking.{Asks, Hears};
 ghost use Rattle.lynx_cluster.specs.Clusters.{IsOf, home_of};
 ghost use Rattle.lynx_cluster.specs.Looks.{Looks};
 ghost use Rattle.lynx_cluster.specs.Sessions.{new_session};
 
+use crate::beginning::Unsettled;
 use crate::bells::Bells;
-use crate::gate::{Gate, Passage, tell_answer};
+use crate::gate::{Gate, Passage};
 use crate::post::Post;
 use crate::session::Session;
 use lynx_codec::Looked;
 use lynx_entry::{Answer, Entry, Request};
-use lynx_keep::Keeper;
+use lynx_keep::BatchKeeper;
 use lynx_names::{ChainId, Memory, ProgramId, ServerId};
-use lynx_server::Server;
+use lynx_resting::Resting;
 use lynx_set::ChainSet;
 use std::alloc::Global;
 use std::marker::Model;
 use std::sync::atomic::AtomicBool;
 use std::sync::{Arc, Mutex, Wait};
 use std::thread::JoinHandle;
+use std::time::Instant;
 
 /// Sessions that one cluster makes, at most.
 pub const MAX_SESSIONS: u64 = 1_000_000;
@@ -28,7 +31,7 @@ pub const MAX_SESSIONS: u64 = 1_000_000;
 /// The servers of a set behind locks of their own, at which any thread may begin and look by a `&`.
 /// Contracts see the set, and how long each server's history was at the start.
 #[derive(Drop)]
-pub struct Front<K: Keeper, G: Gate> {
+pub struct Front<K: BatchKeeper, G: Gate> {
     pub(crate) set: ChainSet,
     pub(crate) starts: Vec<u64>,
     pub(crate) posts: Vec<Arc<Post<K>>>,
@@ -37,7 +40,7 @@ pub struct Front<K: Keeper, G: Gate> {
     pub(crate) sessions: Mutex<u64>,
 }
 
-impl<K: Keeper, G: Gate> Model for Front<K, G> {
+impl<K: BatchKeeper, G: Gate> Model for Front<K, G> {
     ghost use Rattle.std.specs.Prelude.{◌≡◌, length};
     ghost use Rattle.lynx_cluster.specs.Clusters.{ClusterState};
 
@@ -54,13 +57,13 @@ impl<K: Keeper, G: Gate> Model for Front<K, G> {
 /// A running cluster: the servers behind their locks, and a worker thread for each. Other threads
 /// are lent its front. It can't be let go: [`Cluster::close`] is the one way to be rid of it, so
 /// that every worker is joined. Fallible work is done before the start or on the front.
-pub struct Cluster<K: Keeper, G: Gate> {
+pub struct Cluster<K: BatchKeeper, G: Gate> {
     pub(crate) front: Front<K, G>,
     pub(crate) stop: Arc<AtomicBool>,
     pub(crate) workers: Vec<JoinHandle<()>>,
 }
 
-impl<K: Keeper, G: Gate> Model for Cluster<K, G> {
+impl<K: BatchKeeper, G: Gate> Model for Cluster<K, G> {
     ghost use Rattle.lynx_cluster.specs.Clusters.{ClusterState};
 
     ghost Value = { ClusterState };
@@ -70,8 +73,8 @@ impl<K: Keeper, G: Gate> Model for Cluster<K, G> {
 
 /// The state is that of this server of this set: a walk over the set. Nothing else is known of a
 /// state behind a lock.
-pub(crate) fn is_of<K: Keeper>(state: &Server<K>, set: &ChainSet, server: ServerId) -> bool
-    ensures { IsTrue result ↔ IsOf set.now server state.now }
+pub(crate) fn is_of<K: BatchKeeper>(state: &Resting<K>, set: &ChainSet, server: ServerId) -> bool
+    ensures { IsTrue result ↔ IsOf set.now server state.now.here }
 {
     state.server() == server && state.set().is_same(set)
 }
@@ -91,7 +94,27 @@ fn next_session(alloc: Global, made: &mut u64) -> Option<Session>
     Some(Session::new(alloc, number))
 }
 
-impl<K: Keeper, G: Gate> Cluster<K, G> {
+/// The answer of a begin, once all is settled that it may be read of; Stopped where there was none.
+fn hear<R: Wait, K: BatchKeeper>(
+    rt: &R,
+    session: &mut Session,
+    post: &Post<K>,
+    asked: Option<Unsettled>,
+) -> Answer
+    requires { IfSome asked (λ unsettled. unsettled.is_noted ≡ true
+        → 1 ≤ length session.old.told) }
+    ensures { Hears asked session.old result session.new }
+{
+    match asked {
+        Some(unsettled) => {
+            let mark = post.await_settled(rt, unsettled.reached());
+            session.hear(unsettled, &mark)
+        }
+        None => Answer::Stopped,
+    }
+}
+
+impl<K: BatchKeeper, G: Gate> Cluster<K, G> {
     /// What other threads are lent.
     pub fn front(&self) -> &Front<K, G>
         ensures { result.now ≡ self.now }
@@ -137,7 +160,7 @@ impl<K: Keeper, G: Gate> Cluster<K, G> {
     }
 }
 
-impl<K: Keeper, G: Gate> Front<K, G> {
+impl<K: BatchKeeper, G: Gate> Front<K, G> {
     /// The set of the cluster.
     pub fn set(&self) -> &ChainSet
         ensures { result.now ≡ self.now.set }
@@ -168,9 +191,11 @@ impl<K: Keeper, G: Gate> Front<K, G> {
 
     /// One begin at the origin of the request's program, under that server's lock. The session
     /// notes the answer where it is Begun, Refused, Clash or Full, and the server takes as seen the
-    /// greatest stamp that the session was told. Stopped comes also where the lock has the state of
-    /// another server. It costs a walk over the set, a copy of the request, and [`Server::begin`];
-    /// all memory for the note is taken before the server is asked.
+    /// greatest stamp that the session was told. It is answered once all is settled that the answer
+    /// may be read of; where the store fails in that, Stopped. Stopped comes also where the lock
+    /// has the state of another server. It costs a walk over the set, a copy of the request, and
+    /// [`Server::begin`](lynx_server::Server::begin); all memory for the note is taken before the
+    /// server is asked.
     pub fn begin<R: Wait>(
         &self,
         rt: &R,
@@ -185,20 +210,57 @@ impl<K: Keeper, G: Gate> Front<K, G> {
         let Some(post) = self.posts.as_slice().get(server.index()) else {
             return Answer::Stopped;
         };
-        let mut state = post.lock(rt);
+        let (asked, since) = self.ask(rt, alloc, session, post, server, request);
+        let answer = hear(rt, session, post, asked);
+        self.gate.answered(server, program, &answer, since);
+        self.follow_up(rt, post, server, program, &answer);
+        answer
+    }
+
+    /// One begin at that server, under its lock, whose answer isn't told yet, and when its step
+    /// began. None where the lock has the state of another server.
+    fn ask<R: Wait>(
+        &self,
+        rt: &R,
+        alloc: Global,
+        session: &mut Session,
+        post: &Post<K>,
+        server: ServerId,
+        request: Request,
+    ) -> (Option<Unsettled>, Option<Instant>)
+        ensures asked { IfSome result.0 (Asks self.now.set server session.old request
+            session.new) }
+        ensures none { IfNone result.0 (session.new ≡ session.old) }
+    {
+        let mut state = post.enter(rt);
         self.gate.enter(server, Passage::Begin);
-        let answer = if is_of(&state, &self.set, server) {
-            session.begin_at(alloc, &mut state, request)
+        let since = self.gate.now();
+        let asked = if is_of(&state, &self.set, server) {
+            Some(session.ask_at(alloc, &mut state, request))
         } else {
-            Answer::Stopped
+            None
         };
-        tell_answer(&*self.gate, &state, program, &answer);
-        drop(state);
+        post.give_back(rt, alloc, state);
         self.gate.leave(server, Passage::Begin);
-        if self.owes_more(program, &answer) {
+        (asked, since)
+    }
+
+    /// Tells the gate of a server that stopped, and the worker of one that has work now.
+    fn follow_up<R: Wait>(
+        &self,
+        rt: &R,
+        post: &Post<K>,
+        server: ServerId,
+        program: ProgramId,
+        answer: &Answer,
+    ) {
+        if matches!(answer, Answer::Stopped) {
+            let cause = post.look(rt).cause();
+            self.gate.stopped(server, cause);
+        }
+        if self.owes_more(program, answer) {
             self.bells.ring(server);
         }
-        answer
     }
 
     /// A chain of that program began so that its next hop is owed: its server's worker has work.
@@ -209,7 +271,7 @@ impl<K: Keeper, G: Gate> Front<K, G> {
     /// The program of the chain, by its entry at its origin, whose lock is taken and given back.
     /// None where it hasn't begun.
     pub fn program_of<R: Wait>(&self, rt: &R, chain: &ChainId) -> Option<ProgramId> {
-        let state = self.posts.as_slice().get(chain.origin.index())?.lock(rt);
+        let state = self.posts.as_slice().get(chain.origin.index())?.look(rt);
         if !is_of(&state, &self.set, chain.origin) {
             return None;
         }
@@ -219,10 +281,10 @@ impl<K: Keeper, G: Gate> Front<K, G> {
         }
     }
 
-    /// What there is of that hop of the chain. First the chain's program is read under the lock of
-    /// its origin, then the hop's entry under that of its server. Absent also where the chain
-    /// hasn't begun or has no such hop. The session notes what was found. It costs a walk over the
-    /// set for each lock, and two copies of the results.
+    /// What there is of that hop of the chain, and is settled. First the chain's program is read
+    /// under the lock of its origin, then the hop's entry under that of its server. Absent also
+    /// where the chain hasn't begun or has no such hop. The session notes what was found. It costs
+    /// a walk over the set for each lock, and two copies of the results.
     pub fn look<R: Wait>(
         &self,
         rt: &R,
@@ -246,7 +308,7 @@ impl<K: Keeper, G: Gate> Front<K, G> {
         let Some(post) = self.posts.as_slice().get(server.index()) else {
             return Ok(Looked::Absent);
         };
-        let state = post.lock(rt);
+        let state = post.look(rt);
         if !is_of(&state, &self.set, server) {
             return Ok(Looked::Absent);
         }

@@ -1,8 +1,8 @@
 //! Gates: what is told of each step, on both sides of its lock, and of what came of it.
 use lynx_entry::{Answer, Delivered};
-use lynx_keep::{Cause, Keeper};
+use lynx_keep::Cause;
 use lynx_names::{ProgramId, ServerId};
-use lynx_server::Server;
+use std::time::Instant;
 
 /// What a step on the state behind a server's lock does there.
 #[derive(Clone, Copy, Debug, PartialEq, Eq)]
@@ -22,42 +22,28 @@ pub trait Gate {
     /// The step was made. It is called after that server's lock was given back.
     fn leave(&self, server: ServerId, passage: Passage);
 
-    /// A begin of that program was answered so, whatever was kept of it. It is called with that
-    /// server's lock taken.
-    fn answered(&self, _server: ServerId, _program: ProgramId, _answer: &Answer) {}
+    /// What time it is, for a gate that times steps. It is asked before a step.
+    fn now(&self) -> Option<Instant> {
+        None
+    }
+
+    /// A begin of that program was answered so, and what it may be read of is settled. Its step
+    /// began at that time.
+    fn answered(
+        &self,
+        _server: ServerId,
+        _program: ProgramId,
+        _answer: &Answer,
+        _since: Option<Instant>,
+    ) {}
 
     /// A step was answered that its server has stopped, whose store failed for that cause if it
-    /// knows it. It is called with that server's lock taken.
+    /// knows it.
     fn stopped(&self, _server: ServerId, _cause: Option<Cause>) {}
 
-    /// A message was delivered, or a held one woken, and came to that. It is called with that
-    /// server's lock taken.
-    fn delivered(&self, _server: ServerId, _delivered: &Delivered) {}
-}
-
-/// Tells that a begin of that program at the server was answered so.
-pub(crate) fn tell_answer<K: Keeper, G: Gate>(
-    gate: &G,
-    state: &Server<K>,
-    program: ProgramId,
-    answer: &Answer,
-) {
-    gate.answered(state.server(), program, answer);
-    if matches!(answer, Answer::Stopped) {
-        gate.stopped(state.server(), state.keeper().cause());
-    }
-}
-
-/// Tells what a message came to at the server.
-pub(crate) fn tell_delivery<K: Keeper, G: Gate>(
-    gate: &G,
-    state: &Server<K>,
-    delivered: &Delivered,
-) {
-    gate.delivered(state.server(), delivered);
-    if matches!(delivered, Delivered::Stopped) {
-        gate.stopped(state.server(), state.keeper().cause());
-    }
+    /// A message was delivered, or a held one woken, and came to that, which is settled. Its step
+    /// began at that time. It is called with that server's lock taken.
+    fn delivered(&self, _server: ServerId, _delivered: &Delivered, _since: Option<Instant>) {}
 }
 
 /// Lets every step pass, and does nothing.

@@ -2,6 +2,7 @@
 //! audit asks for it.
 ghost use Rattle.std.specs.Prelude.{◌≡◌, All, IfOk, drop, take};
 ghost use Rattle.lynx_codec.specs.Entries.{IsEntryInRange};
+ghost use Rattle.lynx_resting.specs.Resting.{settled_front, settled_part};
 ghost use Rattle.lynx_server.specs.Acts.{act_of};
 ghost use Rattle.lynx_cluster.specs.Glances.{glance_of, last_of};
 ghost use Rattle.lynx_cluster.specs.Looks.{looked_at};
@@ -10,16 +11,16 @@ use crate::cluster::{Front, is_of};
 use crate::gate::Gate;
 use lynx_codec::Looked;
 use lynx_entry::Entry;
-use lynx_keep::Keeper;
+use lynx_keep::BatchKeeper;
 use lynx_names::{ChainId, Memory, ServerId, Stamp, TryCopy, Values};
-use lynx_server::Server;
+use lynx_resting::Resting;
 use std::alloc::Global;
 use std::sync::Wait;
 
-/// What is seen of a server at a glance.
+/// What is seen at a glance of what is settled of a server.
 #[derive(Clone, Copy, Debug, PartialEq, Eq)]
 pub struct Glance {
-    /// How many entries its history has.
+    /// How many of its entries are settled.
     pub entries: u64,
     /// The stamp of the last of them, 0 where there is none.
     pub clock: Stamp,
@@ -30,10 +31,10 @@ pub struct Glance {
 }
 
 /// What is seen of the server.
-fn glance_of<K: Keeper>(state: &Server<K>) -> Glance
-    ensures { result ≡ glance_of state.now }
+fn glance_of<K: BatchKeeper>(state: &Resting<K>) -> Glance
+    ensures { result ≡ glance_of (settled_part state.now) }
 {
-    let history = state.history();
+    let history = state.settled();
     let clock = match history.last() {
         Some(entry) => entry.stamp(),
         None => Stamp::zero(),
@@ -65,33 +66,33 @@ fn last_of(alloc: Global, history: &[Entry], most: usize) -> Result<Vec<Entry>, 
 }
 
 /// Copies of the entries of a server from a place on, so many at most.
-fn entries_from<K: Keeper>(
+fn entries_from<K: BatchKeeper>(
     alloc: Global,
-    state: &Server<K>,
+    state: &Resting<K>,
     from: usize,
     most: usize,
 ) -> Result<Vec<Entry>, Memory>
     ensures entries { IfOk result (λ entries. entries.items
-        ≡ take most (drop from state.now.history)) }
+        ≡ take most (drop from (settled_front state.now))) }
     ensures range { IfOk result (λ entries. All IsEntryInRange entries.items) }
 {
     // A lawful entry is in range where the server's number is.
     let _ = state.server().number();
-    let history = state.history();
+    let history = state.settled();
     let start = from.min(history.len());
     let end = start.saturating_add(most).min(history.len());
     copies_of(alloc, &history[start..end])
 }
 
 /// What there is of that hop of the chain.
-fn looked_at<K: Keeper>(
+fn looked_at<K: BatchKeeper>(
     alloc: Global,
-    state: &Server<K>,
+    state: &Resting<K>,
     chain: &ChainId,
     hop: u8,
 ) -> Result<Looked, Memory>
     ensures { IfOk result (λ looked. looked
-        ≡ looked_at (act_of chain.now hop state.now.history)) }
+        ≡ looked_at (act_of chain.now hop (settled_front state.now))) }
 {
     match state.results(*chain, hop) {
         Some((stamp, results)) => Ok(Looked::Found {
@@ -102,7 +103,7 @@ fn looked_at<K: Keeper>(
     }
 }
 
-impl<K: Keeper, G: Gate> Front<K, G> {
+impl<K: BatchKeeper, G: Gate> Front<K, G> {
     /// What the cluster tells of its steps.
     pub fn gate(&self) -> &G {
         &self.gate
@@ -111,7 +112,7 @@ impl<K: Keeper, G: Gate> Front<K, G> {
     /// What is seen of that server, under its lock. None where there is no such server. It costs a
     /// walk over the set, and takes no memory.
     pub fn glance<R: Wait>(&self, rt: &R, server: ServerId) -> Option<Glance> {
-        let state = self.posts.as_slice().get(server.index())?.lock(rt);
+        let state = self.posts.as_slice().get(server.index())?.look(rt);
         if is_of(&state, &self.set, server) {
             Some(glance_of(&state))
         } else {
@@ -119,8 +120,8 @@ impl<K: Keeper, G: Gate> Front<K, G> {
         }
     }
 
-    /// Copies of the last entries of that server, so many at most, made under its lock; none where
-    /// there is no such server.
+    /// Copies of the last settled entries of that server, so many at most, made under its lock;
+    /// none where there is no such server.
     pub fn last_entries<R: Wait>(
         &self,
         rt: &R,
@@ -131,15 +132,15 @@ impl<K: Keeper, G: Gate> Front<K, G> {
         let Some(post) = self.posts.as_slice().get(server.index()) else {
             return Ok(Vec::new(alloc));
         };
-        let state = post.lock(rt);
+        let state = post.look(rt);
         if !is_of(&state, &self.set, server) {
             return Ok(Vec::new(alloc));
         }
-        last_of(alloc, state.history(), most)
+        last_of(alloc, state.settled(), most)
     }
 
-    /// Copies of the entries of that server from a place on, so many at most, made under its lock;
-    /// none where there is no such server.
+    /// Copies of the settled entries of that server from a place on, so many at most, made under
+    /// its lock; none where there is no such server.
     pub fn entries_from<R: Wait>(
         &self,
         rt: &R,
@@ -153,15 +154,15 @@ impl<K: Keeper, G: Gate> Front<K, G> {
         let Some(post) = self.posts.as_slice().get(server.index()) else {
             return Ok(Vec::new(alloc));
         };
-        let state = post.lock(rt);
+        let state = post.look(rt);
         if !is_of(&state, &self.set, server) {
             return Ok(Vec::new(alloc));
         }
         entries_from(alloc, &state, from, most)
     }
 
-    /// What there is of that hop of the chain at that server, under its lock: absent also where
-    /// there is no such server.
+    /// What there is of that hop of the chain at that server, and is settled, under its lock:
+    /// absent also where there is no such server.
     pub fn recall<R: Wait>(
         &self,
         rt: &R,
@@ -173,7 +174,7 @@ impl<K: Keeper, G: Gate> Front<K, G> {
         let Some(post) = self.posts.as_slice().get(server.index()) else {
             return Ok(Looked::Absent);
         };
-        let state = post.lock(rt);
+        let state = post.look(rt);
         if !is_of(&state, &self.set, server) {
             return Ok(Looked::Absent);
         }

@@ -1,19 +1,20 @@
 //! The steps of a server behind its lock.
-ghost use Rattle.std.specs.Prelude.{◌≡◌, ◌≤◌, ◌++◌, ◌∷◌, ℕ, [], IfNone, IfOk, IfSome, IsSome, MatchOption, OnOk, OnSome, length};
-ghost use Rattle.lynx_server.specs.Acts.{act_of};
+ghost use Rattle.std.specs.Prelude.{◌≡◌, ◌≤◌, ◌++◌, ◌∷◌, ℕ, [], false, true, IfNone, IfOk, IfSome, IsSome, MatchOption, OnOk, OnSome, length};
+ghost use Rattle.lynx_keep.specs.HeldBack.{held_terms};
+ghost use Rattle.lynx_resting.specs.Resting.{settled_front, settled_part};
 ghost use Rattle.lynx_server.specs.Owed.{Acknowledges};
 ghost use Rattle.lynx_set.specs.Lookups.{server_at};
-ghost use Rattle.lynx_cluster.specs.inner.Serving.{AddsFound, AreOwed, AreOwedBetween, AreRising, HearsOf, IsDueOf, IsNotedIn, IsSender, NotesDone, OwesOnlyAt, Serves, TellsDone, was_done};
+ghost use Rattle.lynx_cluster.specs.inner.Serving.{AddsFound, AreDone, AreOwed, AreOwedBetween, AreRising, HearsOf, IsDueOf, IsNotedIn, NotesDone, OwesOnlyAt, Serves, TellsDone, was_done};
 
 use crate::bells::Bells;
 use crate::cluster::is_of;
-use crate::gate::{Gate, Passage, tell_delivery};
+use crate::gate::{Gate, Passage};
 use crate::post::Post;
-use lynx_entry::{Delivered, Entry, Message};
-use lynx_keep::Keeper;
+use lynx_entry::{Delivered, Message};
+use lynx_keep::BatchKeeper;
 use lynx_link::Parcel;
 use lynx_names::{ChainId, Memory, ServerId};
-use lynx_server::Server;
+use lynx_resting::Resting;
 use lynx_set::ChainSet;
 use lynx_worker::{Arrived, Due, Heard, Owed, Receipt, Served, Steps};
 use std::alloc::Global;
@@ -21,12 +22,8 @@ use std::collections::VecDeque;
 use std::sync::{Arc, Wait};
 use std::time::{Clock, Duration, Instant};
 
-/// Microseconds for which the lock is held to serve parcels, about, or for one step where that
-/// takes longer: a keeper may write to a disk, ..
+/// Microseconds for which the lock is held to make steps, about, before they are settled.
 const LOCK_MICROS: u64 = 1_000;
-
-/// .. and the same where a client waits for the lock.
-const AWAITED_LOCK_MICROS: u64 = 100;
 
 /// Steps that are made under one taking of the lock, at most.
 const MOST_STEPS: u32 = 1_024;
@@ -34,7 +31,7 @@ const MOST_STEPS: u32 = 1_024;
 /// What the worker of one server is lent: a part in the server's state behind its lock, and in the
 /// gate. Where the lock has the state of another server or another set, no step is made.
 #[derive(Drop)]
-pub struct Lent<K: Keeper, G: Gate> {
+pub struct Lent<K: BatchKeeper, G: Gate> {
     set: ChainSet,
     server: ServerId,
     post: Arc<Post<K>>,
@@ -42,22 +39,19 @@ pub struct Lent<K: Keeper, G: Gate> {
     bells: Arc<Bells>,
 }
 
+/// What a worker did under one taking of the lock. Nobody is told of it before it is settled.
+#[derive(Drop)]
+struct Turn {
+    served: Served,
+    /// What the messages came to.
+    outcomes: Vec<Delivered>,
+}
+
 /// The hop of the message was done.
 fn is_done(delivered: &Delivered) -> bool
     ensures { result ≡ was_done delivered.now }
 {
     matches!(delivered, Delivered::Done { .. } | Delivered::Repeat { .. })
-}
-
-/// The server that sends the message of that hop of the chain, which was done at this one.
-pub(crate) fn sender_of<K: Keeper>(state: &Server<K>, chain: &ChainId, hop: u8) -> Option<ServerId>
-    ensures { IfSome result (IsSender state.now.set hop (act_of chain.now hop state.now.history)) }
-{
-    let Some(Entry::Hop(ran)) = state.entry_of(*chain, hop) else {
-        return None;
-    };
-    let before = usize::from(hop.checked_sub(1)?);
-    Some(state.set().hop(ran.message.program, before)?.server)
 }
 
 /// Adds a receipt. One for which there is no memory is let go: the message comes again.
@@ -92,15 +86,14 @@ fn note_done(
 
 /// Wakes one held message of the server, if any may be woken. False where there is none whose turn
 /// it is, or it can't be woken now.
-fn wake_next<K: Keeper, G: Gate>(
+fn wake_next<K: BatchKeeper>(
     alloc: Global,
-    gate: &G,
-    state: &mut Server<K>,
+    state: &mut Resting<K>,
     may_wake: bool,
-    served: &mut Served,
+    turn: &mut Turn,
 ) -> bool
-    ensures done { TellsDone state.old.history served.old.receipts.items state.new.history
-        served.new.receipts.items }
+    ensures done { TellsDone state.old.here.history turn.old.served.receipts.items
+        state.new.here.history turn.new.served.receipts.items }
 {
     if !may_wake || state.held().is_empty() {
         return false;
@@ -108,27 +101,29 @@ fn wake_next<K: Keeper, G: Gate>(
     let Some(woken) = state.wake(alloc) else {
         return false;
     };
-    tell_delivery(gate, state, &woken.delivered);
     let (chain, hop) = (woken.chain, woken.hop);
-    let to = sender_of(state, &chain, hop);
-    note_done(served, to, chain, hop, &woken.delivered);
-    !matches!(
+    let to = state.sender_of(&chain, hop);
+    note_done(&mut turn.served, to, chain, hop, &woken.delivered);
+    let is_served = !matches!(
         woken.delivered,
         Delivered::Full | Delivered::Stopped | Delivered::Memory
-    )
+    );
+    let _ = turn.outcomes.push(woken.delivered);
+    is_served
 }
 
 /// Marks the message of that hop as acknowledged by its server. A note for which there is no memory
 /// is let go: the worker finds it out when it sends the message again.
-fn acknowledge<K: Keeper>(
-    state: &mut Server<K>,
+fn acknowledge<K: BatchKeeper>(
+    state: &mut Resting<K>,
     from: ServerId,
     chain: &ChainId,
     hop: u8,
     served: &mut Served,
 )
-    ensures state { Acknowledges state.old chain.now hop state.new }
-    ensures heard { HearsOf from chain.now hop state.old.history served.old.heard.items
+    ensures state { Acknowledges state.old.here chain.now hop state.new.here }
+    ensures settled { state.new.settled ≡ state.old.settled }
+    ensures heard { HearsOf from chain.now hop (settled_front state.new) served.old.heard.items
         served.new.heard.items }
     ensures receipts { served.new.receipts ≡ served.old.receipts }
 {
@@ -143,56 +138,62 @@ fn acknowledge<K: Keeper>(
 }
 
 /// Delivers a message that came from that server. Whether its hop was done.
-fn deliver_one<K: Keeper, G: Gate>(
+fn deliver_one<K: BatchKeeper>(
     alloc: Global,
-    gate: &G,
-    state: &mut Server<K>,
+    state: &mut Resting<K>,
     from: ServerId,
     message: Message,
-    served: &mut Served,
+    turn: &mut Turn,
 ) -> bool
-    ensures serves { Serves K.terms state.old (Parcel.Message message) state.new }
-    ensures done { TellsDone state.old.history served.old.receipts.items state.new.history
-        served.new.receipts.items }
+    ensures serves { Serves (held_terms K.terms) state.old.here (Parcel.Message message)
+        state.new.here }
+    ensures done { TellsDone state.old.here.history turn.old.served.receipts.items
+        state.new.here.history turn.new.served.receipts.items }
 {
     let (chain, hop) = (message.chain, message.hop);
     let delivered = state.deliver(alloc, message);
-    tell_delivery(gate, state, &delivered);
-    note_done(served, Some(from), chain, hop, &delivered)
+    let is_done = note_done(&mut turn.served, Some(from), chain, hop, &delivered);
+    let _ = turn.outcomes.push(delivered);
+    is_done
 }
 
 /// Does what a parcel asks. Whether a hop was done, for which a held message may wait.
-fn serve_one<K: Keeper, G: Gate>(
+fn serve_one<K: BatchKeeper>(
     alloc: Global,
-    gate: &G,
-    state: &mut Server<K>,
+    state: &mut Resting<K>,
     arrived: Arrived,
-    served: &mut Served,
+    turn: &mut Turn,
 ) -> bool
-    ensures serves { Serves K.terms state.old arrived.parcel state.new }
-    ensures done { TellsDone state.old.history served.old.receipts.items state.new.history
-        served.new.receipts.items }
+    ensures serves { Serves (held_terms K.terms) state.old.here arrived.parcel state.new.here }
+    ensures done { TellsDone state.old.here.history turn.old.served.receipts.items
+        state.new.here.history turn.new.served.receipts.items }
 {
     let from = arrived.from;
     match arrived.parcel {
-        Parcel::Message(message) => deliver_one(alloc, gate, state, from, message, served),
+        Parcel::Message(message) => deliver_one(alloc, state, from, message, turn),
         Parcel::Done { chain, hop } => {
-            acknowledge(state, from, &chain, hop, served);
+            acknowledge(state, from, &chain, hop, &mut turn.served);
             false
         }
     }
 }
 
+/// What came of parcels, without receipts where the hops that they are of aren't settled.
+fn only_settled(mut served: Served, is_settled: bool) -> Served
+    ensures settled { is_settled ≡ true → result.receipts.items ≡ served.receipts.items }
+    ensures unsettled { is_settled ≡ false → result.receipts.items ≡ [] }
+{
+    if !is_settled {
+        served.receipts.clear();
+    }
+    served
+}
+
 /// The lock was held for as long as it may be, or no clock can tell.
-fn is_long<R: Clock>(rt: &R, since: &Option<Instant>, is_awaited: bool) -> bool {
-    let most = if is_awaited {
-        AWAITED_LOCK_MICROS
-    } else {
-        LOCK_MICROS
-    };
+fn is_long<R: Clock>(rt: &R, since: &Option<Instant>) -> bool {
     match since {
         Some(since) => match since.elapsed(rt) {
-            Ok(elapsed) => elapsed >= Duration::from_micros(most),
+            Ok(elapsed) => elapsed >= Duration::from_micros(LOCK_MICROS),
             Err(_) => true,
         },
         None => true,
@@ -201,23 +202,25 @@ fn is_long<R: Clock>(rt: &R, since: &Option<Instant>, is_awaited: bool) -> bool 
 
 /// One step: a held message whose turn it may be is woken before another parcel is taken, since a
 /// message for which there is no room to be held is dropped. None where there is no step to make,
-/// else whether a held message may be woken then.
-fn step<K: Keeper, G: Gate>(
+/// or no memory for it, else whether a held message may be woken then.
+fn step<K: BatchKeeper>(
     alloc: Global,
-    gate: &G,
-    state: &mut Server<K>,
+    state: &mut Resting<K>,
     inbox: &mut VecDeque<Arrived>,
     may_wake: bool,
-    served: &mut Served,
+    turn: &mut Turn,
 ) -> Option<bool>
-    ensures done { TellsDone state.old.history served.old.receipts.items state.new.history
-        served.new.receipts.items }
+    ensures done { TellsDone state.old.here.history turn.old.served.receipts.items
+        state.new.here.history turn.new.served.receipts.items }
 {
-    if wake_next(alloc, gate, state, may_wake, served) {
+    if turn.outcomes.reserve(1).is_err() {
+        return None;
+    }
+    if wake_next(alloc, state, may_wake, turn) {
         return Some(true);
     }
     let arrived = inbox.pop_front()?;
-    Some(serve_one(alloc, gate, state, arrived, served))
+    Some(serve_one(alloc, state, arrived, turn))
 }
 
 /// Some parcel brings a message.
@@ -241,7 +244,7 @@ fn add(dues: &mut Vec<Due>, due: Due) -> Option<()>
     }
 }
 
-impl<K: Keeper, G: Gate> Lent<K, G> {
+impl<K: BatchKeeper, G: Gate> Lent<K, G> {
     pub(crate) fn new(
         set: ChainSet,
         server: ServerId,
@@ -277,25 +280,25 @@ impl<K: Keeper, G: Gate> Lent<K, G> {
         })
     }
 
-    /// Adds what the server owes from a place of its history on to the list, so many messages at
-    /// most. The length of the history where that is all.
+    /// Adds what the server owes of what is settled, from a place of its history on, to the list,
+    /// so many messages at most. How many entries are settled, where that is all.
     fn collect(
         &self,
         alloc: Global,
-        state: &Server<K>,
+        state: &Resting<K>,
         from: u64,
         most: usize,
         dues: &mut Vec<Due>,
     ) -> Option<u64>
-        requires set { state.now.set ≡ self.now.set }
+        requires set { state.now.here.set ≡ self.now.set }
         requires empty { dues.old.items ≡ [] }
-        requires within { from ≤ length state.now.history }
+        requires within { from ≤ length (settled_front state.now) }
         ensures owed { MatchOption result
-            ((next : ℕ) × AreOwedBetween state.now from dues.new.items next)
-            (λ len. (len ≡ length state.now.history)
-            × AreOwedBetween state.now from dues.new.items len) }
+            ((next : ℕ) × AreOwedBetween (settled_part state.now) from dues.new.items next)
+            (λ len. (len ≡ length (settled_front state.now))
+            × AreOwedBetween (settled_part state.now) from dues.new.items len) }
     {
-        let len = state.history().len() as u64;
+        let len = state.settled().len() as u64;
         let mut next = from;
         for _ in 0..most {
             let Ok(found) = state.messages_due(alloc, next) else {
@@ -335,14 +338,14 @@ impl<K: Keeper, G: Gate> Lent<K, G> {
     fn collect_at(
         &self,
         alloc: Global,
-        state: &Server<K>,
+        state: &Resting<K>,
         places: &[u64],
     ) -> Result<Vec<Due>, Memory>
-        requires { state.now.set ≡ self.now.set }
-        ensures owed { IfOk result (λ dues. AreOwed state.now dues.items) }
+        requires { state.now.here.set ≡ self.now.set }
+        ensures owed { IfOk result (λ dues. AreOwed (settled_part state.now) dues.items) }
         // None of the places that still owe one is passed over.
-        ensures all { AreRising places.now → IfOk result (λ dues. OwesOnlyAt state.now places.now
-            dues.items) }
+        ensures all { AreRising places.now → IfOk result (λ dues. OwesOnlyAt
+            (settled_part state.now) places.now dues.items) }
     {
         let mut dues = Vec::with_capacity(alloc, places.len())?;
         let mut clear: u64 = 0;
@@ -359,40 +362,78 @@ impl<K: Keeper, G: Gate> Lent<K, G> {
         Ok(dues)
     }
 
-    /// Makes steps until there is none to make, or the lock was held for a while.
-    fn serve_some<R: Clock>(
+    /// Makes steps until there is none to make, or the lock was held for a while; one where each is
+    /// settled by itself.
+    fn make_steps<R: Clock>(
         &self,
         rt: &R,
         alloc: Global,
-        state: &mut Server<K>,
+        state: &mut Resting<K>,
         inbox: &mut VecDeque<Arrived>,
-        served: &mut Served,
+        turn: &mut Turn,
     )
-        ensures done { TellsDone state.old.history served.old.receipts.items state.new.history
-            served.new.receipts.items }
+        ensures done { TellsDone state.old.here.history turn.old.served.receipts.items
+            state.new.here.history turn.new.served.receipts.items }
     {
         let since = Instant::now(rt).ok();
         let mut may_wake = true;
         for _ in 0..MOST_STEPS {
-            let Some(is_done) = step(alloc, &*self.gate, state, inbox, may_wake, served) else {
+            let Some(is_done) = step(alloc, state, inbox, may_wake, turn) else {
                 break;
             };
             may_wake = is_done;
-            served.is_busy = true;
-            if is_long(rt, &since, self.post.is_awaited()) {
+            turn.served.is_busy = true;
+            if self.post.is_each() || is_long(rt, &since) {
                 break;
             }
         }
     }
+
+    /// Makes steps, and settles what they did. Of hops whose settling failed nobody is told.
+    fn serve_some<R: Wait + Clock>(
+        &self,
+        rt: &R,
+        alloc: Global,
+        state: &mut Resting<K>,
+        inbox: &mut VecDeque<Arrived>,
+    ) -> Served
+        ensures { AreDone (settled_front state.new) result.receipts.items }
+    {
+        let nothing = Served {
+            receipts: Vec::new(alloc),
+            heard: Vec::new(alloc),
+            is_busy: false,
+        };
+        let mut turn = Turn {
+            served: nothing,
+            outcomes: Vec::new(alloc),
+        };
+        let since = self.gate.now();
+        self.make_steps(rt, alloc, state, inbox, &mut turn);
+        let is_settled = self.post.settle(rt, alloc, state);
+        if is_settled {
+            self.tell(turn.outcomes.as_slice(), since);
+        } else {
+            self.gate.stopped(self.server, state.cause());
+        }
+        only_settled(turn.served, is_settled)
+    }
+
+    /// Tells the gate what messages came to.
+    fn tell(&self, outcomes: &[Delivered], since: Option<Instant>) {
+        for delivered in outcomes {
+            self.gate.delivered(self.server, delivered, since);
+        }
+    }
 }
 
-impl<K: Keeper, G: Gate> Steps for Lent<K, G> {
+impl<K: BatchKeeper, G: Gate> Steps for Lent<K, G> {
     // That the state is this server's is asked only where something may be owed, so that to find
     // nothing costs no walk over the set.
     fn owed<R: Wait>(&self, rt: &R, alloc: Global, from: u64, most: usize) -> Owed {
         let mut dues = Vec::new(alloc);
-        let state = self.post.lock_shortly(rt);
-        let len = state.history().len() as u64;
+        let state = self.post.look(rt);
+        let len = state.settled().len() as u64;
         let end = if len <= from {
             Some(len)
         } else if is_of(&state, &self.set, self.server) {
@@ -405,7 +446,7 @@ impl<K: Keeper, G: Gate> Steps for Lent<K, G> {
     }
 
     fn owed_at<R: Wait>(&self, rt: &R, alloc: Global, places: &[u64]) -> Result<Vec<Due>, Memory> {
-        let state = self.post.lock_shortly(rt);
+        let state = self.post.look(rt);
         if is_of(&state, &self.set, self.server) {
             self.collect_at(alloc, &state, places)
         } else {
@@ -419,17 +460,18 @@ impl<K: Keeper, G: Gate> Steps for Lent<K, G> {
         alloc: Global,
         inbox: &mut VecDeque<Arrived>,
     ) -> Served {
-        let mut served = Served::new(alloc);
-        let mut state = self.post.lock_after_clients(rt);
+        let mut state = self.post.enter(rt);
         let delivers = brings_message(inbox) || !state.held().is_empty();
         if delivers {
             self.gate.enter(self.server, Passage::Deliver);
         }
-        if is_of(&state, &self.set, self.server) {
-            self.serve_some(rt, alloc, &mut state, inbox, &mut served);
+        let served = if is_of(&state, &self.set, self.server) {
+            self.serve_some(rt, alloc, &mut state, inbox)
         } else {
             inbox.clear();
-        }
+            self.post.settle(rt, alloc, &mut state);
+            Served::new(alloc)
+        };
         drop(state);
         if delivers {
             self.gate.leave(self.server, Passage::Deliver);

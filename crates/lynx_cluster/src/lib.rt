@@ -10,6 +10,7 @@ pub use glancing::Glance;
 pub use host::Host;
 pub use lent::Lent;
 pub use opening::Opened;
+pub use post::Pace;
 pub use session::Session;
 
 mod absent;
@@ -24,7 +25,7 @@ pub mod host;
 pub mod lent;
 mod looking;
 pub mod opening;
-mod post;
+pub mod post;
 pub mod session;
 mod settling;
 pub mod starting;

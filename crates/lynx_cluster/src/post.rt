@@ -1,70 +1,116 @@
-//! A server behind its lock, and the turns that clients and its worker take at it.
-use lynx_keep::Keeper;
-use lynx_server::Server;
+//! A server behind its lock, and the settlings that those share who take turns at it.
+ghost use Rattle.std.specs.Prelude.{◌≡◌, true};
+ghost use Rattle.lynx_resting.specs.Resting.{settled_front};
+
+use lynx_keep::BatchKeeper;
+use lynx_resting::{Mark, Resting};
+use std::alloc::Global;
 use std::sync::atomic::{AtomicU64, Ordering};
-use std::sync::{Mutex, MutexGuard, Wait};
-use std::thread;
-use std::time::{Clock, Duration};
+use std::sync::{Condvar, Mutex, MutexGuard, Wait};
 
-/// Microseconds between two looks of a worker whether those were served that waited before it, ..
-const LOOK_MICROS: u64 = 50;
+/// Entries that wait for a settling, at most: from then on each step settles.
+const MOST_WAITING: usize = 256;
 
-/// .. and such looks, at most: a client whose thread gets no processor keeps nobody waiting.
-const MOST_LOOKS: u32 = 40;
-
-/// A server behind its lock. Clients take it as they come. Its worker, which takes it again and
-/// again, lets those go first that wait, so that none of them waits for it twice.
-#[derive(Drop)]
-pub(crate) struct Post<K: Keeper> {
-    state: Mutex<Server<K>>,
-    /// How many times a client asked for the lock, ..
-    asked: AtomicU64,
-    /// .. and how many times one got it.
-    entered: AtomicU64,
+/// How many steps of a server go into one transaction of its store.
+#[derive(Clone, Copy, Debug, PartialEq, Eq)]
+pub enum Pace {
+    /// One: each step is settled before the next one.
+    Each,
+    /// Those of all who wait at the server.
+    Shared,
 }
 
-impl<K: Keeper> Post<K> {
-    /// Of that server; nobody asked for it yet.
-    pub(crate) fn new(state: Server<K>) -> Post<K> {
+/// A server behind its lock. A thread that makes a step there leaves the settling to those that
+/// wait for the lock to make one: the last of them settles for all.
+#[derive(Drop)]
+pub(crate) struct Post<K: BatchKeeper> {
+    state: Mutex<Resting<K>>,
+    pace: Pace,
+    /// How many times a thread asked for the lock to make a step.
+    asked: AtomicU64,
+    /// How many times a thread got it to make one.
+    entered: AtomicU64,
+    /// How much is settled, as the last settling left it.
+    mark: Mutex<Mark>,
+    /// Rung at each settling.
+    settled: Condvar,
+}
+
+impl<K: BatchKeeper> Post<K> {
+    /// Of that server.
+    pub(crate) fn new(state: Resting<K>, pace: Pace) -> Post<K> {
+        let mark = state.mark();
         Post {
             state: Mutex::new(state),
+            pace,
             asked: AtomicU64::new(0),
             entered: AtomicU64::new(0),
+            mark: Mutex::new(mark),
+            settled: Condvar::new(),
         }
     }
 
-    /// The lock, for a client.
-    pub(crate) fn lock<R: Wait>(&self, rt: &R) -> MutexGuard<'_, Server<K>> {
+    /// The lock, to make a step. It is given back by [`Post::give_back`], or after a settling.
+    pub(crate) fn enter<R: Wait>(&self, rt: &R) -> MutexGuard<'_, Resting<K>> {
         self.asked.fetch_add(1, Ordering::SeqCst);
         let state = self.state.lock(rt);
         self.entered.fetch_add(1, Ordering::SeqCst);
         state
     }
 
-    /// The lock for a short while, for the worker.
-    pub(crate) fn lock_shortly<R: Wait>(&self, rt: &R) -> MutexGuard<'_, Server<K>> {
+    /// The lock, to look.
+    pub(crate) fn look<R: Wait>(&self, rt: &R) -> MutexGuard<'_, Resting<K>> {
         self.state.lock(rt)
     }
 
-    /// The lock for the worker, once those had it that wait for it now.
-    pub(crate) fn lock_after_clients<R: Wait + Clock>(&self, rt: &R) -> MutexGuard<'_, Server<K>> {
-        let asked = self.asked.load(Ordering::SeqCst);
-        for _ in 0..MOST_LOOKS {
-            if self.entered.load(Ordering::SeqCst) >= asked {
-                break;
-            }
-            thread::sleep(rt, Duration::from_micros(LOOK_MICROS));
-        }
-        self.state.lock(rt)
+    /// Each step is settled by itself.
+    pub(crate) fn is_each(&self) -> bool {
+        matches!(self.pace, Pace::Each)
     }
 
-    /// Whether a client waits for the lock.
-    pub(crate) fn is_awaited(&self) -> bool {
+    /// Another thread waits for the lock, to make a step.
+    fn is_awaited(&self) -> bool {
         self.entered.load(Ordering::SeqCst) < self.asked.load(Ordering::SeqCst)
     }
 
+    /// Settles all that the server did, and tells those who wait for it.
+    pub(crate) fn settle<R: Wait>(&self, rt: &R, alloc: Global, state: &mut Resting<K>) -> bool
+        ensures { result ≡ true → settled_front state.new ≡ state.old.here.history }
+    {
+        let is_settled = state.settle(alloc);
+        *self.mark.lock(rt) = state.mark();
+        self.settled.notify_all();
+        is_settled
+    }
+
+    /// Gives the lock back after a step. It settles what waits, unless another thread waits for the
+    /// lock: that one settles it with its own step.
+    pub(crate) fn give_back<R: Wait>(
+        &self,
+        rt: &R,
+        alloc: Global,
+        mut state: MutexGuard<'_, Resting<K>>,
+    ) {
+        if self.is_each() || !self.is_awaited() || state.waiting() >= MOST_WAITING {
+            self.settle(rt, alloc, &mut state);
+        }
+        drop(state);
+    }
+
+    /// Waits until so many entries are settled, or the server stopped.
+    pub(crate) fn await_settled<R: Wait>(&self, rt: &R, reached: usize) -> Mark {
+        let mut mark = self.mark.lock(rt);
+        for _ in rt.forever() {
+            if reached <= mark.settled() || mark.is_stopped() {
+                return *mark;
+            }
+            mark = self.settled.wait(rt, mark);
+        }
+        unreachable!()
+    }
+
     /// The server, out of its lock.
-    pub(crate) fn into_state(self) -> Server<K>
+    pub(crate) fn into_state(self) -> Resting<K>
     where
         K: Drop,
     {

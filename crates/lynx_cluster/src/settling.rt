@@ -5,7 +5,6 @@ ghost use Rattle.lynx_weave.specs.Servers.{histories_of};
 ghost use Rattle.lynx_cluster.specs.inner.Serving.{AreDone};
 ghost use Rattle.lynx_cluster.specs.inner.Settling.{AreSettled, IsDoneIn};
 
-use crate::lent::sender_of;
 use lynx_entry::Entry;
 use lynx_keep::Keeper;
 use lynx_names::Memory;
@@ -24,7 +23,7 @@ fn receipts_of<K: Keeper>(alloc: Global, state: &Server<K>) -> Result<Vec<Receip
             continue;
         };
         let (chain, hop) = (ran.message.chain, ran.message.hop);
-        if let Some(to) = sender_of(state, &chain, hop) {
+        if let Some(to) = state.sender_of(&chain, hop) {
             receipts.push(Receipt { to, chain, hop })?;
         }
     }

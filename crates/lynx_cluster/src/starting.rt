@@ -9,11 +9,12 @@ use crate::cluster::{Cluster, Front};
 use crate::fault::StartFault;
 use crate::gate::Gate;
 use crate::opening::Opened;
-use crate::post::Post;
+use crate::post::{Pace, Post};
 use crate::settling::settle;
 use crate::workers::{lend_all, start_all};
-use lynx_keep::Keeper;
+use lynx_keep::BatchKeeper;
 use lynx_names::Memory;
+use lynx_resting::Resting;
 use lynx_server::Server;
 use lynx_set::ChainSet;
 use std::alloc::Global;
@@ -24,13 +25,13 @@ use std::time::Clock;
 
 /// Servers behind their locks, and how long each history was before.
 #[derive(Drop)]
-struct Posted<K: Keeper> {
+struct Posted<K: BatchKeeper> {
     posts: Vec<Arc<Post<K>>>,
     starts: Vec<u64>,
 }
 
 /// How long the history of each server is.
-fn starts_of<K: Keeper>(alloc: Global, servers: &[Server<K>]) -> Result<Vec<u64>, Memory>
+fn starts_of<K: BatchKeeper>(alloc: Global, servers: &[Server<K>]) -> Result<Vec<u64>, Memory>
     ensures { IfOk result (λ starts. starts.items ≡ map start_of servers.now) }
 {
     let mut starts = Vec::new(alloc);
@@ -41,19 +42,24 @@ fn starts_of<K: Keeper>(alloc: Global, servers: &[Server<K>]) -> Result<Vec<u64>
 }
 
 /// Puts each server behind a lock.
-fn post_all<K: Keeper + Drop>(alloc: Global, servers: Vec<Server<K>>) -> Result<Posted<K>, Memory>
+fn post_all<K: BatchKeeper + Drop>(
+    alloc: Global,
+    servers: Vec<Server<K>>,
+    pace: Pace,
+) -> Result<Posted<K>, Memory>
     ensures starts { IfOk result (λ posted. posted.starts.items ≡ map start_of servers.items) }
     ensures posts { IfOk result (λ posted. length posted.posts.items ≡ length servers.items) }
 {
     let starts = starts_of(alloc, servers.as_slice())?;
     let mut posts = Vec::new(alloc);
     for server in servers {
-        posts.push(Arc::new(alloc, Post::new(server))?)?;
+        let state = Resting::new(alloc, server);
+        posts.push(Arc::new(alloc, Post::new(state, pace))?)?;
     }
     Ok(Posted { posts, starts })
 }
 
-impl<K: Keeper + Drop> Opened<K> {
+impl<K: BatchKeeper + Drop> Opened<K> {
     /// Starts a worker thread for each server. The set is copied for each of them. Messages whose
     /// hops were done before aren't sent again. Where it fails the keepers are dropped, what they
     /// stored stands, and no thread is left.
@@ -62,6 +68,7 @@ impl<K: Keeper + Drop> Opened<K> {
         rt: R,
         alloc: Global,
         gate: G,
+        pace: Pace,
     ) -> Result<Cluster<K, G>, StartFault>
     where
         K: Send + 'static,
@@ -73,7 +80,7 @@ impl<K: Keeper + Drop> Opened<K> {
         let Opened { set, mut servers } = self;
         // Where there is no memory for it, messages that need not come again do.
         let _ = settle(alloc, servers.as_mut_slice());
-        let Posted { posts, starts } = post_all(alloc, servers)?;
+        let Posted { posts, starts } = post_all(alloc, servers, pace)?;
         let gate = Arc::new(alloc, gate)?;
         let stop = Arc::new(alloc, AtomicBool::new(false))?;
         let bells = Arc::new(alloc, Bells::new(alloc, set.servers())?)?;
@@ -95,9 +102,9 @@ impl<K: Keeper + Drop> Opened<K> {
     }
 }
 
-impl<K: Keeper + Drop, G: Gate + Drop> Cluster<K, G> {
+impl<K: BatchKeeper + Drop, G: Gate + Drop> Cluster<K, G> {
     /// Opens each server of the set over its keeper, in order, and starts a worker thread for each:
-    /// [`Opened::open`] and [`Opened::start`].
+    /// [`Opened::open`] and [`Opened::start`], with settlings that are shared.
     pub fn start<R: Threads + Wait + Clock + Copy + Send + 'static>(
         rt: R,
         alloc: Global,
@@ -112,6 +119,6 @@ impl<K: Keeper + Drop, G: Gate + Drop> Cluster<K, G> {
         ensures fault { IfErr result (IsUnstarted K.terms set.now keepers.items) }
     {
         let opened = Opened::open(alloc, set, keepers)?;
-        opened.start(rt, alloc, gate)
+        opened.start(rt, alloc, gate, Pace::Shared)
     }
 }

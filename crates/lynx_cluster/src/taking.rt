@@ -9,7 +9,7 @@ use crate::fault::CloseFault;
 use crate::post::Post;
 use crate::session::Session;
 use lynx_entry::Entry;
-use lynx_keep::Keeper;
+use lynx_keep::BatchKeeper;
 use lynx_names::{Memory, ServerId};
 use lynx_set::ChainSet;
 use lynx_weave::ToldItem;
@@ -18,14 +18,15 @@ use std::sync::Arc;
 
 /// The histories of all servers, and their keepers.
 #[derive(Drop)]
-pub(crate) struct Taken<K: Keeper> {
+pub(crate) struct Taken<K: BatchKeeper> {
     pub(crate) histories: Vec<Vec<Entry>>,
     pub(crate) keepers: Vec<K>,
 }
 
-/// The state of that server, out of its lock. None where another still has a part in it, it is
-/// another server's or another set's, or it stopped.
-fn take_back<K: Keeper + Drop>(
+/// The state of that server, out of its lock, all of it settled. None where another still has a
+/// part in it, it is another server's or another set's, or it stopped.
+fn take_back<K: BatchKeeper + Drop>(
+    alloc: Global,
     set: &ChainSet,
     server: ServerId,
     post: Arc<Post<K>>,
@@ -33,15 +34,13 @@ fn take_back<K: Keeper + Drop>(
     ensures { IfSome result (λ taken. IsTakenBack K.terms set.now server taken.0.items taken.1) }
 {
     let state = Arc::into_inner(post)?.into_state();
-    if !is_of(&state, set, server) || state.is_stopped() {
+    if !is_of(&state, set, server) {
         return None;
     }
-    // By its type the history is lawful.
-    let _ = state.history();
-    Some(state.into_parts())
+    state.into_parts(alloc)
 }
 
-impl<K: Keeper + Drop> Taken<K> {
+impl<K: BatchKeeper + Drop> Taken<K> {
     /// One server more.
     fn add(&mut self, back: (Vec<Entry>, K)) -> Result<(), Memory>
         ensures histories { OnOk result (self.new.histories.items
@@ -57,7 +56,7 @@ impl<K: Keeper + Drop> Taken<K> {
 }
 
 /// The states of all servers, out of their locks.
-pub(crate) fn take_all<K: Keeper + Drop>(
+pub(crate) fn take_all<K: BatchKeeper + Drop>(
     alloc: Global,
     set: &ChainSet,
     posts: Vec<Arc<Post<K>>>,
@@ -78,7 +77,7 @@ pub(crate) fn take_all<K: Keeper + Drop>(
             unreachable!()
         };
         let server = ServerId::at(number);
-        let Some(back) = take_back(set, server, post) else {
+        let Some(back) = take_back(alloc, set, server, post) else {
             return Err(CloseFault::Stopped { server });
         };
         taken.add(back)?;

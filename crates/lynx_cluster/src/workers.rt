@@ -7,7 +7,7 @@ use crate::fault::StartFault;
 use crate::gate::Gate;
 use crate::lent::Lent;
 use crate::post::Post;
-use lynx_keep::Keeper;
+use lynx_keep::BatchKeeper;
 use lynx_link::{Ends, links};
 use lynx_names::{ServerId, TryCopy};
 use lynx_set::ChainSet;
@@ -35,7 +35,7 @@ pub(crate) fn stop_all<R: Threads>(
 
 /// One more worker.
 fn start_worker<
-    K: Keeper + Send + Drop + 'static,
+    K: BatchKeeper + Send + Drop + 'static,
     G: Gate + Send + Sync + Drop + 'static,
     R: Threads + Wait + Clock + Copy + Send + 'static,
 >(
@@ -57,7 +57,7 @@ fn start_worker<
 
 /// The next worker, added to those that run.
 fn start_next<
-    K: Keeper + Send + Drop + 'static,
+    K: BatchKeeper + Send + Drop + 'static,
     G: Gate + Send + Sync + Drop + 'static,
     R: Threads + Wait + Clock + Copy + Send + 'static,
 >(
@@ -79,7 +79,7 @@ fn start_next<
 /// A worker for each server. Where one can't be started, those that run are stopped, and have
 /// ended.
 pub(crate) fn start_all<
-    K: Keeper + Send + Drop + 'static,
+    K: BatchKeeper + Send + Drop + 'static,
     G: Gate + Send + Sync + Drop + 'static,
     R: Threads + Wait + Clock + Copy + Send + 'static,
 >(
@@ -104,7 +104,7 @@ pub(crate) fn start_all<
 }
 
 /// What the worker of that server is lent.
-fn lend<K: Keeper + Drop, G: Gate + Drop>(
+fn lend<K: BatchKeeper + Drop, G: Gate + Drop>(
     alloc: Global,
     set: &ChainSet,
     server: ServerId,
@@ -122,7 +122,7 @@ fn lend<K: Keeper + Drop, G: Gate + Drop>(
 }
 
 /// What each worker is lent.
-pub(crate) fn lend_all<K: Keeper + Drop, G: Gate + Drop>(
+pub(crate) fn lend_all<K: BatchKeeper + Drop, G: Gate + Drop>(
     alloc: Global,
     set: &ChainSet,
     posts: &[Arc<Post<K>>],

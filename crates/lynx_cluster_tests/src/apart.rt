@@ -9,7 +9,7 @@ use lynx_entry::Answer;
 use lynx_fixtures::made::{chain, request};
 use lynx_fixtures::parts::RequestParts;
 use lynx_fixtures::texts::set_of;
-use lynx_keep::Keeper;
+use lynx_keep::BatchKeeper;
 use lynx_names::Memory;
 use lynx_order::{Explained, explain};
 use std::alloc::Global;
@@ -27,7 +27,7 @@ const STUCK: u64 = 600;
 const MOST_LOOKS: u32 = 5_000;
 
 /// Begins a program without arguments. Whether it began.
-fn begins<R: Wait, K: Keeper, G: Gate>(
+fn begins<R: Wait, K: BatchKeeper, G: Gate>(
     rt: &R,
     alloc: Global,
     front: &Front<K, G>,
@@ -46,7 +46,7 @@ fn begins<R: Wait, K: Keeper, G: Gate>(
 }
 
 /// Whether the last hop of that chain is done soon.
-fn is_done<R: Wait + Clock, K: Keeper, G: Gate>(
+fn is_done<R: Wait + Clock, K: BatchKeeper, G: Gate>(
     rt: &R,
     alloc: Global,
     front: &Front<K, G>,
@@ -64,7 +64,7 @@ fn is_done<R: Wait + Clock, K: Keeper, G: Gate>(
 
 /// Whether a chain to the last server is done while the other one stands still, and the chains to
 /// that one are once it goes on.
-fn are_done<R: Wait + Clock, K: Keeper, G: Gate>(
+fn are_done<R: Wait + Clock, K: BatchKeeper, G: Gate>(
     rt: &R,
     alloc: Global,
     front: &Front<K, G>,
@@ -85,7 +85,7 @@ fn are_done<R: Wait + Clock, K: Keeper, G: Gate>(
 /// Whether that is so in a cluster, and an order explains all.
 fn are_apart<
     R: Threads + Wait + Clock + Copy + Drop + Send + Sync + 'static,
-    K: Keeper + Send + Drop + 'static,
+    K: BatchKeeper + Send + Drop + 'static,
 >(rt: R, alloc: Global, keepers: Vec<K>) -> Result<bool, Trouble> {
     let set = set_of(alloc, FAN)?;
     let mut sessions = Vec::new(alloc);

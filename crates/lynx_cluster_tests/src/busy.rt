@@ -6,7 +6,7 @@ use crate::trouble::Trouble;
 use lynx_cluster::{Cluster, Front, Gate, Session};
 use lynx_fixtures::parts::{AnswerParts, RequestParts};
 use lynx_fixtures::texts::{TRIP, set_of};
-use lynx_keep::Keeper;
+use lynx_keep::BatchKeeper;
 use lynx_names::Memory;
 use std::alloc::Global;
 use std::sync::Wait;
@@ -64,7 +64,7 @@ const BACK: &[Asked] = &[
 
 /// A session that asks while the first trip is away and when it is back, and whether it is told
 /// rightly.
-fn talked<R: Wait + Clock, K: Keeper, G: Gate>(
+fn talked<R: Wait + Clock, K: BatchKeeper, G: Gate>(
     rt: &R,
     alloc: Global,
     front: &Front<K, G>,
@@ -82,7 +82,7 @@ fn talked<R: Wait + Clock, K: Keeper, G: Gate>(
 /// Whether the second trip is busy while the first is away.
 fn is_busy<
     R: Threads + Wait + Clock + Copy + Drop + Send + Sync + 'static,
-    K: Keeper + Send + Drop + 'static,
+    K: BatchKeeper + Send + Drop + 'static,
 >(rt: R, alloc: Global, keepers: Vec<K>) -> Result<bool, Trouble> {
     let set = set_of(alloc, TRIP)?;
     let (gate, is_open) = make_barrier(rt, alloc)?;

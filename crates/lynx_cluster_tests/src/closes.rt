@@ -8,7 +8,7 @@ use lynx_fixtures::made::{message, server};
 use lynx_fixtures::parts::{AnswerParts, RequestParts};
 use lynx_fixtures::payments::SENT;
 use lynx_fixtures::texts::{PAYMENT, set_of};
-use lynx_keep::{Keeper, MemoryKeeper, Planned};
+use lynx_keep::{BatchKeeper, MemoryKeeper, Planned};
 use lynx_names::{Memory, ServerId};
 use lynx_server::Server;
 use std::alloc::Global;
@@ -58,7 +58,7 @@ const PUTS_AT_A_STOP: &[Asked] = &[
 /// it does.
 fn fault_after<
     R: Threads + Wait + Clock + Copy + Send + 'static,
-    K: Keeper + Send + Drop + 'static,
+    K: BatchKeeper + Send + Drop + 'static,
 >(
     rt: R,
     alloc: Global,
@@ -117,7 +117,7 @@ fn a_hop_that_nobody_sent_is_a_mismatch(rt: HostRuntime) -> Result<(), Fail> {
 }
 
 /// The first of three sessions, and the third. The second is let go.
-fn two_of_three<R: Wait, K: Keeper, G: Gate>(
+fn two_of_three<R: Wait, K: BatchKeeper, G: Gate>(
     rt: &R,
     alloc: Global,
     front: &Front<K, G>,
@@ -132,7 +132,7 @@ fn two_of_three<R: Wait, K: Keeper, G: Gate>(
 /// Why a cluster over these keepers doesn't close without its second session.
 fn fault_without_second<
     R: Threads + Wait + Clock + Copy + Send + 'static,
-    K: Keeper + Send + Drop + 'static,
+    K: BatchKeeper + Send + Drop + 'static,
 >(rt: R, alloc: Global, keepers: Vec<K>) -> Result<Option<CloseFault>, Trouble> {
     let set = set_of(alloc, PUTS)?;
     let cluster = Cluster::start(rt, alloc, &set, keepers, OpenGate)?;
@@ -155,7 +155,7 @@ fn a_session_that_is_kept_back_is_absent(rt: HostRuntime) -> Result<(), Fail> {
 /// nothing.
 fn fault_of_stranger<
     R: Threads + Wait + Clock + Copy + Send + 'static,
-    K: Keeper + Send + Drop + 'static,
+    K: BatchKeeper + Send + Drop + 'static,
 >(rt: R, alloc: Global, one: Vec<K>, other: Vec<K>) -> Result<Option<CloseFault>, Trouble> {
     let set = set_of(alloc, PUTS)?;
     let first = Cluster::start(rt, alloc, &set, one, OpenGate)?;

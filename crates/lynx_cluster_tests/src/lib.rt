@@ -1,7 +1,7 @@
 //! Tests of links and of a running cluster: full rings, the order of parcels and the rings of all
-//! pairs; the worked sessions, two threads inside two servers at once, why a cluster doesn't start
-//! or close, and a worker over a server that stands in. Many begins by many clients are tried at a
-//! service, in tests/loads.
+//! pairs; the worked sessions, two threads inside two servers at once, a store that fails in a
+//! settling, why a cluster doesn't start or close, and a worker over a server that stands in. Many
+//! begins by many clients are tried at a service, in tests/loads.
 #![tactic(auto)]
 
 #[cfg(test)]
@@ -32,6 +32,8 @@ mod reopened;
 mod rows;
 #[cfg(test)]
 mod sessions;
+#[cfg(test)]
+mod settles;
 #[cfg(test)]
 mod slow;
 #[cfg(test)]

@@ -9,7 +9,7 @@ use lynx_fixtures::cells::are_cells;
 use lynx_fixtures::made::server;
 use lynx_fixtures::parts::{AnswerParts, RequestParts};
 use lynx_fixtures::texts::set_of;
-use lynx_keep::{Keeper, MemoryKeeper};
+use lynx_keep::{BatchKeeper, MemoryKeeper};
 use lynx_names::Memory;
 use std::alloc::Global;
 use std::sync::Wait;
@@ -72,7 +72,7 @@ const AFTERWARDS: &[Asked] = &[Asked::Begin(
 /// The sessions of two threads that begin at once, and whether they are told rightly.
 fn both_begin<
     R: Threads + Wait + Clock + Sync,
-    K: Keeper + Send + Drop,
+    K: BatchKeeper + Send + Drop,
     G: Gate + Send + Sync + Drop,
 >(rt: &R, alloc: Global, front: &Front<K, G>) -> Result<(Vec<Session>, bool), Memory> {
     let mut sessions = Vec::new(alloc);
@@ -93,7 +93,7 @@ fn both_begin<
 /// as it should.
 fn begins_meet<
     R: Threads + Wait + Clock + Copy + Drop + Send + Sync + 'static,
-    K: Keeper + Send + Drop + 'static,
+    K: BatchKeeper + Send + Drop + 'static,
 >(rt: R, alloc: Global, keepers: Vec<K>) -> Result<bool, Trouble> {
     let set = set_of(alloc, PUTS)?;
     let (gate, marks) = make_crossing(rt, alloc, Passage::Begin)?;
@@ -149,7 +149,7 @@ const ARRIVALS: &[Asked] = &[
 ];
 
 /// Whether the world is that of both chains.
-fn have_crossed<K: Keeper>(alloc: Global, closed: &Closed<K>) -> Result<bool, Trouble> {
+fn have_crossed<K: BatchKeeper>(alloc: Global, closed: &Closed<K>) -> Result<bool, Trouble> {
     let cells = closed.world.cells(alloc)?;
     Ok(
         are_cells(cells.as_slice(), &[(0, 0, 2), (0, 10, 2)])
@@ -160,7 +160,7 @@ fn have_crossed<K: Keeper>(alloc: Global, closed: &Closed<K>) -> Result<bool, Tr
 /// Whether two deliveries are inside two servers at once, and the cluster closes as it should.
 fn deliveries_meet<
     R: Threads + Wait + Clock + Copy + Drop + Send + Sync + 'static,
-    K: Keeper + Send + Drop + 'static,
+    K: BatchKeeper + Send + Drop + 'static,
 >(rt: R, alloc: Global, keepers: Vec<K>) -> Result<bool, Trouble> {
     let set = set_of(alloc, GO_AND_COME)?;
     let (gate, marks) = make_crossing(rt, alloc, Passage::Deliver)?;

@@ -13,7 +13,7 @@ use std::sync::atomic::{AtomicU64, Ordering};
 use std::sync::{Arc, Wait};
 use std::thread;
 use std::thread::Threads;
-use std::time::{Clock, Duration};
+use std::time::{Clock, Duration, Instant};
 
 /// Counts all messages that are delivered.
 #[derive(Drop)]
@@ -26,7 +26,7 @@ impl Gate for Counting {
 
     fn leave(&self, _server: ServerId, _passage: Passage) {}
 
-    fn delivered(&self, _server: ServerId, _delivered: &Delivered) {
+    fn delivered(&self, _server: ServerId, _delivered: &Delivered, _since: Option<Instant>) {
         self.deliveries.fetch_add(1, Ordering::SeqCst);
     }
 }

@@ -6,7 +6,7 @@ use crate::trouble::Trouble;
 use lynx_cluster::{Cluster, OpenGate};
 use lynx_fixtures::parts::{AnswerParts, RequestParts};
 use lynx_fixtures::texts::{TRIP, set_of};
-use lynx_keep::Keeper;
+use lynx_keep::BatchKeeper;
 use lynx_names::Memory;
 use std::alloc::Global;
 use std::sync::Wait;
@@ -140,7 +140,7 @@ pub const TRIPS: Row = Row {
 /// order.
 fn is_met<
     R: Threads + Wait + Clock + Copy + Send + Sync + 'static,
-    K: Keeper + Send + Drop + 'static,
+    K: BatchKeeper + Send + Drop + 'static,
 >(rt: R, alloc: Global, row: Row, keepers: Vec<K>) -> Result<bool, Trouble> {
     let set = set_of(alloc, row.set)?;
     let cluster = Cluster::start(rt, alloc, &set, keepers, OpenGate)?;

@@ -1,7 +1,7 @@
 //! A keeper that takes its time.
 use lynx_cells::Changes;
 use lynx_entry::Entry;
-use lynx_keep::{KeepFault, Keeper, Loaded, MemoryKeeper};
+use lynx_keep::{BatchKeeper, KeepFault, Keeper, Loaded, MemoryKeeper};
 use lynx_names::Memory;
 use std::alloc::Global;
 use std::sync::Arc;
@@ -9,7 +9,7 @@ use std::sync::atomic::{AtomicU64, Ordering};
 use std::thread;
 use std::time::{Clock, Duration};
 
-/// Keeps everything in memory, each entry after a while, and counts them.
+/// Keeps everything in memory, each commit after a while, of one entry or of many, and counts them.
 #[derive(Drop)]
 pub struct SlowKeeper<R: Clock> {
     rt: R,
@@ -44,6 +44,7 @@ impl<R: Clock> Keeper for SlowKeeper<R> {
       keeps = λ keeper kept. kept ≡ keeper.inner;
       leaves = λ keeper one other. (keeper.inner ≡ one) ⊎ (keeper.inner ≡ other);
       counted = λ _. 0;
+      rests = λ keeper settled kept. Unit {0};
     } };
 
     fn commit(&mut self, alloc: Global, entry: &Entry, changes: &Changes) -> Result<(), KeepFault> {
@@ -63,4 +64,17 @@ impl<R: Clock> Keeper for SlowKeeper<R> {
     ghost settled = { λ keeper kept sound keeps. inl (sym keeps) };
 
     ghost weaker = { λ keeper kept other left. Prim.search rules };
+}
+
+impl<R: Clock> BatchKeeper for SlowKeeper<R> {
+    fn commit_all(
+        &mut self,
+        alloc: Global,
+        entries: &[Entry],
+        changes: &Changes,
+    ) -> Result<(), KeepFault> {
+        self.commits.fetch_add(1, Ordering::SeqCst);
+        thread::sleep(&self.rt, self.pause);
+        self.inner.commit_all(alloc, entries, changes)
+    }
 }

@@ -6,7 +6,7 @@ use lynx_cluster::{Cluster, OpenGate, StartFault};
 use lynx_fixtures::made::server;
 use lynx_fixtures::parts::RequestParts;
 use lynx_fixtures::texts::set_of;
-use lynx_keep::{Keeper, MemoryKeeper};
+use lynx_keep::{BatchKeeper, MemoryKeeper};
 use lynx_names::{Memory, ServerId};
 use lynx_server::OpenFault;
 use std::alloc::Global;
@@ -16,11 +16,10 @@ use std::thread::Threads;
 use std::time::Clock;
 
 /// Why a cluster doesn't start over these keepers. None where it does.
-fn fault_over<R: Threads + Wait + Clock + Copy + Send + 'static, K: Keeper + Send + Drop + 'static>(
-    rt: R,
-    alloc: Global,
-    keepers: Vec<K>,
-) -> Result<Option<StartFault>, Trouble> {
+fn fault_over<
+    R: Threads + Wait + Clock + Copy + Send + 'static,
+    K: BatchKeeper + Send + Drop + 'static,
+>(rt: R, alloc: Global, keepers: Vec<K>) -> Result<Option<StartFault>, Trouble> {
     let set = set_of(alloc, GO_AND_COME)?;
     match Cluster::start(rt, alloc, &set, keepers, OpenGate) {
         Ok(cluster) => {

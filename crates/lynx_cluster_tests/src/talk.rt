@@ -4,7 +4,7 @@ use lynx_cluster::{Front, Gate, Session};
 use lynx_codec::Looked;
 use lynx_fixtures::made::{answer, chain, request, stamp, values};
 use lynx_fixtures::parts::{AnswerParts, RequestParts};
-use lynx_keep::Keeper;
+use lynx_keep::BatchKeeper;
 use lynx_names::{ChainId, Memory};
 use lynx_order::{Explained, explain};
 use lynx_world::World;
@@ -38,7 +38,7 @@ pub enum Asked {
 }
 
 /// What there is of the hop, as soon as there is something.
-fn found<R: Wait + Clock, K: Keeper, G: Gate>(
+fn found<R: Wait + Clock, K: BatchKeeper, G: Gate>(
     rt: &R,
     alloc: Global,
     front: &Front<K, G>,
@@ -57,7 +57,7 @@ fn found<R: Wait + Clock, K: Keeper, G: Gate>(
 }
 
 /// Whether the session is told what it is to be told.
-fn is_told<R: Wait + Clock, K: Keeper, G: Gate>(
+fn is_told<R: Wait + Clock, K: BatchKeeper, G: Gate>(
     rt: &R,
     alloc: Global,
     front: &Front<K, G>,
@@ -91,7 +91,7 @@ fn is_told<R: Wait + Clock, K: Keeper, G: Gate>(
 }
 
 /// Asks one thing after another, up to the first that is told wrongly. Whether there is none.
-pub fn talk<R: Wait + Clock, K: Keeper, G: Gate>(
+pub fn talk<R: Wait + Clock, K: BatchKeeper, G: Gate>(
     rt: &R,
     alloc: Global,
     front: &Front<K, G>,
@@ -107,7 +107,7 @@ pub fn talk<R: Wait + Clock, K: Keeper, G: Gate>(
 }
 
 /// A session that asked all this, alone in a list, and whether it was told rightly.
-pub fn talked<R: Wait + Clock, K: Keeper, G: Gate>(
+pub fn talked<R: Wait + Clock, K: BatchKeeper, G: Gate>(
     rt: &R,
     alloc: Global,
     front: &Front<K, G>,

@@ -8,7 +8,7 @@ use lynx_entry::Answer;
 use lynx_fixtures::made::request;
 use lynx_fixtures::parts::RequestParts;
 use lynx_fixtures::texts::set_of;
-use lynx_keep::Keeper;
+use lynx_keep::BatchKeeper;
 use lynx_names::Memory;
 use std::alloc::Global;
 use std::sync::atomic::{AtomicBool, AtomicU64, Ordering};
@@ -47,7 +47,7 @@ struct Call {
 }
 
 /// Begins it. Whether it began.
-fn begins<R: Wait, K: Keeper, G: Gate>(
+fn begins<R: Wait, K: BatchKeeper, G: Gate>(
     rt: &R,
     alloc: Global,
     front: &Front<K, G>,
@@ -67,7 +67,7 @@ fn begins<R: Wait, K: Keeper, G: Gate>(
 
 /// Lets a chain go the long way, and then many the short one: they are held at the slow server, and
 /// woken one after another once the barrier is open.
-fn send_ahead<R: Wait, K: Keeper, G: Gate>(
+fn send_ahead<R: Wait, K: BatchKeeper, G: Gate>(
     rt: &R,
     alloc: Global,
     front: &Front<K, G>,
@@ -94,7 +94,7 @@ fn send_ahead<R: Wait, K: Keeper, G: Gate>(
 }
 
 /// The most commits of the slow server while one begins there, its own included.
-fn most_commits<R: Wait + Clock, K: Keeper, G: Gate>(
+fn most_commits<R: Wait + Clock, K: BatchKeeper, G: Gate>(
     rt: &R,
     alloc: Global,
     front: &Front<K, G>,
@@ -120,7 +120,7 @@ fn most_commits<R: Wait + Clock, K: Keeper, G: Gate>(
 
 /// Whether no begin at the slow server waits for the line of commits: for the one under way, or for
 /// some where its thread has to wait for a processor, but never for all that are woken.
-fn is_short<R: Wait + Clock, K: Keeper, G: Gate>(
+fn is_short<R: Wait + Clock, K: BatchKeeper, G: Gate>(
     rt: &R,
     alloc: Global,
     front: &Front<K, G>,

@@ -5,11 +5,10 @@ use Rattle.std.specs.FinMap as map
 use Rattle.lynx_cells.specs.Database.{ChangeSet, Database, applied, empty_database}
 use Rattle.lynx_entry.specs.Entry.{History}
 use Rattle.lynx_hops.proofs.Outcomes.{applied_none}
-use Rattle.lynx_keep.specs.Kept.{KeptState}
+use Rattle.lynx_keep.specs.Kept.{KeptState, with_entries}
 use Rattle.lynx_rules.specs.Tables.{after_entry, tables_of}
 use Rattle.lynx_server.specs.Keeping.{kept_of}
 use Rattle.lynx_set.specs.Set.{Set}
-use Rattle.lynx_store.specs.Batches.{with_entries}
 use Rattle.lynx_follow.specs.Following.{Notes}
 
 -- the cells after the entries that follow are those of all

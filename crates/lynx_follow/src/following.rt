@@ -11,11 +11,10 @@ ghost use Rattle.lynx_follow.specs.inner.Reading.{ReadsBack};
 use crate::redoing::redo_all;
 use lynx_cells::{Cells, Changes};
 use lynx_entry::Entry;
-use lynx_keep::{Cause, KeepFault, Keeper};
+use lynx_keep::{BatchKeeper, Cause, KeepFault, Keeper};
 use lynx_names::Memory;
 use lynx_server::{OpenFault, same_cells};
 use lynx_set::ChainSet;
-use lynx_store::BatchKeeper;
 use std::alloc::Global;
 
 /// A store that follows a server, and the cells that its entries leave. It doesn't hold the

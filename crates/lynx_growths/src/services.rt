@@ -10,7 +10,7 @@ use lynx_entry::{Answer, Request};
 use lynx_fixtures::made::request;
 use lynx_fixtures::payments::SEED;
 use lynx_fixtures::texts::{PAYMENT, set_of};
-use lynx_keep::{Keeper, MemoryKeeper};
+use lynx_keep::{BatchKeeper, MemoryKeeper};
 use lynx_names::{ChainId, Memory};
 use lynx_port::{Desk, PortFault, serve};
 use lynx_world::empty_keepers;
@@ -72,7 +72,7 @@ fn try_serve(alloc: Global) -> Tried {
 }
 
 /// The seed begins at the cluster.
-fn begin<R: Wait, K: Keeper, G: Gate>(
+fn begin<R: Wait, K: BatchKeeper, G: Gate>(
     rt: &R,
     alloc: Global,
     front: &Front<K, G>,
@@ -83,7 +83,7 @@ fn begin<R: Wait, K: Keeper, G: Gate>(
 }
 
 /// The seed begins, and again where memory was wanting to it.
-fn begin_again<R: Wait, K: Keeper, G: Gate>(
+fn begin_again<R: Wait, K: BatchKeeper, G: Gate>(
     rt: &R,
     alloc: Global,
     front: &Front<K, G>,

@@ -4,7 +4,7 @@ ghost use Rattle.lynx_service.specs.Services.{IsEnded, IsExplainedBy, last_lines
 
 use crate::fault::ServeFault;
 use lynx_cluster::{CloseFault, Closed};
-use lynx_keep::Keeper;
+use lynx_keep::BatchKeeper;
 use lynx_lines::{chains_line, write_bytes};
 use lynx_order::{Explained, explain};
 use lynx_store_files::{Stores, close_all};
@@ -13,7 +13,7 @@ use std::alloc::Global;
 use std::io::Write;
 
 /// Lets go of the keepers of all servers, also behind one that fails. The first fault is told.
-fn close_keepers<K: Keeper + Drop, S: Stores<K>>(
+fn close_keepers<K: BatchKeeper + Drop, S: Stores<K>>(
     stores: &S,
     keepers: Vec<K>,
 ) -> Result<(), ServeFault> {
@@ -54,7 +54,7 @@ pub fn last_words(alloc: Global, world: &World) -> Result<(Explained, Vec<u8>), 
 }
 
 /// Lets go of the keepers of a service that can't say that it listens.
-pub(crate) fn end_unheard<K: Keeper + Drop, S: Stores<K>>(
+pub(crate) fn end_unheard<K: BatchKeeper + Drop, S: Stores<K>>(
     stores: &S,
     closed: Result<Closed<K>, CloseFault>,
 ) {
@@ -65,7 +65,7 @@ pub(crate) fn end_unheard<K: Keeper + Drop, S: Stores<K>>(
 
 /// Lets go of the keepers of a service, in any case, and then writes how it ended: nobody who reads
 /// slowly keeps a store locked.
-pub(crate) fn end<K: Keeper + Drop, S: Stores<K>, W: Write>(
+pub(crate) fn end<K: BatchKeeper + Drop, S: Stores<K>, W: Write>(
     alloc: Global,
     stores: &S,
     closed: Closed<K>,

@@ -3,7 +3,7 @@ use crate::ending::Ending;
 use lynx_cluster::{Front, Gate, Session};
 use lynx_codec::Looked;
 use lynx_entry::{Answer, Request};
-use lynx_keep::Keeper;
+use lynx_keep::BatchKeeper;
 use lynx_names::{ChainId, Memory};
 use lynx_port::Desk;
 use std::alloc::Global;
@@ -12,7 +12,7 @@ use std::time::Clock;
 
 /// A client's session, the cluster that it asks, and the ending that it may ask for.
 #[derive(Drop)]
-pub struct ClientDesk<'a, R: Wait + Clock, K: Keeper, G: Gate> {
+pub struct ClientDesk<'a, R: Wait + Clock, K: BatchKeeper, G: Gate> {
     pub rt: &'a R,
     pub alloc: Global,
     pub front: &'a Front<K, G>,
@@ -20,7 +20,7 @@ pub struct ClientDesk<'a, R: Wait + Clock, K: Keeper, G: Gate> {
     pub ending: &'a Ending,
 }
 
-impl<'a, R: Wait + Clock, K: Keeper, G: Gate> Desk for ClientDesk<'a, R, K, G> {
+impl<'a, R: Wait + Clock, K: BatchKeeper, G: Gate> Desk for ClientDesk<'a, R, K, G> {
     ghost use Rattle.lynx_cluster.specs.Calls.{AnswersBegin};
     ghost use Rattle.lynx_service.specs.Desks.{AnswersLook};
 

@@ -3,7 +3,7 @@
 use crate::ending::Ending;
 use crate::limits::{MAX_CLIENTS, MAX_WATCHERS};
 use lynx_cluster::{Front, Gate, Session};
-use lynx_keep::Keeper;
+use lynx_keep::BatchKeeper;
 use std::alloc::Global;
 use std::sync::atomic::{AtomicBool, AtomicU64, Ordering};
 use std::sync::{Mutex, Wait};
@@ -109,7 +109,7 @@ impl Hall {
     }
 
     /// A session for a client that is in: that of one that has gone, or a new one.
-    pub(crate) fn session<R: Wait, K: Keeper, G: Gate>(
+    pub(crate) fn session<R: Wait, K: BatchKeeper, G: Gate>(
         &self,
         rt: &R,
         alloc: Global,

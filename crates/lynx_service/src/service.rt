@@ -16,14 +16,13 @@ use crate::log::Log;
 use crate::opening::{judge, keepers, listen_at_all, open_there, places};
 use crate::progress::Progress;
 use crate::tally::Tally;
-use lynx_cluster::{Cluster, Host, Opened, Session};
-use lynx_keep::Keeper;
+use lynx_cluster::{Cluster, Host, Opened, Pace, Session};
+use lynx_keep::BatchKeeper;
 use lynx_lines::write_bytes;
 use lynx_notice::Board;
 use lynx_order::Explained;
 use lynx_server::Server;
 use lynx_set::ChainSet;
-use lynx_store::BatchKeeper;
 use lynx_store_files::Stores;
 use std::alloc::Global;
 use std::hash::RandomState;
@@ -44,6 +43,8 @@ pub struct Service<'a> {
     pub status: Option<StatusPort>,
     /// The folder whose stores follow those of the servers, if any does. It is another one.
     pub copy: Option<&'a str>,
+    /// How many steps of a server share a transaction of its store.
+    pub pace: Pace,
 }
 
 /// A port of 127.0.0.1 at which a service tells its status over HTTP.
@@ -124,7 +125,7 @@ fn serve_when_told<
 /// listened to.
 fn open_all<
     R: Threads + Wait + Sync + Net<Listener = TcpListener, Stream = TcpStream>,
-    K: Keeper + Send + Drop,
+    K: BatchKeeper + Send + Drop,
     S: Stores<K> + Sync,
 >(
     rt: &R,
@@ -161,7 +162,7 @@ fn open_all<
 }
 
 /// Tells which servers go on, and behind how much.
-fn tell_opened<K: Keeper>(log: Log, servers: &[Server<K>]) {
+fn tell_opened<K: BatchKeeper>(log: Log, servers: &[Server<K>]) {
     for server in servers {
         log.opened(server.server(), server.history().len());
     }
@@ -255,7 +256,7 @@ pub fn serve_stores<
     let servers = opened.servers();
     let copier = open_copier(alloc, set, stores, service, servers, &room, log)?;
     let tally = Tally::of(rt, alloc, log, opened.servers())?;
-    let mut cluster = opened.start(rt, alloc, tally)?;
+    let mut cluster = opened.start(rt, alloc, tally, service.pace)?;
     let copying = copier.as_ref();
     let (sessions, written) = serve_when_told(
         &rt, alloc, &cluster, &ports, board, log, copying, writer,

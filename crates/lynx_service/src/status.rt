@@ -7,7 +7,7 @@ use crate::tally::Tally;
 use lynx_cluster::Front;
 use lynx_codec::Looked;
 use lynx_entry::Entry;
-use lynx_keep::Keeper;
+use lynx_keep::BatchKeeper;
 use lynx_lex::name::Name;
 use lynx_names::{ChainId, Memory, ProgramId, ServerId};
 use lynx_status::{
@@ -23,7 +23,7 @@ const MOST_RECENT: usize = 100;
 
 /// A service that is watched: its cluster, its counts, and who is in.
 #[derive(Drop)]
-pub(crate) struct Status<'a, R: Wait + Clock, K: Keeper> {
+pub(crate) struct Status<'a, R: Wait + Clock, K: BatchKeeper> {
     pub(crate) rt: &'a R,
     pub(crate) alloc: Global,
     pub(crate) front: &'a Front<K, Tally<R>>,
@@ -36,7 +36,7 @@ pub(crate) struct Status<'a, R: Wait + Clock, K: Keeper> {
     pub(crate) since: Option<Instant>,
 }
 
-impl<'a, R: Wait + Clock, K: Keeper> Status<'a, R, K> {
+impl<'a, R: Wait + Clock, K: BatchKeeper> Status<'a, R, K> {
     /// Of a service that listens from now on.
     pub(crate) fn new(
         rt: &'a R,
@@ -173,7 +173,7 @@ impl<'a, R: Wait + Clock, K: Keeper> Status<'a, R, K> {
     }
 }
 
-impl<R: Wait + Clock, K: Keeper> Watched for Status<'_, R, K> {
+impl<R: Wait + Clock, K: BatchKeeper> Watched for Status<'_, R, K> {
     // What is counted beside the locks, and what stands behind them, no clause can say.
     ghost tells = { λ old figures new. Unit {0} };
 

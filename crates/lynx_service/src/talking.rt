@@ -5,7 +5,7 @@ use crate::limits::{RETRY_MILLIS, TICK_MILLIS};
 use crate::log::{Leave, Log};
 use crate::patience::{PatientReader, PatientWriter};
 use lynx_cluster::{Front, Gate, Session};
-use lynx_keep::Keeper;
+use lynx_keep::BatchKeeper;
 use lynx_port::{Desk, PortFault, Served, serve};
 use std::alloc::Global;
 use std::io::Read;
@@ -72,7 +72,7 @@ fn serve_stream<R: Wait + Clock, D: Desk>(
 }
 
 /// Serves one client by that session, which is given back, and tells why that ended.
-fn serve_by<R: Wait + Clock, K: Keeper + Drop, G: Gate + Drop>(
+fn serve_by<R: Wait + Clock, K: BatchKeeper + Drop, G: Gate + Drop>(
     rt: &R,
     alloc: Global,
     front: &Front<K, G>,
@@ -120,7 +120,7 @@ pub(crate) fn knock<R: Wait + Clock + Net<Listener = TcpListener, Stream = TcpSt
 /// at the port when its own stream is closed. A client for which there is no session is hung up on.
 pub(crate) fn talk<
     R: Wait + Clock + Net<Listener = TcpListener, Stream = TcpStream>,
-    K: Keeper + Drop,
+    K: BatchKeeper + Drop,
     G: Gate + Drop,
 >(
     rt: &R,

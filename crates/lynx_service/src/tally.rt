@@ -27,8 +27,6 @@ pub(crate) struct Counts {
     hops: u64,
     /// Its store failed.
     has_stopped: bool,
-    /// When the step began that is made now, or the last one ended under the same lock.
-    since: Option<Instant>,
 }
 
 /// One more.
@@ -46,7 +44,6 @@ impl Counts {
             begun: [0; PROGRAMS],
             hops: 0,
             has_stopped: false,
-            since: None,
         };
         for entry in history {
             match entry {
@@ -65,14 +62,11 @@ impl Counts {
         }
     }
 
-    /// A step ended: how long it took, if it kept an entry.
-    fn end_step(&mut self, has_kept: bool, now: Option<Instant>) {
-        if let (true, Some(since), Some(now)) = (has_kept, self.since, now) {
-            let micros = now.duration_since(since).as_micros();
-            self.commits
-                .count(u64::try_from(micros).unwrap_or(u64::MAX));
+    /// A step that kept an entry is settled, which took so many microseconds.
+    fn end_step(&mut self, micros: Option<u64>) {
+        if let Some(micros) = micros {
+            self.commits.count(micros);
         }
-        self.since = now;
     }
 
     /// The server answered that it stopped. Whether that is new.
@@ -83,24 +77,25 @@ impl Counts {
     }
 
     /// A begin of that program was answered so.
-    fn note_answer(&mut self, program: ProgramId, answer: &Answer, now: Option<Instant>) {
+    fn note_answer(&mut self, program: ProgramId, answer: &Answer, micros: Option<u64>) {
         self.begins.count(answer);
         let has_begun = matches!(answer, Answer::Begun { again: false, .. });
         if has_begun {
             self.count_chain(program);
         }
         let has_refused = matches!(answer, Answer::Refused { again: false, .. });
-        self.end_step(has_begun || has_refused, now);
+        if has_begun || has_refused {
+            self.end_step(micros);
+        }
     }
 
     /// A delivery came to that.
-    fn note_delivery(&mut self, delivered: &Delivered, now: Option<Instant>) {
+    fn note_delivery(&mut self, delivered: &Delivered, micros: Option<u64>) {
         self.deliveries.count(delivered);
-        let is_done = matches!(delivered, Delivered::Done { .. });
-        if is_done {
+        if matches!(delivered, Delivered::Done { .. }) {
             count(&mut self.hops);
+            self.end_step(micros);
         }
-        self.end_step(is_done, now);
     }
 
     /// How many later hops of the chains that began here are for that server.
@@ -151,6 +146,12 @@ impl<R: Wait + Clock> Tally<R> {
         Some(*counts.lock(&self.rt))
     }
 
+    /// Microseconds since then, where a clock can tell.
+    fn micros_since(&self, since: Option<Instant>) -> Option<u64> {
+        let micros = since?.elapsed(&self.rt).ok()?.as_micros();
+        Some(u64::try_from(micros).unwrap_or(u64::MAX))
+    }
+
     /// How many hops are owed to all servers.
     pub(crate) fn all_owed(&self, set: &ChainSet) -> u64 {
         let mut owed: u64 = 0;
@@ -176,22 +177,27 @@ impl<R: Wait + Clock> Tally<R> {
 }
 
 impl<R: Wait + Clock> Gate for Tally<R> {
-    fn enter(&self, server: ServerId, _passage: Passage) {
-        let now = Instant::now(&self.rt).ok();
-        if let Some(counts) = self.servers.as_slice().get(server.index()) {
-            counts.lock(&self.rt).since = now;
-        }
-    }
+    fn enter(&self, _server: ServerId, _passage: Passage) {}
 
     fn leave(&self, _server: ServerId, _passage: Passage) {}
 
-    fn answered(&self, server: ServerId, program: ProgramId, answer: &Answer) {
-        let now = Instant::now(&self.rt).ok();
+    fn now(&self) -> Option<Instant> {
+        Instant::now(&self.rt).ok()
+    }
+
+    fn answered(
+        &self,
+        server: ServerId,
+        program: ProgramId,
+        answer: &Answer,
+        since: Option<Instant>,
+    ) {
+        let micros = self.micros_since(since);
         let Some(counts) = self.servers.as_slice().get(server.index()) else {
             return;
         };
         let mut counts = counts.lock(&self.rt);
-        counts.note_answer(program, answer, now);
+        counts.note_answer(program, answer, micros);
     }
 
     fn stopped(&self, server: ServerId, cause: Option<Cause>) {
@@ -202,12 +208,12 @@ impl<R: Wait + Clock> Gate for Tally<R> {
         }
     }
 
-    fn delivered(&self, server: ServerId, delivered: &Delivered) {
-        let now = Instant::now(&self.rt).ok();
+    fn delivered(&self, server: ServerId, delivered: &Delivered, since: Option<Instant>) {
+        let micros = self.micros_since(since);
         let Some(counts) = self.servers.as_slice().get(server.index()) else {
             return;
         };
         let mut counts = counts.lock(&self.rt);
-        counts.note_delivery(delivered, now);
+        counts.note_delivery(delivered, micros);
     }
 }

@@ -6,7 +6,7 @@ use crate::patience::{BriefReader, PatientWriter};
 use crate::status::Status;
 use crate::talking::set_limits;
 use http_server::{Config, Connection};
-use lynx_keep::Keeper;
+use lynx_keep::BatchKeeper;
 use lynx_status::StatusDesk;
 use std::alloc::Global;
 use std::hash::RandomState;
@@ -28,7 +28,7 @@ pub(crate) struct WatchPort {
 }
 
 /// Answers what is asked over one connection, until it ends or its time is over.
-fn answer<R: Wait + Clock, K: Keeper>(
+fn answer<R: Wait + Clock, K: BatchKeeper>(
     rt: &R,
     alloc: Global,
     status: Status<'_, R, K>,
@@ -47,7 +47,7 @@ fn answer<R: Wait + Clock, K: Keeper>(
 }
 
 /// Answers one who watches, to the end of the connection.
-fn watch<R: Wait + Clock, K: Keeper>(
+fn watch<R: Wait + Clock, K: BatchKeeper>(
     rt: &R,
     alloc: Global,
     status: Status<'_, R, K>,
@@ -63,7 +63,7 @@ fn watch<R: Wait + Clock, K: Keeper>(
 /// Answers those who watch until clients are let in no more. Each has a thread of its own; one for
 /// which there is none is hung up on, and so is each beyond
 /// [`MAX_WATCHERS`](crate::limits::MAX_WATCHERS), unread.
-pub(crate) fn watch_all<R: Threads + Wait + Clock + Sync, K: Keeper + Send + Drop>(
+pub(crate) fn watch_all<R: Threads + Wait + Clock + Sync, K: BatchKeeper + Send + Drop>(
     rt: &R,
     alloc: Global,
     status: Status<'_, R, K>,

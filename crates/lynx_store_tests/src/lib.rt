@@ -1,7 +1,7 @@
-//! Tests of stores that stop, with ample memory: at each call of an upgrade and of what gives a
-//! store to another set; and again and again, in random runs over three servers, whose stores
-//! gather to one world in the end. What stores keep and tell where nothing stops them is tried by
-//! the program, in tests/stores and tests/extend.
+//! Tests of stores that stop, with ample memory: at each call of a turn that is settled at once, of
+//! an upgrade and of what gives a store to another set; and again and again, in random runs over
+//! three servers, whose stores gather to one world in the end. What stores keep and tell where
+//! nothing stops them is tried by the program, in tests/stores and tests/extend.
 #![tactic(auto)]
 
 #[cfg(test)]
@@ -24,5 +24,7 @@ mod steps;
 mod stopping;
 #[cfg(test)]
 mod torn;
+#[cfg(test)]
+mod turns;
 #[cfg(test)]
 mod wandering;

@@ -60,12 +60,6 @@ pub record IsDueOf (set : Set) (place : ℕ) (message : Message) (due : Due) : T
   pub message_is : due.message ≡ message
   pub to_is : server_at set message.program message.hop ≡ Some due.to
 
--- the server of the hop before that of the entry
-abbrev pub IsSender : Set → ℕ → Option Entry → ℕ → Type 0
-IsSender set hop (Some (entries.Hop ran)) server =
-    server_at set ran.message.program (hop - 1) ≡ Some server
-IsSender set hop other server = ⊥
-
 -- What a parcel does at a server: its message is delivered there, or its acknowledgement is noted
 -- there of just that hop.
 abbrev pub Serves : {K : Type 0} → Terms K → Serving K → Parcel → Serving K → Type 0

@@ -2,6 +2,7 @@ use Rattle.std.proofs.Common.{get_or, ℕ, Option, sym, subst}
 use Rattle.std.proofs.lemmas.Option.{slice_get-get_or}
 use Rattle.lynx_entry.specs.declared.message.Message.{Message}
 use Rattle.lynx_server.specs.Owed.{IsFirstOwed}
+use Rattle.lynx_resting.specs.Resting.{settled_part}
 use Rattle.lynx_set.specs.Set.{Set}
 use Rattle.lynx_cluster.specs.inner.Serving.{AddsFound}
 use Rattle.lynx_cluster.proofs.Owings.{gone_all, gone_by, gone_on, gone_past}
@@ -10,13 +11,13 @@ use Rattle.lynx_cluster.proofs.lent.Lent.collect_at.Goals as goal
 pub loop-place-preserved-then-place-clear : goal.loop-place-preserved-then-place-clear
 loop-place-preserved-then-place-clear g c =
     let loop = c.loop-place in
-    gone_by c.args.state.now c.args.places.now loop.place-index loop.clear loop.dues.items _
+    gone_by (settled_part c.args.state.now) c.args.places.now loop.place-index loop.clear loop.dues.items _
     (slice_get-get_or c.args.places.now loop.place-index 0 c.loop-place-test.true) c.if-place-clear.true loop.invariant
 
 pub returns-in_default-clause-all : goal.returns-in_default-clause-all
 returns-in_default-clause-all g c =
     let loop = c.loop-place in
-    let state = c.args.state.now in
+    let state = settled_part c.args.state.now in
     let here = get_or c.args.places.now loop.place-index 0 in
     gone_past state c.args.places.now loop.place-index loop.clear loop.dues.items _ (slice_get-get_or c.args.places.now loop.place-index 0 c.loop-place-test.true)
     (subst (λ (found : Option (ℕ × Message)). IsFirstOwed state here found) c.in_default.is c.in_ok-found.ensures) loop.invariant
@@ -24,7 +25,7 @@ returns-in_default-clause-all g c =
 pub loop-place-preserved : goal.loop-place-preserved
 loop-place-preserved g c =
     let loop = c.loop-place in
-    let state = c.args.state.now in
+    let state = settled_part c.args.state.now in
     let here = get_or c.args.places.now loop.place-index 0 in
     let first = subst (λ (found : Option (ℕ × Message)). IsFirstOwed state here found) c.in-Some.is c.in_ok-found.ensures in
     gone_on state c.args.places.now loop.place-index loop.clear loop.dues.items c.add_found.new.dues.items _ c.in-Some.found c.in-Some.message
@@ -35,4 +36,4 @@ loop-place-preserved g c =
 pub returns-clause-all : goal.returns-clause-all
 returns-clause-all g c =
     let loop = c.loop-place in
-    gone_all c.args.state.now c.args.places.now loop.place-index loop.clear loop.dues.items c.loop-place-test.false loop.invariant
+    gone_all (settled_part c.args.state.now) c.args.places.now loop.place-index loop.clear loop.dues.items c.loop-place-test.false loop.invariant

@@ -1,0 +1,145 @@
+//! A store that fails in a settling, with clients that wait for it.
+use crate::keepers::failing;
+use crate::texts::PUTS;
+use crate::trouble::Trouble;
+use lynx_cluster::{CloseFault, Cluster, Front, Gate, OpenGate, Session};
+use lynx_codec::Looked;
+use lynx_entry::Answer;
+use lynx_fixtures::made::{chain, request};
+use lynx_fixtures::parts::RequestParts;
+use lynx_fixtures::texts::set_of;
+use lynx_keep::{BatchKeeper, Planned};
+use lynx_names::{Memory, ServerId};
+use std::alloc::Global;
+use std::sync::Wait;
+use std::test::Fail;
+use std::thread;
+use std::thread::Threads;
+use std::time::Clock;
+
+/// Begins of a client, at most: more than the settlings before the one that fails.
+const MOST_BEGINS: u64 = 200;
+
+/// Settlings before the one that fails.
+const SETTLINGS: u64 = 40;
+
+/// Begins, one after another, until one isn't answered by a begin: how many were, and that answer.
+fn begin_on<R: Wait, K: BatchKeeper, G: Gate>(
+    rt: &R,
+    alloc: Global,
+    front: &Front<K, G>,
+    session: &mut Session,
+    client: u64,
+) -> Result<(u64, bool), Memory> {
+    for number in 1..=MOST_BEGINS {
+        let parts = RequestParts {
+            client,
+            number,
+            program: 0,
+            args: &[7],
+        };
+        match front.begin(rt, alloc, session, request(alloc, parts)?) {
+            Answer::Begun { .. } => {}
+            answer => return Ok((number.saturating_sub(1), answer == Answer::Stopped)),
+        }
+    }
+    Ok((MOST_BEGINS, false))
+}
+
+/// Two sessions that begin at once until the store fails: how many begins both were told, and
+/// whether one was told Stopped at its end, and the other, too.
+fn begin_both<
+    R: Threads + Wait + Clock + Sync,
+    K: BatchKeeper + Send + Drop,
+    G: Gate + Send + Sync + Drop,
+>(
+    rt: &R,
+    alloc: Global,
+    front: &Front<K, G>,
+    one: &mut Session,
+    other: &mut Session,
+) -> Result<(u64, bool, bool), Memory> {
+    let (first, second) = thread::join(
+        rt,
+        || begin_on(rt, alloc, front, one, 1),
+        || begin_on(rt, alloc, front, other, 2),
+    );
+    let (first, second) = (first?, second?);
+    let told = first.0.saturating_add(second.0);
+    Ok((told, first.1, second.1))
+}
+
+/// Whether just so many chains are seen of the server, and whether it has stopped.
+fn shows<R: Wait, K: BatchKeeper, G: Gate>(
+    rt: &R,
+    alloc: Global,
+    front: &Front<K, G>,
+    session: &mut Session,
+    told: u64,
+    has_stopped: bool,
+) -> Result<bool, Memory> {
+    let Some(glance) = front.glance(rt, ServerId::first()) else {
+        return Ok(false);
+    };
+    let next = front.look(rt, alloc, session, chain(0, told)?, 0)?;
+    let last = match told.checked_sub(1) {
+        Some(last) => front.look(rt, alloc, session, chain(0, last)?, 0)?,
+        None => Looked::Absent,
+    };
+    Ok(
+        glance.entries == told
+            && glance.is_running != has_stopped
+            && next == Looked::Absent
+            && last != Looked::Absent,
+    )
+}
+
+/// Whether all that was told is seen, and no more, where the store fails so in a settling, and
+/// whether the server stops by it.
+fn is_kept<R: Threads + Wait + Clock + Copy + Send + Sync + 'static>(
+    rt: R,
+    alloc: Global,
+    planned: Planned,
+    stops: bool,
+) -> Result<bool, Trouble> {
+    let set = set_of(alloc, PUTS)?;
+    let keepers = failing(alloc, 2, 0, SETTLINGS, planned)?;
+    let cluster = Cluster::start(rt, alloc, &set, keepers, OpenGate)?;
+    let mut sessions = Vec::new(alloc);
+    let mut is_right = false;
+    if let (Some(mut one), Some(mut other)) = (
+        cluster.session(&rt, alloc),
+        cluster.session(&rt, alloc),
+    ) {
+        let front = cluster.front();
+        let told = begin_both(&rt, alloc, front, &mut one, &mut other);
+        is_right = match told {
+            Ok((told, first, second)) => {
+                first == stops
+                    && second == stops
+                    && shows(&rt, alloc, front, &mut one, told, stops) == Ok(true)
+            }
+            Err(Memory) => false,
+        };
+        is_right = is_right && sessions.push(one).is_ok() && sessions.push(other).is_ok();
+    }
+    let fault = cluster.close(&rt, alloc, sessions).err();
+    let stopped = stops.then_some(CloseFault::Stopped {
+        server: ServerId::first(),
+    });
+    Ok(is_right && fault == stopped)
+}
+
+#[test]
+fn what_is_not_settled_is_told_to_nobody(rt: HostRuntime) -> Result<(), Fail> {
+    // Where memory is wanting once, the settling is tried again.
+    let faults = [
+        (Planned::FailsBefore, true),
+        (Planned::FailsAfter, true),
+        (Planned::Memory, false),
+    ];
+    for (planned, stops) in faults {
+        assert!(rt; is_kept(rt, rt.alloc(), planned, stops) == Ok(true));
+    }
+    Ok(())
+}

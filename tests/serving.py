@@ -91,9 +91,9 @@ class Room:
 class Service:
     """A running service over the stores of a room."""
 
-    def __init__(self, lynx, room, port=None, env=None):
+    def __init__(self, lynx, room, port=None, env=None, words=()):
         self.port = port or free_port()
-        self.ran = subprocess.Popen([lynx, "serve", room.set, room.stores, str(self.port)], stdin=subprocess.DEVNULL,
+        self.ran = subprocess.Popen([lynx, "serve", room.set, room.stores, str(self.port), *words], stdin=subprocess.DEVNULL,
                                     stdout=subprocess.PIPE, stderr=subprocess.PIPE, text=True, env=env)
         self.first = self.ran.stdout.readline()
 

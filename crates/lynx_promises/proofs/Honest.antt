@@ -1,6 +1,7 @@
 -- All that sessions were told stands, in time, and no two of them by one entry, whatever happens.
-use Rattle.std.proofs.Common.{◌≡◌, ◌∙◌, ℕ, ◌≤◌, Bool, true, false, nat_lt, if◌then◌else◌, List, [], ◌∷◌, ◌++◌, Option, Some, None, IfSome, count_by, inl, inr, refl, sym, subst, arith}
+use Rattle.std.proofs.Common.{◌≡◌, ◌∙◌, ℕ, zero, suc, ◌≤◌, Bool, true, false, nat_lt, if◌then◌else◌, List, [], ◌∷◌, ◌++◌, Option, Some, None, IfSome, All, replicate, slice_get, unwrap_or, count_by, inl, inr, refl, sym, ap, subst, arith}
 use Rattle.std.proofs.lemmas.Bool.{ltb-true}
+use Rattle.std.proofs.lemmas.List.Elements.{All-nil}
 use Rattle.std.proofs.lemmas.List.Sums.{count_by-le-length}
 use Rattle.lynx_names.specs.declared.limits.TheConstants.{MAX_HELD}
 use Rattle.lynx_set.specs.Set.{Set}
@@ -8,20 +9,21 @@ use Rattle.lynx_entry.specs.declared.entry.Entry.{Entry}
 use Rattle.lynx_entry.specs.declared.event.Event.{Event}
 use Rattle.lynx_entry.specs.declared.event.Event.TheVariants.{Begin, Restart}
 use Rattle.lynx_entry.specs.declared.event.Outcome.TheVariants.{NoServer}
+use Rattle.lynx_entry.specs.declared.message.Message.{Message}
 use Rattle.lynx_entry.specs.declared.request.Request.{Request}
 use Rattle.lynx_rules.specs.Answers.{answer}
 use Rattle.lynx_server.specs.Acts.{act_of}
-use Rattle.lynx_world.specs.Legal.{IsLegal, MayFollow}
+use Rattle.lynx_world.specs.Legal.{IsLegal, IsSent, MayFollow}
 use Rattle.lynx_world.specs.Placed.{Placed}
 use Rattle.lynx_world.specs.Steps.{begin_at, list_with, stays, step}
 use Rattle.lynx_world.specs.Worlds.{WorldState, history_of}
-use Rattle.lynx_world.proofs.Events.{IsSound, set_step, sound_new, sound_step, stepped}
+use Rattle.lynx_world.proofs.Events.{IsSound, set_step, sound_step, stepped}
 use Rattle.lynx_world.proofs.LegalSteps.{begun-may_follow}
 use Rattle.lynx_world.proofs.Members.{IsIn, in-push}
 use Rattle.lynx_weave.specs.declared.told.ToldItem.{ToldItem}
 use Rattle.lynx_weave.specs.Told.{greatest_told, is_fresh_by, stands}
 use Rattle.lynx_weave.specs.Weaving.{IsInTime, all_told}
-use Rattle.lynx_promises.specs.Stops.{Happening, Asks, Looks, Comes, Stops, Past, after, after_all, new_past, seen_of, told_of, told_to, with_told, world_with}
+use Rattle.lynx_promises.specs.Stops.{Happening, Asks, Looks, Comes, Stops, Past, after, after_all, past_of, seen_of, told_of, told_to, with_told, world_with}
 use Rattle.lynx_promises.proofs.Agreeing.{stale_for_new, stands_on}
 use Rattle.lynx_promises.proofs.Telling.{IsTelling, telling_begin, telling_look, telling_none}
 use Rattle.lynx_promises.proofs.ToldLists.{all_with, count_none, count_with, in_time_none, in_time_with, none_told, to_with, told_in, told_none}
@@ -163,13 +165,27 @@ pub fair_after_all : (past : Past) (happenings : List Happening) → IsFair past
 fair_after_all past [] fair = fair
 fair_after_all past (happening ∷ happenings) fair = fair_after_all (after past happening) happenings (fair_after past happening fair)
 
-pub fair_new : (set : Set) (sessions : ℕ) → IsFair (new_past set sessions)
-fair_new set sessions = record {
-  sound = sound_new set;
+-- ---- the start
+
+-- nothing is held where nothing is held at each place
+pub none_held : (P : List Message → Type 0) (count server : ℕ) → P [] → P (unwrap_or (slice_get (replicate count []) server) [])
+none_held P zero server none = none
+none_held P (suc count) zero none = none
+none_held P (suc count) (suc server) none = none_held P count server none
+
+-- servers that are opened over a legal list, and sessions that were told nothing
+pub fair_past : (set : Set) (list : List Placed) (sessions : ℕ) → IsLegal set list → IsFair (past_of set list sessions)
+fair_past set list sessions legal = record {
+  sound = record {
+    legal = legal;
+    sent = λ server. none_held (All (IsSent set list)) set.servers server (All-nil (IsSent set list));
+  };
   honest = record {
     stand = λ item there. absurd (subst (IsIn item) (none_told sessions) there);
     in_time = λ session. told_none IsInTime sessions session in_time_none;
-    once = λ placed never. absurd never;
+    once = λ placed there.
+        let none : count_by (is_fresh_by placed) (all_told (replicate sessions [])) ≡ 0 = ap (count_by (is_fresh_by placed)) (none_told sessions) in
+        omega arith;
   };
 }
 

@@ -3,6 +3,11 @@ pub mod ToldLists
 pub mod Telling
 pub mod Honest
 pub mod Unfalse
+pub mod Recorded
+pub mod Borne
+pub mod Alike
+pub mod Lasting
+pub mod Again
 pub mod Promised
 pub mod Upgraded
 pub mod Extending

@@ -27,8 +27,10 @@ use Rattle.lynx_order.specs.Explained.{IsOrder}
 use Rattle.lynx_order.specs.Explanations.{IsExplanation}
 use Rattle.lynx_order.specs.Precedence.{IsCycle}
 use Rattle.lynx_promises.specs.Promises.{AreSound, GathersWell, KeepParts, KeepsPromises, StandsOverStops}
-use Rattle.lynx_promises.specs.Stops.{Happening, Past, after_all, new_past}
-use Rattle.lynx_promises.proofs.Honest.{IsFair, fair_after_all, fair_new, set_stays}
+use Rattle.lynx_promises.specs.Stops.{Happening, Past, after_all, past_of}
+use Rattle.lynx_promises.proofs.Honest.{IsFair, fair_after_all, fair_past, set_stays}
+use Rattle.lynx_promises.proofs.Alike.{answers_alike}
+use Rattle.lynx_promises.proofs.Recorded.{one_entry_each, one_home_each}
 use Rattle.lynx_promises.proofs.Unfalse.{never_told}
 use Rattle.lynx_order.proofs.Judged.{accepted_order, no_cycle_accepted}
 use Rattle.lynx_order.proofs.SomeOrder.{order_or_cycle}
@@ -45,6 +47,8 @@ promised set list is legal = record {
   legal = legal;
   once = once_and_in_order set list legal;
   origins = origin_order set list is.0.1 legal;
+  requests = λ server. one_entry_each set server list legal;
+  homes = one_home_each set list legal;
   serial = λ accepted. explained set list is legal accepted (order_or_cycle set list legal);
   answer = λ accepted given right. accepted_order set list given is.0.1 legal right (literals_home set is) accepted;
 }
@@ -59,12 +63,15 @@ pub fair_stands : (set : Set) (past : Past) → IsSet set → past.world.set ≡
 fair_stands set past is of fair =
     let legal = subst (λ s. IsLegal s past.world.list) of fair.sound.legal in record {
       promises = promised set past.world.list is legal;
+      requests = answers_alike set past.world.list past.told legal fair.honest;
       agrees = λ histories fault parts no_want wrong. never_told set past.world.list histories past.told fault legal fair.honest parts no_want wrong;
     }
 
-pub over_stops : (set : Set) (sessions : ℕ) (happenings : List Happening) → IsSet set → StandsOverStops set (after_all (new_past set sessions) happenings)
-over_stops set sessions happenings is =
-    fair_stands set (after_all (new_past set sessions) happenings) is (set_stays (new_past set sessions) happenings) (fair_after_all (new_past set sessions) happenings (fair_new set sessions))
+pub over_stops : (set : Set) (list : List Placed) (sessions : ℕ) (happenings : List Happening) → IsSet set → IsLegal set list →
+    StandsOverStops set (after_all (past_of set list sessions) happenings)
+over_stops set list sessions happenings is legal =
+    let start = past_of set list sessions in
+    fair_stands set (after_all start happenings) is (set_stays start happenings) (fair_after_all start happenings (fair_past set list sessions legal))
 
 pub woven_promised : (set : Set) (histories : List History) (told : List (List ToldItem)) (world : WorldState) → IsSet set → IsWoven set histories told world → KeepsPromises set world.list
 woven_promised set histories told world is woven = promised set world.list is woven.list_is.legal
@@ -97,8 +104,9 @@ gathers_well terms set past old new (Err (Weave fault)) is stands keep sound gat
 gathers_well terms set past old new (Err (Load server)) is stands keep sound gathers = tt
 gathers_well terms set past old new (Err NoRoom) is stands keep sound gathers = tt
 
-pub kept_gathers : {K : Type 0} (terms : Terms K) (set : Set) (sessions : ℕ) (happenings : List Happening) (old new : List K) (gathered : Result WorldState GatherFault) → IsSet set →
-    KeepParts terms set (after_all (new_past set sessions) happenings).world.list old → AreSound terms set new →
-    Gathers terms set old new (after_all (new_past set sessions) happenings).told gathered → GathersWell set gathered
-kept_gathers terms set sessions happenings old new gathered is keep sound gathers =
-    gathers_well terms set (after_all (new_past set sessions) happenings) old new gathered is (over_stops set sessions happenings is) keep sound gathers
+pub kept_gathers : {K : Type 0} (terms : Terms K) (set : Set) (list : List Placed) (sessions : ℕ) (happenings : List Happening) (old new : List K)
+    (gathered : Result WorldState GatherFault) → IsSet set → IsLegal set list →
+    let past = after_all (past_of set list sessions) happenings in
+    KeepParts terms set past.world.list old → AreSound terms set new → Gathers terms set old new past.told gathered → GathersWell set gathered
+kept_gathers terms set list sessions happenings old new gathered is legal keep sound gathers =
+    gathers_well terms set (after_all (past_of set list sessions) happenings) old new gathered is (over_stops set list sessions happenings is legal) keep sound gathers

@@ -3,6 +3,8 @@ use Rattle.std.specs.Prelude.{List, [], ◌∷◌, replicate}
 use Rattle.lynx_set.specs.Rules.{IsSet}
 use Rattle.lynx_set.specs.Set.{Set}
 use Rattle.lynx_extend.specs.Extends.{Extends}
+use Rattle.lynx_weave.specs.declared.told.ToldItem.{ToldItem}
+use Rattle.lynx_world.specs.Worlds.{WorldState}
 use Rattle.lynx_promises.specs.Stops.{Happening, Past, after_all}
 
 -- the set by which the servers are opened, and what happens then
@@ -22,6 +24,12 @@ abbrev pub after_growths : Past → List Growth → Past
 after_growths past [] = past
 after_growths past (growth ∷ growths) =
     after_growths (after_all (opened_by growth.set past) growth.happenings) growths
+
+-- the world after that, of which sessions were told these
+abbrev pub world_later : WorldState → List (List ToldItem) → List Happening → List Growth
+    → WorldState
+world_later world told happenings growths =
+    (after_growths (after_all (record { world = world; told = told }) happenings) growths).world
 
 -- each set has a text, and extends the one before it
 abbrev pub AreGrowths : Set → List Growth → Type 0

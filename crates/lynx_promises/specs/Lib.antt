@@ -1,3 +1,4 @@
 pub mod Stops
+pub mod Requests
 pub mod Promises
 pub mod Growths

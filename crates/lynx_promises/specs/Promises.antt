@@ -18,23 +18,29 @@ use Rattle.lynx_weave.specs.Weaving.{Weaves}
 use Rattle.lynx_order.specs.declared.explained.Explained.{Explained}
 use Rattle.lynx_order.specs.Explained.{CycleIsRight, GivesOrder}
 use Rattle.lynx_order.specs.Explanations.{IsExplanation}
+use Rattle.lynx_promises.specs.Requests.{AnswersAlike, OneEntryEach, OneHomeEach}
 use Rattle.lynx_promises.specs.Stops.{Past}
 
 -- Each entry is lawful where it stands; each hop acts at most once and in chain order; chains of
--- one origin keep their order everywhere; and where the set is accepted, some order of whole chains
--- explains the list, and whatever is given as an order or a cycle of it, and is right, is an order.
+-- one origin keep their order everywhere; each request is recorded once, at one server; and where
+-- the set is accepted, some order of whole chains explains the list, and whatever is given as an
+-- order or a cycle of it, and is right, is an order.
 pub record KeepsPromises (set : Set) (list : List Placed) : Type 0 where
   pub legal : IsLegal set list
   pub once : IsOnceAndInOrder list
   pub origins : IsInOriginOrder list
+  pub requests : (server : ℕ) → OneEntryEach (history_of server list)
+  pub homes : OneHomeEach list
   pub serial : IsAccepted set → (chains : List ChainId) × IsExplanation set list chains
   pub answer : IsAccepted set → (explained : Explained) → CycleIsRight set list explained
       → GivesOrder explained
 
 -- Of what servers keep, and what sessions were told: the promises hold of what the servers did;
--- and no entry that is kept, and nothing that was told, is ever said to disagree with the rest.
+-- each request was answered alike; and no entry that is kept, and nothing that was told, is ever
+-- said to disagree with the rest.
 pub record StandsOverStops (set : Set) (past : Past) : Type 0 where
   pub promises : KeepsPromises set past.world.list
+  pub requests : AnswersAlike past.told
   pub agrees : (histories : List History) (fault : WeaveFault)
       → ArePartsOf set past.world.list histories → fault ≢ Memory
       → Weaves set histories past.told (Err fault) → ⊥

@@ -11,8 +11,9 @@ use Rattle.lynx_entry.specs.declared.event.Outcome.{Outcome}
 use Rattle.lynx_entry.specs.declared.event.Outcome.TheVariants as outcomes
 use Rattle.lynx_entry.specs.declared.request.Request.{Request}
 use Rattle.lynx_server.specs.Acts.{act_of}
+use Rattle.lynx_world.specs.Placed.{Placed}
 use Rattle.lynx_world.specs.Steps.{step}
-use Rattle.lynx_world.specs.Worlds.{WorldState, history_of, new_world}
+use Rattle.lynx_world.specs.Worlds.{WorldState, history_of}
 use Rattle.lynx_weave.specs.Told.{greatest_told, told_by}
 use Rattle.lynx_weave.specs.declared.told.ToldItem.{ToldItem}
 use Rattle.lynx_weave.specs.declared.told.ToldItem.TheVariants.{Seen}
@@ -34,9 +35,13 @@ pub record Past : Type 0 where
   pub world : WorldState
   pub told : List (List ToldItem)
 
--- nothing happened yet, and so many sessions were told nothing
-abbrev pub new_past : Set → ℕ → Past
-new_past set sessions = record { world = new_world set; told = replicate sessions [] }
+-- The servers did that, and were opened: nothing is held, and so many sessions were told nothing.
+-- With no entries nothing happened yet.
+abbrev pub past_of : Set → List Placed → ℕ → Past
+past_of set list sessions = record {
+  world = record { set = set; list = list; held = replicate set.servers [] };
+  told = replicate sessions [];
+}
 
 -- what the session was told
 abbrev pub told_to : List (List ToldItem) → ℕ → List ToldItem

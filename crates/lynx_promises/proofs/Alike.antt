@@ -1,7 +1,8 @@
 -- What sessions were told of one request at one server is alike, and new once.
-use Rattle.std.proofs.Common.{◌≡◌, ◌∙◌, ℕ, ◌+◌, ◌≤◌, ◌&&◌, Bool, true, false, cond, nat_eq, if◌then◌else◌, List, [], ◌∷◌, slice_get, Option, Some, None, count_by, inl, inr, ◌⊎◌, refl, sym, ap, subst, arith}
+use Rattle.std.proofs.Common.{◌≡◌, ◌∙◌, ℕ, ◌+◌, ◌≤◌, ◌&&◌, Bool, true, false, cond, nat_eq, if◌then◌else◌, List, [], ◌∷◌, slice_get, Option, Some, None, All, count_by, inl, inr, ◌⊎◌, refl, sym, ap, subst, arith}
 use Rattle.std.specs.List.{cons_option, filter_map}
 use Rattle.std.proofs.lemmas.Bool.{eqb-true}
+use Rattle.std.proofs.lemmas.Option.{get_or_from_slice_get, slice_get_within}
 use Rattle.lynx_set.specs.Set.{Set}
 use Rattle.lynx_entry.specs.declared.answer.Answer.{Answer}
 use Rattle.lynx_entry.specs.declared.answer.Answer.TheVariants.{Begun as BegunAnswer, Refused as RefusedAnswer, Clash, UnknownProgram, WrongOrigin, ArgCount, OutsideRange, WrongShard, Full, Busy, Stopped, Memory}
@@ -12,20 +13,21 @@ use Rattle.lynx_entry.specs.Entry.{History}
 use Rattle.lynx_rules.specs.Lawful.{is_record_of}
 use Rattle.lynx_world.specs.Legal.{IsLegal}
 use Rattle.lynx_world.specs.Placed.{Placed}
-use Rattle.lynx_world.specs.Worlds.{history_of}
+use Rattle.lynx_world.specs.Worlds.{WorldState, history_of}
 use Rattle.lynx_world.proofs.Members.{IsIn, in_history}
 use Rattle.lynx_world.proofs.Once.{both}
 use Rattle.lynx_world.proofs.Tests.{and-true, not_both}
 use Rattle.lynx_weave.specs.declared.told.ToldItem.{ToldItem}
 use Rattle.lynx_weave.specs.declared.told.ToldItem.TheVariants.{Answered, Seen}
 use Rattle.lynx_weave.specs.Told.{agrees, bears_answer, is_fresh_answer, is_fresh_by, is_full_answer, stands}
-use Rattle.lynx_weave.specs.Weaving.{all_told}
+use Rattle.lynx_weave.specs.Weaving.{IsWoven, all_told}
 use Rattle.lynx_weave.proofs.Agreements.{sought}
 use Rattle.lynx_weave.proofs.Gets.{in_place, place_in}
 use Rattle.lynx_weave.proofs.Lawfuls.{sole_record}
 use Rattle.lynx_weave.proofs.Marking.{count_joined, full_stale}
 use Rattle.lynx_weave.proofs.Parted.{part_lawful}
 use Rattle.lynx_order.specs.Lists.{AreDifferent}
+use Rattle.lynx_order.proofs.Lists.{in-either}
 use Rattle.lynx_order.proofs.Places.{place_of_in}
 use Rattle.lynx_promises.specs.Requests.{AnswersAlike, answer_again, told_new}
 use Rattle.lynx_promises.proofs.Agreeing.{stands_by}
@@ -181,9 +183,39 @@ new_once set list (item ∷ items) legal stand once =
       rest,
     )
 
-pub answers_alike : (set : Set) (list : List Placed) (told : List (List ToldItem)) → IsLegal set list → IsHonest list told → AnswersAlike told
-answers_alike set list told legal honest = record {
+-- what stands in a legal list, no two items new by one entry, is answered alike
+stands_alike : (set : Set) (list : List Placed) (told : List (List ToldItem)) → IsLegal set list → ((item : ToldItem) → IsIn item (all_told told) → stands list item ≡ true) →
+    ((placed : Placed) → IsIn placed list → count_by (is_fresh_by placed) (all_told told) ≤ 1) → AnswersAlike told
+stands_alike set list told legal stand once = record {
   alike = λ server request one other again there too is.
-      alike set list server request one other again legal (honest.stand (Answered server request one) there) (honest.stand (Answered server request other) too) is;
-  new = new_once set list (all_told told) legal honest.stand honest.once;
+      alike set list server request one other again legal (stand (Answered server request one) there) (stand (Answered server request other) too) is;
+  new = new_once set list (all_told told) legal stand once;
 }
+
+pub answers_alike : (set : Set) (list : List Placed) (told : List (List ToldItem)) → IsLegal set list → IsHonest list told → AnswersAlike told
+answers_alike set list told legal honest = stands_alike set list told legal honest.stand honest.once
+
+-- ---- in a world that was woven
+
+-- what holds of all of a list holds of each value in it
+all_in : {X : Type 0} (P : X → Type 0) (x : X) (xs : List X) → All P xs → IsIn x xs → P x
+all_in P x xs all there =
+    let place = place_in x xs there in
+    subst P (get_or_from_slice_get xs place.0 x x place.1) (all place.0 x (slice_get_within xs place.0 x place.1))
+
+-- what was told was told to some session
+told_within : (told : List (List ToldItem)) (item : ToldItem) → IsIn item (all_told told) → (items : List ToldItem) × IsIn items told × IsIn item items
+told_within [] item never = absurd never
+told_within (first ∷ told) item there = elim (in-either item first (all_told told) there) [
+  | inl here ↦ (first, inl refl, here)
+  | inr later ↦ let rest = told_within told item later in (rest.0, inr rest.1, rest.2)
+]
+
+pub woven_alike : (set : Set) (histories : List History) (told : List (List ToldItem)) (world : WorldState) → IsWoven set histories told world → AnswersAlike told
+woven_alike set histories told world woven =
+    stands_alike set world.list told woven.list_is.legal
+    (λ item there.
+    let within = told_within told item there in
+    all_in (λ i. stands world.list i ≡ true) item within.0
+    (all_in (λ items. All (λ i. stands world.list i ≡ true) items) within.0 told woven.stand within.1) within.2)
+    (λ placed there. all_in (λ p. count_by (is_fresh_by p) (all_told told) ≤ 1) placed world.list woven.once there)

@@ -24,7 +24,7 @@ ghost use Rattle.lynx_weave.specs.Gathering.{Gathers};
 ghost use Rattle.lynx_weave.specs.Weaving.{IsWoven};
 ghost use Rattle.lynx_promises.specs.Growths.{AreGrowths, Growth, after_growths, grown, world_later};
 ghost use Rattle.lynx_promises.specs.Promises.{AreSound, GathersWell, KeepParts, KeepsPromises, StandsOverStops};
-ghost use Rattle.lynx_promises.specs.Requests.{answer_again, asks};
+ghost use Rattle.lynx_promises.specs.Requests.{AnswersAlike, answer_again, asks};
 ghost use Rattle.lynx_promises.specs.Stops.{Happening, after_all, past_of};
 
 use lynx_entry::Outcome;
@@ -88,11 +88,14 @@ pub fn legal_lists_keep_the_promises()
         → KeepsPromises set list }
 {}
 
-/// .. and so of each world that was woven of what servers kept.
+/// .. and so of each world that was woven of what servers kept; and of all that sessions were told
+/// in it, one server's answers to one request are alike.
 pub fn woven_worlds_keep_the_promises()
-    ensures { (set : Set) (histories : List History) (told : List (List ToldItem))
+    ensures promises { (set : Set) (histories : List History) (told : List (List ToldItem))
         (world : WorldState) → IsSet set → IsWoven set histories told world
         → KeepsPromises set world.list }
+    ensures requests { (set : Set) (histories : List History) (told : List (List ToldItem))
+        (world : WorldState) → IsWoven set histories told world → AnswersAlike told }
 {}
 
 /// What is lawful for a set is lawful for the same set at version 2, and what servers did is legal

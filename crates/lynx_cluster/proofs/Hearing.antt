@@ -15,7 +15,7 @@ use Rattle.lynx_cluster.specs.Clusters.{home_of}
 use Rattle.lynx_cluster.specs.inner.Asking.{Asks, Hears}
 use Rattle.lynx_cluster.specs.Sessions.{Forgets, SessionState, is_noted, told_by}
 
-either : (a b : ℕ) → (a ≤ b) ⊎ (b < a)
+pub either : (a b : ℕ) → (a ≤ b) ⊎ (b < a)
 either zero b = inl (omega arith)
 either (suc a) zero = inr (omega arith)
 either (suc a) (suc b) = elim (either a b) [ inl low ↦ inl (omega (arith, low)) | inr high ↦ inr (omega (arith, high)) ]
@@ -30,7 +30,7 @@ fronts_same (first ∷ xs) (other ∷ ys) x y same =
     let tail : xs ++ x ∷ [] ≡ ys ++ y ∷ [] = cc in
     ap (λ (t : ToldItem). t ∷ xs) head ∙ ap (λ (ts : List ToldItem). other ∷ ts) (fronts_same xs ys x y tail)
 
-same_session : (one other : SessionState) → one.number ≡ other.number → one.told ≡ other.told → one ≡ other
+pub same_session : (one other : SessionState) → one.number ≡ other.number → one.told ≡ other.told → one ≡ other
 same_session one other number told = λ i. record { number = number i; told = told i }
 
 -- what was noted of the begin is forgotten
@@ -57,7 +57,7 @@ told_one server request given = by (is_noted given)
     by false noted = cc
 
 -- a begin that nobody answers
-unasked : (set : Set) (request : Request) (old new : SessionState) → new ≡ old → AnswersBegin set old request answers.Stopped new
+pub unasked : (set : Set) (request : Request) (old new : SessionState) → new ≡ old → AnswersBegin set old request answers.Stopped new
 unasked set request old new same = record {
   told = same ∙ sym (same_session (record old { told = old.told ++ [] }) old refl (append-nil old.told));
   above = tt;

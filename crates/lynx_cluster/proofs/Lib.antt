@@ -8,3 +8,5 @@ pub mod Dones
 pub mod Owings
 pub mod Settlings
 pub mod Hearing
+pub mod Runs
+pub mod Sames

@@ -1,5 +1,5 @@
 -- What a begin by a session comes to.
-use Rattle.std.specs.Prelude.{◌≡◌, ◌++◌}
+use Rattle.std.specs.Prelude.{◌≡◌, ◌++◌, ◌∷◌, List, []}
 use Rattle.lynx_cluster.specs.Answers.{FitsRequest, IsAbove}
 use Rattle.lynx_cluster.specs.Clusters.{home_of}
 use Rattle.lynx_cluster.specs.Sessions.{SessionState, told_by}
@@ -17,3 +17,12 @@ pub record AnswersBegin (set : Set) (old : SessionState) (request : Request) (an
   pub above : IsAbove (greatest_told old.told) answer
   pub fits : FitsRequest set (home_of set request) request answer
   pub range : IsAnswerInRange answer
+
+-- begins by a session, in order, from its first state to its last
+abbrev pub AnswersBeginAll : Set → SessionState → List Request → List Answer → SessionState → Type 0
+AnswersBeginAll set old [] [] new = new ≡ old
+AnswersBeginAll set old [] (answer ∷ answers) new = ⊥
+AnswersBeginAll set old (request ∷ requests) [] new = ⊥
+AnswersBeginAll set old (request ∷ requests) (answer ∷ answers) new =
+    (next : SessionState) × AnswersBegin set old request answer next
+    × AnswersBeginAll set next requests answers new

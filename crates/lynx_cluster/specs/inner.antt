@@ -5,3 +5,4 @@ pub mod Opening
 pub mod Closing
 pub mod Settling
 pub mod Asking
+pub mod Together

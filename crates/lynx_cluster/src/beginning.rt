@@ -1,11 +1,12 @@
 //! A begin of a session on the state of a server, and its answer once it is settled.
-ghost use Rattle.std.specs.Prelude.{◌≡◌, ◌++◌, ◌<◌, ◌≤◌, max, true, false, IfOk, OnErr, length};
+ghost use Rattle.std.specs.Prelude.{◌≡◌, ◌++◌, ◌∷◌, ◌+◌, ◌<◌, ◌≤◌, [], max, take, true, false, IfOk, OnErr, OnOk, length, vec_capacity, vec_len};
 ghost use Rattle.lynx_weave.specs.Told.{greatest_told};
 ghost use Rattle.lynx_keep.specs.HeldBack.{held_terms};
 ghost use Rattle.lynx_server.specs.Serving.{Begins, Lasts, begins_here};
 ghost use Rattle.lynx_server.specs.History.{IsLawfulHistory};
 ghost use Rattle.lynx_codec.specs.Ranges.{IsAnswerInRange};
 ghost use Rattle.lynx_cluster.specs.Answers.{FitsRequest, IsAbove, IsLeft, IsUnserved};
+ghost use Rattle.lynx_cluster.specs.inner.Asking.{HearsAll, heard};
 ghost use Rattle.lynx_cluster.specs.Sessions.{Forgets, is_noted, told_by};
 
 use crate::session::Session;
@@ -17,7 +18,7 @@ use lynx_weave::ToldItem;
 use std::alloc::Global;
 
 /// An answer that nobody is told yet: it is told once so many entries of its server are settled.
-/// It must be spent, by [`Session::hear`].
+/// It must be spent, by [`Session::hear`] or [`UnsettledRun::add`].
 pub(crate) struct Unsettled {
     answer: Answer,
     is_noted: bool,
@@ -33,6 +34,67 @@ impl Unsettled {
     }
 }
 
+/// Answers that nobody is told yet, to begins at one server that a session asked one after the
+/// other: all are told once so many entries of the server are settled. It must be spent, by
+/// [`Session::hear_all`].
+pub(crate) struct UnsettledRun {
+    answers: Vec<Answer>,
+    /// How much the session had been told before.
+    told: usize,
+    reached: usize,
+}
+
+impl UnsettledRun {
+    /// Of none, with room for one, asked by a session that was told so much.
+    pub(crate) fn with_room(alloc: Global, told: usize) -> Result<UnsettledRun, Memory>
+        ensures none { IfOk result (λ run. run.answers.items ≡ []) }
+        ensures told { IfOk result (λ run. run.told ≡ told) }
+        ensures reached { IfOk result (λ run. run.reached ≡ 0) }
+        ensures room { IfOk result (λ run. vec_len run.answers < vec_capacity run.answers) }
+    {
+        Ok(UnsettledRun {
+            answers: Vec::with_capacity(alloc, 1)?,
+            told,
+            reached: 0,
+        })
+    }
+
+    /// Makes room for one more.
+    pub(crate) fn reserve(&mut self) -> Result<(), Memory>
+        ensures answers { self.new.answers.items ≡ self.old.answers.items }
+        ensures told { self.new.told ≡ self.old.told }
+        ensures reached { self.new.reached ≡ self.old.reached }
+        ensures room { OnOk result (vec_len self.new.answers < vec_capacity self.new.answers) }
+    {
+        self.answers.reserve(1)?;
+        Ok(())
+    }
+
+    /// One more.
+    pub(crate) fn add(&mut self, unsettled: Unsettled)
+        requires room { vec_len self.old.answers < vec_capacity self.old.answers }
+        ensures answers { self.new.answers.items
+            ≡ self.old.answers.items ++ unsettled.answer ∷ [] }
+        ensures told { self.new.told ≡ self.old.told }
+        ensures reached { self.new.reached ≡ max self.old.reached unsettled.reached }
+    {
+        let Unsettled {
+            answer,
+            is_noted: _,
+            reached,
+        } = unsettled;
+        self.answers.push_reserved(answer);
+        self.reached = self.reached.max(reached);
+    }
+
+    /// How many entries have to be settled before all are told.
+    pub(crate) fn reached(&self) -> usize
+        ensures { result ≡ self.now.reached }
+    {
+        self.reached
+    }
+}
+
 /// The answer is noted by the session that is told it.
 fn is_noted(answer: &Answer) -> bool
     ensures { result ≡ is_noted answer.now }
@@ -41,6 +103,13 @@ fn is_noted(answer: &Answer) -> bool
         answer,
         Answer::Begun { .. } | Answer::Refused { .. } | Answer::Clash | Answer::Full
     )
+}
+
+/// The answer, or Stopped where what it may be read of isn't settled.
+fn heard(answer: Answer, is_settled: bool) -> Answer
+    ensures { result ≡ heard is_settled answer }
+{
+    if is_settled { answer } else { Answer::Stopped }
 }
 
 /// The later of two stamps.
@@ -150,6 +219,8 @@ impl Session {
         ensures noted { result.is_noted ≡ is_noted result.answer }
         ensures reached { result.reached ≡ length state.new.here.history }
         ensures settled { state.new.settled ≡ state.old.settled }
+        ensures set { state.new.here.set ≡ state.old.here.set }
+        ensures server { state.new.here.server ≡ state.old.here.server }
         ensures above { IsAbove (greatest_told self.old.told) result.answer }
         ensures fits { FitsRequest state.old.here.set state.old.here.server request result.answer }
         ensures range { IsAnswerInRange result.answer }
@@ -168,6 +239,14 @@ impl Session {
         ensures { Forgets true self.old self.new }
     {
         let _ = self.told.pop();
+        self.greatest = greatest_of(self.told.as_slice());
+    }
+
+    /// Forgets all that it was told, but so many at the start.
+    fn forget_behind(&mut self, told: usize)
+        ensures { self.new ≡ record self.old { told = take told self.old.told } }
+    {
+        self.told.truncate(told);
         self.greatest = greatest_of(self.told.as_slice());
     }
 
@@ -192,5 +271,28 @@ impl Session {
             self.forget();
         }
         Answer::Stopped
+    }
+
+    /// The answers, in order, where all is settled that they may be read of. Else their server
+    /// stopped before, and the session forgets all that it was told since it asked the first.
+    pub(crate) fn hear_all(&mut self, run: UnsettledRun, mark: &Mark, answers: &mut Vec<Answer>)
+        requires room { length run.answers.items + vec_len answers.old ≤ vec_capacity answers.old }
+        ensures hears { HearsAll run mark.now.settled self.old answers.old.items answers.new.items
+            self.new }
+        ensures len { vec_len answers.new ≡ vec_len answers.old + length run.answers.items }
+        ensures capacity { vec_capacity answers.new ≡ vec_capacity answers.old }
+    {
+        let UnsettledRun {
+            answers: asked,
+            told,
+            reached,
+        } = run;
+        let is_settled = reached <= mark.settled();
+        for answer in asked {
+            answers.push_reserved(heard(answer, is_settled));
+        }
+        if !is_settled {
+            self.forget_behind(told);
+        }
     }
 }

@@ -170,7 +170,7 @@ impl<K: BatchKeeper, G: Gate> Front<K, G> {
 
     /// The server at which a request begins: the origin of its program, server 0 where the set
     /// hasn't the program.
-    fn home_of(&self, request: &Request) -> ServerId
+    pub(crate) fn home_of(&self, request: &Request) -> ServerId
         ensures { result ≡ home_of self.now.set request.now }
     {
         match self.set.origin(request.program) {
@@ -236,6 +236,7 @@ impl<K: BatchKeeper, G: Gate> Front<K, G> {
         self.gate.enter(server, Passage::Begin);
         let since = self.gate.now();
         let asked = if is_of(&state, &self.set, server) {
+            post.note_begin();
             Some(session.ask_at(alloc, &mut state, request))
         } else {
             None
@@ -246,7 +247,7 @@ impl<K: BatchKeeper, G: Gate> Front<K, G> {
     }
 
     /// Tells the gate of a server that stopped, and the worker of one that has work now.
-    fn follow_up<R: Wait>(
+    pub(crate) fn follow_up<R: Wait>(
         &self,
         rt: &R,
         post: &Post<K>,

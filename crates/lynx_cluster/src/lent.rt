@@ -25,6 +25,10 @@ use std::time::{Clock, Duration, Instant};
 /// Microseconds for which the lock is held to make steps, about, before they are settled.
 const LOCK_MICROS: u64 = 1_000;
 
+/// Steps that are made in any case for each begin that clients made since the last ones: a message
+/// that came for it from elsewhere, and an acknowledgement.
+const STEPS_A_BEGIN: u64 = 2;
+
 /// Steps that are made under one taking of the lock, at most.
 const MOST_STEPS: u32 = 1_024;
 
@@ -362,8 +366,8 @@ impl<K: BatchKeeper, G: Gate> Lent<K, G> {
         Ok(dues)
     }
 
-    /// Makes steps until there is none to make, or the lock was held for a while; one where each is
-    /// settled by itself.
+    /// Makes steps until there is none to make, or the lock was held for a while and the steps keep
+    /// pace with what clients begin; one where each is settled by itself.
     fn make_steps<R: Clock>(
         &self,
         rt: &R,
@@ -376,14 +380,16 @@ impl<K: BatchKeeper, G: Gate> Lent<K, G> {
             state.new.here.history turn.new.served.receipts.items }
     {
         let since = Instant::now(rt).ok();
+        let wanted = self.post.take_begins().saturating_mul(STEPS_A_BEGIN);
         let mut may_wake = true;
-        for _ in 0..MOST_STEPS {
+        for made in 0..MOST_STEPS {
             let Some(is_done) = step(alloc, state, inbox, may_wake, turn) else {
                 break;
             };
             may_wake = is_done;
             turn.served.is_busy = true;
-            if self.post.is_each() || is_long(rt, &since) {
+            let keeps_pace = u64::from(made) >= wanted;
+            if self.post.is_each() || keeps_pace && is_long(rt, &since) {
                 break;
             }
         }

@@ -30,4 +30,5 @@ pub mod session;
 mod settling;
 pub mod starting;
 mod taking;
+mod together;
 mod workers;

@@ -30,6 +30,8 @@ pub(crate) struct Post<K: BatchKeeper> {
     asked: AtomicU64,
     /// How many times a thread got it to make one.
     entered: AtomicU64,
+    /// How many begins were made since its worker had it last.
+    begins: AtomicU64,
     /// How much is settled, as the last settling left it.
     mark: Mutex<Mark>,
     /// Rung at each settling.
@@ -45,6 +47,7 @@ impl<K: BatchKeeper> Post<K> {
             pace,
             asked: AtomicU64::new(0),
             entered: AtomicU64::new(0),
+            begins: AtomicU64::new(0),
             mark: Mutex::new(mark),
             settled: Condvar::new(),
         }
@@ -61,6 +64,16 @@ impl<K: BatchKeeper> Post<K> {
     /// The lock, to look.
     pub(crate) fn look<R: Wait>(&self, rt: &R) -> MutexGuard<'_, Resting<K>> {
         self.state.lock(rt)
+    }
+
+    /// Another begin was made.
+    pub(crate) fn note_begin(&self) {
+        self.begins.fetch_add(1, Ordering::SeqCst);
+    }
+
+    /// How many begins were made since this was asked last.
+    pub(crate) fn take_begins(&self) -> u64 {
+        self.begins.swap(0, Ordering::SeqCst)
     }
 
     /// Each step is settled by itself.

@@ -1,7 +1,8 @@
 //! Tests of links and of a running cluster: full rings, the order of parcels and the rings of all
-//! pairs; the worked sessions, two threads inside two servers at once, a store that fails in a
-//! settling, why a cluster doesn't start or close, and a worker over a server that stands in. Many
-//! begins by many clients are tried at a service, in tests/loads.
+//! pairs; the worked sessions, two threads inside two servers at once, begins that are asked
+//! together, a store that fails in a settling, why a cluster doesn't start or close, and a worker
+//! over a server that stands in. Many begins by many clients are tried at a service, in
+//! tests/loads.
 #![tactic(auto)]
 
 #[cfg(test)]
@@ -42,6 +43,8 @@ mod starts;
 mod talk;
 #[cfg(test)]
 mod texts;
+#[cfg(test)]
+mod together;
 #[cfg(test)]
 mod trouble;
 #[cfg(test)]

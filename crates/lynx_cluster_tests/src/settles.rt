@@ -124,10 +124,10 @@ fn is_kept<R: Threads + Wait + Clock + Copy + Send + Sync + 'static>(
         is_right = is_right && sessions.push(one).is_ok() && sessions.push(other).is_ok();
     }
     let fault = cluster.close(&rt, alloc, sessions).err();
-    let stopped = stops.then_some(CloseFault::Stopped {
+    let stopped = CloseFault::Stopped {
         server: ServerId::first(),
-    });
-    Ok(is_right && fault == stopped)
+    };
+    Ok(is_right && fault == if stops { Some(stopped) } else { None })
 }
 
 #[test]

@@ -107,6 +107,10 @@ const CALLS: &[(&str, Call)] = &[
     ("chart", Call::World(WorldCall::Chart)),
     ("serve", Call::Service(ServiceCall::Serve)),
     ("Cluster::begin", Call::Service(ServiceCall::Begin)),
+    (
+        "Front::begin_all",
+        Call::Service(ServiceCall::BeginTogether),
+    ),
 ];
 
 /// Makes it.

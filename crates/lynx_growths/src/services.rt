@@ -2,12 +2,13 @@
 ghost use Rattle.lynx_codec.specs.Ranges.{IsAnswerInRange};
 
 use crate::servers::begun;
-use crate::tried::{Called, Tried, ended, made_again};
+use crate::tried::{Called, Tried, done_if, ended, made_again};
 use crate::values::SEED_FORM;
 use lynx_cluster::{CloseFault, Closed, Cluster, Front, Gate, OpenGate, Session};
 use lynx_codec::Looked;
 use lynx_entry::{Answer, Request};
 use lynx_fixtures::made::request;
+use lynx_fixtures::parts::RequestParts;
 use lynx_fixtures::payments::SEED;
 use lynx_fixtures::texts::{PAYMENT, set_of};
 use lynx_keep::{BatchKeeper, MemoryKeeper};
@@ -27,6 +28,8 @@ pub enum ServiceCall {
     Serve,
     /// A chain begins at a cluster.
     Begin,
+    /// Two chains begin at a cluster, together.
+    BeginTogether,
 }
 
 /// A desk that answers that the server stopped, and counts.
@@ -82,6 +85,57 @@ fn begin<R: Wait, K: BatchKeeper, G: Gate>(
     Ok(begun(front.begin(rt, alloc, session, asked)))
 }
 
+/// Two seeds, under different numbers.
+fn seeds(alloc: Global) -> Result<Vec<Request>, Memory> {
+    let mut requests = Vec::with_capacity(alloc, 2)?;
+    for number in 1..3 {
+        requests.push(request(alloc, RequestParts { number, ..SEED })?)?;
+    }
+    Ok(requests)
+}
+
+/// What begins together were answered, of which one may have begun before.
+fn all_begun(answers: &[Answer]) -> Called {
+    let mut called = done_if(answers.len() == 2);
+    for answer in answers {
+        match answer {
+            Answer::Begun { .. } => {}
+            Answer::Memory => called = Called::Refused,
+            _ => return Called::Other,
+        }
+    }
+    called
+}
+
+/// The seeds begin at the cluster together.
+fn begin_together<R: Wait, K: BatchKeeper, G: Gate>(
+    rt: &R,
+    alloc: Global,
+    front: &Front<K, G>,
+    session: &mut Session,
+) -> Result<Called, Memory> {
+    let requests = seeds(alloc)?;
+    let mut answers = Vec::with_capacity(alloc, requests.len())?;
+    front.begin_all(rt, alloc, session, requests, &mut answers);
+    Ok(all_begun(answers.as_slice()))
+}
+
+/// The seeds begin, and again where memory was wanting to one of them.
+fn begin_together_again<R: Wait, K: BatchKeeper, G: Gate>(
+    rt: &R,
+    alloc: Global,
+    front: &Front<K, G>,
+    session: &mut Session,
+) -> Result<Tried, Memory> {
+    match begin_together(rt, alloc, front, session)? {
+        Called::Refused => {
+            let is_partly = session.told().len() < 2;
+            Ok(made_again(is_partly, begin_together(rt, alloc, front, session)?))
+        }
+        answered => Ok(ended(answered)),
+    }
+}
+
 /// The seed begins, and again where memory was wanting to it.
 fn begin_again<R: Wait, K: BatchKeeper, G: Gate>(
     rt: &R,
@@ -119,23 +173,29 @@ fn entries_of(closed: Result<Closed<MemoryKeeper>, CloseFault>) -> Result<usize,
     }
 }
 
-/// A session begins the seed at a cluster in memory, which is closed then: its audit is what says
-/// that nothing else began.
+/// A session begins the seed, or two, at a cluster in memory, which is closed then: its audit is
+/// what says that nothing else began.
 fn try_begin<R: Threads + Wait + Clock + Copy + Send + 'static>(
     rt: R,
     alloc: Global,
+    are_two: bool,
 ) -> Result<Tried, Memory> {
     let mut sessions = Vec::new(alloc);
     sessions.reserve(1)?;
     let cluster = start(rt, alloc)?;
     let mut tried = Err(Memory);
     if let Some(mut session) = cluster.session(&rt, alloc) {
-        tried = begin_again(&rt, alloc, cluster.front(), &mut session);
+        let front = cluster.front();
+        tried = if are_two {
+            begin_together_again(&rt, alloc, front, &mut session)
+        } else {
+            begin_again(&rt, alloc, front, &mut session)
+        };
         sessions.push_reserved(session);
     }
     let entries = entries_of(cluster.close(&rt, alloc, sessions))?;
     match tried? {
-        _ if entries != 1 => Ok(Tried::Changed),
+        _ if entries != if are_two { 2 } else { 1 } => Ok(Tried::Changed),
         tried => Ok(tried),
     }
 }
@@ -148,6 +208,7 @@ pub fn try_service<R: Threads + Wait + Clock + Copy + Send + 'static>(
 ) -> Result<Tried, Memory> {
     match call {
         ServiceCall::Serve => Ok(try_serve(alloc)),
-        ServiceCall::Begin => try_begin(rt, alloc),
+        ServiceCall::Begin => try_begin(rt, alloc, false),
+        ServiceCall::BeginTogether => try_begin(rt, alloc, true),
     }
 }

@@ -35,6 +35,11 @@ impl<'a, R: Wait + Clock, K: BatchKeeper, G: Gate> Desk for ClientDesk<'a, R, K,
             .begin(self.rt, self.alloc, &mut self.session, request)
     }
 
+    fn begin_all(&mut self, requests: Vec<Request>, answers: &mut Vec<Answer>) {
+        self.front
+            .begin_all(self.rt, self.alloc, &mut self.session, requests, answers);
+    }
+
     fn look(&mut self, chain: ChainId, hop: u8) -> Result<Looked, Memory> {
         self.front
             .look(self.rt, self.alloc, &mut self.session, chain, hop)

@@ -155,6 +155,10 @@ pub(crate) fn cause_of_store(
     cause_at(host, alloc, file.as_str())
 }
 
+/// What is known of a store that doesn't have all in the end.
+const BEHIND: &str =
+    " lacks what its server did last: the log says why; serve once more, and it goes on from there";
+
 /// Why a store keeps what its server didn't do, in a line.
 fn line_of_history(alloc: Global, file: &str, server: u8) -> Result<String, AllocError> {
     let shown = Shown { name: file };
@@ -184,6 +188,7 @@ pub(crate) fn cause_of_copy(
             Some(cause) => Ok(cause),
             None => line_of(alloc, file, " is damaged: take an empty folder"),
         },
+        CopyWord::Behind => line_of(alloc, file, BEHIND),
         CopyWord::Store | CopyWord::Memory => cause_of_store(host, alloc, folder, server),
     }
 }

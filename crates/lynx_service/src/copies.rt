@@ -131,9 +131,41 @@ impl<K: BatchKeeper + Drop> Copy<K> {
             Ok(follower) => self.begin(folder, follower),
             Err(word) => {
                 folder.log.copy_failed(self.server, word, None);
+                folder.room.lose(self.server);
                 self.failed = Instant::now(rt).ok();
             }
         }
+    }
+
+    /// Opens the store where it doesn't follow, and appends all that the server did, which does
+    /// nothing more.
+    pub(crate) fn catch_up<R: Wait + Clock, S: Stores<K>>(
+        &mut self,
+        rt: &R,
+        front: &Front<K, Tally<R>>,
+        folder: &CopyFolder<'_, S>,
+    ) {
+        self.failed = None;
+        self.open_again(rt, front, folder);
+        for _ in rt.forever() {
+            if !self.follow(rt, front, folder) {
+                break;
+            }
+        }
+    }
+
+    /// The server, where the store lacks something of what it did. One that doesn't follow is taken
+    /// to lack something.
+    pub(crate) fn lacking<R: Wait + Clock>(
+        &self,
+        rt: &R,
+        front: &Front<K, Tally<R>>,
+    ) -> Option<ServerId> {
+        let has_all = match (&self.follower, front.glance(rt, self.server)) {
+            (Some(follower), Some(glance)) => follower.count() >= glance.entries,
+            _ => false,
+        };
+        (!has_all).then_some(self.server)
     }
 
     /// Appends what the server did behind what the store has, so much at a time at most. Whether

@@ -60,6 +60,14 @@ impl CopyRoom {
         }
     }
 
+    /// Nothing is known of what the store of that server has.
+    pub(crate) fn lose(&self, server: ServerId) {
+        if let Some(place) = self.places.as_slice().get(server.index()) {
+            place.entries.store(0, Ordering::SeqCst);
+            place.follows.store(false, Ordering::SeqCst);
+        }
+    }
+
     /// No store follows.
     pub(crate) fn leave_all(&self) {
         for place in self.places.as_slice() {

@@ -1,6 +1,6 @@
 //! The thread that copies: what servers add is appended to stores of their own in another folder.
 use crate::copies::{Copy, CopyFolder};
-use crate::fault::ServeFault;
+use crate::fault::{CopyWord, ServeFault};
 use crate::hall::Hall;
 use crate::limits::COPY_MILLIS;
 use crate::tally::Tally;
@@ -73,17 +73,26 @@ impl<'a, K: BatchKeeper + Drop, S: Stores<K>> Copier<'a, K, S> {
     }
 
     /// Appends the rest of what all servers did, once they do nothing more, and closes the stores.
-    pub(crate) fn finish<R: Wait + Clock>(&self, rt: &R, front: &Front<K, Tally<R>>) {
-        let mut copies = self.copies.lock(rt);
-        for copy in copies.iter_mut() {
-            for _ in rt.forever() {
-                if !copy.follow(rt, front, &self.folder) {
-                    break;
-                }
+    /// Those that don't follow are opened before, unless they are paused. The first server whose
+    /// store lacks something then is told.
+    pub(crate) fn finish<R: Wait + Clock>(
+        &self,
+        rt: &R,
+        front: &Front<K, Tally<R>>,
+    ) -> Result<(), ServeFault> {
+        let mut lacking = None;
+        if self.folder.room.pause().is_none() {
+            let mut copies = self.copies.lock(rt);
+            for copy in copies.iter_mut() {
+                copy.catch_up(rt, front, &self.folder);
+                lacking = lacking.or(copy.lacking(rt, front));
             }
         }
-        drop(copies);
         self.close(rt);
+        match lacking {
+            Some(server) => Err(ServeFault::of_copy(server, CopyWord::Behind)),
+            None => Ok(()),
+        }
     }
 
     /// Closes the stores.

@@ -50,6 +50,9 @@ pub enum CopyWord {
     Damaged,
     #[error("store")]
     Store,
+    /// In the end it lacks something of what the server did.
+    #[error("behind")]
+    Behind,
     #[error("memory")]
     Memory,
 }

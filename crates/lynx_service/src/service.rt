@@ -193,18 +193,19 @@ fn open_copier<'a, K: BatchKeeper + Drop, S: Stores<K>>(
 }
 
 /// Ends the workers of a cluster, so that its servers do nothing more, and has all that they did in
-/// the folder that follows, if one does.
+/// the folder that follows, if one does. A store there that lacks something then is told.
 fn finish<R: Host, K: BatchKeeper + Send + Drop, S: Stores<K>>(
     rt: &R,
     alloc: Global,
     cluster: &mut Cluster<K, Tally<R>>,
     copier: Option<Copier<'_, K, S>>,
-)
+) -> Result<(), ServeFault>
     ensures { cluster.new ≡ cluster.old }
 {
     cluster.halt(rt, alloc);
-    if let Some(copier) = copier {
-        copier.finish(rt, cluster.front());
+    match copier {
+        Some(copier) => copier.finish(rt, cluster.front()),
+        None => Ok(()),
     }
 }
 
@@ -225,7 +226,8 @@ fn finish<R: Host, K: BatchKeeper + Send + Drop, S: Stores<K>>(
 /// did, a tenth of a second and a thousand entries behind where its disk keeps up, and in the end
 /// all of it. A store there that isn't of this set, or keeps what its server didn't do, is told
 /// before anybody is served, and left as it is. One that fails later is told in the log, and opened
-/// again a minute later; the service goes on.
+/// again a minute later; the service goes on. One that isn't paused and lacks something in the end
+/// is told behind all that is written.
 ///
 /// The close takes about as long, and as much memory, as opening the stores did; the answers of a
 /// session, and what its looks found, are kept until then.
@@ -264,7 +266,7 @@ pub fn serve_stores<
     drop(ports);
     progress.closes();
     let since = Instant::now(&rt).ok();
-    finish(&rt, alloc, &mut cluster, copier);
+    let copied = finish(&rt, alloc, &mut cluster, copier);
     let closed = cluster.close(&rt, alloc, sessions);
     let took = since.and_then(|since| since.elapsed(&rt).ok());
     progress.ends();
@@ -275,7 +277,9 @@ pub fn serve_stores<
     match closed {
         Ok(closed) => {
             log.audited(true, took);
-            end(alloc, stores, closed, writer)
+            let explained = end(alloc, stores, closed, writer)?;
+            copied?;
+            Ok(explained)
         }
         Err(fault) => {
             log.audited(false, took);

@@ -1,6 +1,9 @@
 """What tests of the built program share: the payment set, counts of tests, and a service under test, `lynx serve` over a fresh
 folder."""
+import importlib.machinery
+import importlib.util
 import os
+import re
 import shutil
 import socket
 import struct
@@ -8,6 +11,7 @@ import subprocess
 import sys
 import tempfile
 import time
+import urllib.request
 
 TOP = os.path.dirname(os.path.dirname(os.path.abspath(__file__)))
 sys.dont_write_bytecode = True
@@ -35,6 +39,14 @@ class Tally:
     def holds(self, name, fact):
         self.is_same(name, bool(fact), True)
 
+    def finds(self, tool):
+        """Where a program is installed; where it isn't, that is counted as a failure, and None."""
+        found = shutil.which(tool)
+        if not found:
+            self.failed += 1
+            print(f"== {tool} isn't installed: tests/setup installs it")
+        return found
+
     def end(self):
         """The last line, and the status."""
         print(f"{self.passed} passed, {self.failed} failed")
@@ -49,6 +61,14 @@ def program(words):
     return os.path.abspath(found)
 
 
+def script(name):
+    """A script of tests/ as a module."""
+    loader = importlib.machinery.SourceFileLoader(name, os.path.join(TOP, "tests", name))
+    made = importlib.util.module_from_spec(importlib.util.spec_from_loader(name, loader))
+    loader.exec_module(made)
+    return made
+
+
 def free_port():
     """A port that nobody listens at just now."""
     with socket.socket() as found:
@@ -60,6 +80,11 @@ def end_of(words, given="", **how):
     """What a program prints, and its status."""
     ran = subprocess.run(words, input=given, capture_output=True, text=True, timeout=120, **how)
     return ran.stdout, ran.stderr, ran.returncode
+
+
+def bound_by_modes():
+    """Words before those of a program by which the modes of files bind it, though this user be root."""
+    return [] if os.geteuid() else ["setpriv", "--bounding-set=-dac_override,-dac_read_search"]
 
 
 class Room:
@@ -179,3 +204,9 @@ def wait_until(fact, within=30.0):
             return False
         time.sleep(0.01)
     return True
+
+
+def owed(service):
+    """How many hops the service tells to be owed."""
+    with urllib.request.urlopen(f"http://127.0.0.1:{service.status}/metrics", timeout=10) as page:
+        return sum(int(count) for count in re.findall(r"(?m)^lynx_owed_hops\{[^}]*\} (\d+)$", page.read().decode()))

@@ -1,14 +1,7 @@
-#!/usr/bin/env python3
 """A plain reading of docs/DEFINITIONS.md and docs/FORMATS.md, written apart from the program: what a set text and a
 script print, and the verdict on a set. It walks lists where the program may keep counters, and makes no effort to be
-fast. tests/random compares the program with it.
-
-tests/reference.py --self-check N: on N random small sets, the same each time, compares the way in which it looks for a
-walk of blocks that offends with one that tries all short walks. The last line is 'N passed, M failed'.
+fast. tests/random compares the program with it, and tests/test_reference.py holds it to plainer ways.
 """
-import random
-import sys
-
 MASK = (1 << 64) - 1
 GETTING, SETTING, ADDING, RAISING = "getting", "setting", "adding", "raising"
 HELD_ROOM = 64
@@ -347,20 +340,19 @@ def least_walk(chains):
     """The conflict edges of the least of the shortest closed walks that offend, by plain search, if there is one."""
     nodes = places(chains)
     joins = {node: [other for other in nodes if may_conflict(chains, node, other)] for node in nodes}
-    number = {program: i for i, program in enumerate(chains.programs)}
-    order = lambda node: (number[node[0]], node[1])
+    place = {node: at for at, node in enumerate(nodes)}
     # a partial walk: the first visit's hop left, the newest visit's hop entered, whether some visit crossed, and the
-    # origins that were met; levels keep the least list of edges for each such state
+    # origins that were met; levels keep the least list of edges for each such state, each edge by the places of its hops
     best = None
-    for start in sorted(nodes, key=order):
+    for start in nodes:
         # the first visit leaves by `start`; it is entered by some hop of the same program
-        states = {(other, False, False): [(start, other)] for other in joins[start]}
+        states = {(other, False, False): [(place[start], place[other])] for other in joins[start]}
         for _ in range(2, 2 * len(nodes) + 3):
             if best is not None and len(next(iter(states.values()), [])) > len(best):
                 break
             for (entered, crossed, differs), edges in states.items():
                 if entered[0] == start[0] and len(edges) >= 2:
-                    if (crossed or entered != start) and differs and (best is None or better(edges, best, order)):
+                    if (crossed or entered != start) and differs and (best is None or (len(edges), edges) < (len(best), best)):
                         best = edges
             after = {}
             for (entered, crossed, differs), edges in states.items():
@@ -368,16 +360,11 @@ def least_walk(chains):
                 for left in [(entered[0], h) for h in range(len(chains.hops(entered[0])))]:
                     for other in joins[left]:
                         state = (other, crossed or left != entered, other_origin)
-                        path = edges + [(left, other)]
-                        if state not in after or better(path, after[state], order):
+                        path = edges + [(place[left], place[other])]
+                        if state not in after or path < after[state]:
                             after[state] = path
             states = after
-    return best
-
-
-def better(left, right, order):
-    key = lambda edges: (len(edges), [order(node) for edge in edges for node in edge])
-    return key(left) < key(right)
+    return best and [(nodes[left], nodes[right]) for left, right in best]
 
 
 def blocks(chains):
@@ -479,31 +466,3 @@ def small_set(rng):
         lines.append("end")
         left, number = left - count, number + 1
     return "".join(line + "\n" for line in lines)
-
-
-def self_check(count):
-    """Compares the two ways to look for a walk of blocks that offends, and prints the sets on which they differ; and those that
-    the picture's rule accepts though they offend."""
-    failed, offending, ruled = 0, 0, 0
-    for seed in range(count):
-        text = small_set(random.Random(seed))
-        chains = Set(text)
-        found = block_walk_offends(chains)
-        offending += found
-        if found != short_block_walk_offends(chains):
-            failed += 1
-            print(f"== seed {seed}: by one block {found}\n{text}")
-        if is_accepted_by_the_picture(chains):
-            ruled += 1
-            if check(text)[1]:
-                failed += 1
-                print(f"== seed {seed}: accepted by the picture\n{text}")
-    print(f"a walk of blocks offends in {offending} sets of {count}, and the picture shows {ruled} to be accepted")
-    print(f"{count + ruled - failed} passed, {failed} failed")
-    return 1 if failed or not ruled or not offending else 0
-
-
-if __name__ == "__main__":
-    if len(sys.argv) != 3 or sys.argv[1] != "--self-check":
-        sys.exit(__doc__)
-    sys.exit(self_check(int(sys.argv[2])))

@@ -2,17 +2,9 @@
 """tests/reference_why.py SET: the verdict on the set text in a file and why it is so, by a plain reading of docs/FORMATS.md
 that was written apart from the program; the verdict is that of tests/reference.py, and hops that may conflict are found as
 for tests/reference_picture.py. What it prints for a set is what a case of `lynx check SET --why` expects, and tests/random
-compares the program with it.
-
-tests/reference_why.py --self-check N: on the first N random sets of tests/random, and on the sets under examples and
-tests/cases, that of each offending one the lines `late` and `abroad` name all that stands in the way: taking away the
-meetings that they name leaves no walk of blocks that offends. The last line is 'N passed, M failed'."""
-import glob
-import importlib.machinery
-import importlib.util
+compares the program with it."""
 import itertools
 import os
-import random
 import sys
 
 sys.path.insert(0, os.path.dirname(os.path.abspath(__file__)))
@@ -183,34 +175,6 @@ def is_mended(text, printed):
     return all(reference.is_forward(chains, block) for block in reference.blocks(chains) if met >= {block[0], block[1]})
 
 
-def self_check(count):
-    """Tries that the lines of random sets, and of those of the repository, name all that stands in the way."""
-    top = os.path.dirname(os.path.dirname(os.path.abspath(__file__)))
-    loader = importlib.machinery.SourceFileLoader("random_sets", os.path.join(top, "tests", "random"))
-    random_sets = importlib.util.module_from_spec(importlib.util.spec_from_loader("random_sets", loader))
-    loader.exec_module(random_sets)
-    texts = [random_sets.set_text(random.Random(seed))[0] for seed in range(count)]
-    for path in sorted(glob.glob(f"{top}/examples/**/*.set", recursive=True) + glob.glob(f"{top}/tests/cases/[!sh]*/*.set")):
-        with open(path, encoding="latin-1") as file:
-            texts.append(file.read())
-    passed = failed = 0
-    for text in texts:
-        try:
-            printed, status = why(text)
-        except Exception:
-            # (a case of a text with a fault)
-            continue
-        if status:
-            is_right = is_mended(text, printed) and "\nlate " in printed and "\nmixed " in printed
-            passed, failed = passed + is_right, failed + (not is_right)
-            if not is_right:
-                print(f"== not mended\n{text}-- by\n{printed}")
-    print(f"{passed} passed, {failed} failed")
-    return 1 if failed or not passed else 0
-
-
 if __name__ == "__main__":
-    if sys.argv[1] == "--self-check":
-        sys.exit(self_check(int(sys.argv[2])))
     with open(sys.argv[1], encoding="ascii") as file:
         sys.stdout.write(why(file.read())[0])

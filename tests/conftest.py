@@ -1,0 +1,143 @@
+"""What the tests share as fixtures: the built program, a tally of checks, rooms with a set, and services over them. And what is
+counted: each check of a tally, each test without one, and a test that is skipped as a failure."""
+import collections
+import fcntl
+import os
+import shutil
+
+import pytest
+from hypothesis import settings
+from serving import PAYMENT, TOP, Room, Service, Tally
+
+# The options of built programs, each with its crate.
+PROGRAMS = {"program": "lynx", "bench": "lynx_bench", "growths": "lynx_growths"}
+
+
+def pytest_addoption(parser):
+    for option, crate in PROGRAMS.items():
+        parser.addoption(f"--{option}", default=os.path.join(TOP, "crates", crate, "out", crate),
+                         help=f"the built {crate}; crates/{crate}/out/{crate} if left out")
+    parser.addoption("--times", type=int, default=1, help="how many times as many random cases are tried; 1 if left out")
+
+
+def pytest_generate_tests(metafunc):
+    """A test of a `seed` is run for as many seeds as SEEDS of its module says, --times as many."""
+    if "seed" in metafunc.fixturenames:
+        metafunc.parametrize("seed", range(metafunc.module.SEEDS[metafunc.function.__name__] * metafunc.config.getoption("--times")))
+
+
+def pytest_configure(config):
+    settings.register_profile("gate", max_examples=100 * config.getoption("--times"), derandomize=True, database=None, deadline=None,
+                              print_blob=True)
+    settings.load_profile("gate")
+    if not hasattr(config, "workerinput"):
+        config.pluginmanager.register(Closing(config), "closing")
+
+
+def built(config, option):
+    """A built program."""
+    found = os.path.join(TOP, config.getoption(f"--{option}"))
+    if not os.path.isfile(found):
+        pytest.fail(f"there is no {found}: 'rt ci', or 'rt run' in crates/{PROGRAMS[option]}, builds it", pytrace=False)
+    return found
+
+
+@pytest.fixture(scope="session")
+def program(pytestconfig):
+    """The built program."""
+    return built(pytestconfig, "program")
+
+
+@pytest.fixture(scope="session")
+def bench(pytestconfig):
+    """The built program of loads."""
+    return built(pytestconfig, "bench")
+
+
+@pytest.fixture(scope="session")
+def growths(pytestconfig):
+    """The built program of calls that are refused growths."""
+    return built(pytestconfig, "growths")
+
+
+@pytest.fixture(scope="session")
+def chromium():
+    """The browser."""
+    found = shutil.which("chromium")
+    if not found:
+        pytest.fail("chromium isn't installed: tests/setup installs it", pytrace=False)
+    return found
+
+
+@pytest.fixture(autouse=True)
+def turn(request, tmp_path_factory):
+    """Tests run beside each other; one that is marked as `alone`, since it measures time, waits until no other runs, and no other
+    begins before it ends."""
+    base = tmp_path_factory.getbasetemp()
+    folder = base.parent if "PYTEST_XDIST_WORKER" in os.environ else base
+    is_alone = request.node.get_closest_marker("alone")
+    with open(folder / "next", "w", encoding="ascii") as queue, open(folder / "running", "w", encoding="ascii") as running:
+        fcntl.flock(queue, fcntl.LOCK_EX)
+        fcntl.flock(running, fcntl.LOCK_EX if is_alone else fcntl.LOCK_SH)
+        fcntl.flock(queue, fcntl.LOCK_UN)
+        yield
+
+
+@pytest.fixture
+def tally():
+    """Counts the checks of a test, which fails in the end where one of them did."""
+    return Tally()
+
+
+@pytest.fixture
+def room():
+    """A fresh folder with the payment set, and an empty one for its stores."""
+    with Room(PAYMENT) as made:
+        yield made
+
+
+@pytest.fixture
+def service(program, room):
+    """A service over the stores of the room."""
+    with Service(program, room) as made:
+        yield made
+
+
+@pytest.hookimpl(hookwrapper=True)
+def pytest_runtest_makereport(item):
+    """Fails a test one of whose checks failed, and one that is skipped, and hands on how many checks there were."""
+    report = (yield).get_result()
+    if report.skipped:
+        report.outcome, report.longrepr = "failed", f"it was skipped: {report.longrepr}"
+    checks = getattr(item, "funcargs", {}).get("tally")
+    if report.when == "call" and checks:
+        if report.passed and (checks.failed or not checks.passed):
+            report.outcome = "failed"
+            report.longrepr = f"{checks.failed} of its {checks.passed + checks.failed} checks failed"
+        report.user_properties.append(("checks", [checks.passed, max(checks.failed, int(report.failed))]))
+
+
+class Closing:
+    """Adds up what the tests of each file counted, and ends with the line that tests/all reads."""
+
+    def __init__(self, config):
+        self.config, self.counts = config, collections.defaultdict(lambda: [0, 0])
+
+    def pytest_runtest_logreport(self, report):
+        passed, failed = dict(report.user_properties).get("checks") or (int(report.passed), int(report.failed))
+        if report.when == "call" or report.failed:
+            counted = self.counts[report.nodeid.split("::")[0]]
+            counted[0] += passed if report.when == "call" else 0
+            counted[1] += failed if report.when == "call" else 1
+
+    def pytest_collectreport(self, report):
+        if report.failed:
+            self.counts[report.nodeid][1] = 1
+
+    @pytest.hookimpl(trylast=True)
+    def pytest_unconfigure(self):
+        told = self.config.pluginmanager.get_plugin("terminalreporter")
+        for name, (passed, failed) in sorted(self.counts.items()):
+            told.write_line(f"{name}: {passed} passed, {failed} failed")
+        sums = [sum(column) for column in zip(*self.counts.values())] or [0, 0]
+        told.write_line(f"{sums[0]} passed, {sums[1]} failed")

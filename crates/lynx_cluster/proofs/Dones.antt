@@ -1,6 +1,6 @@
 -- What is told to be done was done.
 use Rattle.std.proofs.Common.{◌≡◌, ◌∙◌, ◌&&◌, eq-eqb, ℕ, Bool, true, false, cond, not, nat_eq, nat_lt, List, [], ◌∷◌, ◌++◌, find, length, Option, Some, None, IsSome, Ok, Err, inl, inr, refl, sym, ap, subst}
-use Rattle.std.specs.Prelude.{unwrap_or}
+use Rattle.std.specs.Prelude.{IfSome, unwrap_or}
 use Rattle.std.specs.List.{list_any}
 use Rattle.std.proofs.lemmas.List.{append-nil}
 use Rattle.lynx_names.specs.declared.chain.ChainId.{ChainId}
@@ -22,10 +22,11 @@ use Rattle.lynx_rules.specs.Turns.{turn_of}
 use Rattle.lynx_server.specs.Acts.{act_of, is_act}
 use Rattle.lynx_server.specs.History.{grown}
 use Rattle.lynx_server.specs.declared.server.Woken.{Woken}
+use Rattle.lynx_server.specs.Owed.{IsSender}
 use Rattle.lynx_server.specs.Serving.{Delivers, DeliversWoken, Serving, Wakes, delivery_of, told_stopped, woken_of}
 use Rattle.lynx_set.specs.Set.{Set}
 use Rattle.lynx_worker.specs.declared.steps.Receipt.{Receipt}
-use Rattle.lynx_cluster.specs.inner.Serving.{AreDone, NotesDone, TellsDone, was_done}
+use Rattle.lynx_cluster.specs.inner.Serving.{AreDone, NamesSender, NotesDone, TellsDone, was_done}
 
 -- ---- entries stay
 
@@ -73,6 +74,16 @@ one_more : (history : History) (receipts : List Receipt) (receipt : Receipt) →
     AreDone history (receipts ++ receipt ∷ [])
 one_more history [] receipt there done = (there, tt)
 one_more history (first ∷ receipts) receipt there done = (done.0, one_more history receipts receipt there done.1)
+
+-- a receipt that was noted for who sends the hop is for its sender
+pub names_sender : {K : Type 0} (serving : Serving K) (to : Option ℕ) (chain : ChainId) (hop : ℕ) (given : Delivered) (old new : List Receipt) →
+    NotesDone to chain hop given old new → IfSome to (IsSender serving.set hop (act_of chain hop serving.history)) → NamesSender serving old new
+names_sender serving to chain hop given old new (inl same) is = inl same
+names_sender serving to chain hop given old new (inr noted) is = inr (
+  record { to = noted.1.0; chain = chain; hop = hop },
+  noted.1.2,
+  subst (λ (found : Option ℕ). IfSome found (IsSender serving.set hop (act_of chain hop serving.history))) noted.1.1 is,
+)
 
 -- ---- what a delivery comes to
 

@@ -23,7 +23,7 @@ use std::marker::Model;
 use std::sync::atomic::AtomicBool;
 use std::sync::{Arc, Mutex, Wait};
 use std::thread::JoinHandle;
-use std::time::Instant;
+use std::time::{Clock, Instant};
 
 /// Sessions that one cluster makes, at most.
 pub const MAX_SESSIONS: u64 = 1_000_000;
@@ -130,7 +130,7 @@ impl<K: BatchKeeper, G: Gate> Cluster<K, G> {
     }
 
     /// One begin: [`Front::begin`].
-    pub fn begin<R: Wait>(
+    pub fn begin<R: Wait + Clock>(
         &self,
         rt: &R,
         alloc: Global,
@@ -196,7 +196,7 @@ impl<K: BatchKeeper, G: Gate> Front<K, G> {
     /// has the state of another server. It costs a walk over the set, a copy of the request, and
     /// [`Server::begin`](lynx_server::Server::begin); all memory for the note is taken before the
     /// server is asked.
-    pub fn begin<R: Wait>(
+    pub fn begin<R: Wait + Clock>(
         &self,
         rt: &R,
         alloc: Global,
@@ -219,7 +219,7 @@ impl<K: BatchKeeper, G: Gate> Front<K, G> {
 
     /// One begin at that server, under its lock, whose answer isn't told yet, and when its step
     /// began. None where the lock has the state of another server.
-    fn ask<R: Wait>(
+    fn ask<R: Wait + Clock>(
         &self,
         rt: &R,
         alloc: Global,
@@ -232,7 +232,7 @@ impl<K: BatchKeeper, G: Gate> Front<K, G> {
             session.new) }
         ensures none { IfNone result.0 (session.new ≡ session.old) }
     {
-        let mut state = post.enter(rt);
+        let mut state = post.enter_to_begin(rt, alloc, &self.bells, server);
         self.gate.enter(server, Passage::Begin);
         let since = self.gate.now();
         let asked = if is_of(&state, &self.set, server) {

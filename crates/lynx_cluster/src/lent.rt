@@ -4,7 +4,7 @@ ghost use Rattle.lynx_keep.specs.HeldBack.{held_terms};
 ghost use Rattle.lynx_resting.specs.Resting.{settled_front, settled_part};
 ghost use Rattle.lynx_server.specs.Owed.{Acknowledges};
 ghost use Rattle.lynx_set.specs.Lookups.{server_at};
-ghost use Rattle.lynx_cluster.specs.inner.Serving.{AddsFound, AreDone, AreOwed, AreOwedBetween, AreRising, HearsOf, IsDueOf, IsNotedIn, NotesDone, OwesOnlyAt, Serves, TellsDone, was_done};
+ghost use Rattle.lynx_cluster.specs.inner.Serving.{AddsFound, AreDone, AreOwed, AreOwedBetween, AreRising, HearsOf, IsDueOf, IsNotedIn, NamesSender, NotesDone, OwesOnlyAt, Serves, TellsDone, was_done};
 
 use crate::bells::Bells;
 use crate::cluster::is_of;
@@ -96,6 +96,8 @@ fn wake_next<K: BatchKeeper>(
     may_wake: bool,
     turn: &mut Turn,
 ) -> bool
+    ensures sender { NamesSender state.new.here turn.old.served.receipts.items
+        turn.new.served.receipts.items }
     ensures done { TellsDone state.old.here.history turn.old.served.receipts.items
         state.new.here.history turn.new.served.receipts.items }
 {
@@ -448,7 +450,12 @@ impl<K: BatchKeeper, G: Gate> Steps for Lent<K, G> {
             None
         };
         let holds = !state.held().is_empty();
-        Owed { dues, end, holds }
+        Owed {
+            from,
+            dues,
+            end,
+            holds,
+        }
     }
 
     fn owed_at<R: Wait>(&self, rt: &R, alloc: Global, places: &[u64]) -> Result<Vec<Due>, Memory> {
@@ -487,6 +494,10 @@ impl<K: BatchKeeper, G: Gate> Steps for Lent<K, G> {
 
     fn rest<R: Wait + Clock>(&self, rt: &R, most: Duration) {
         self.bells.wait(rt, self.server, most);
+    }
+
+    fn note_owed<R: Wait>(&self, rt: &R, from: u64) {
+        self.post.note_owed(rt, from);
     }
 
     fn ring(&self, to: ServerId) {

@@ -2,14 +2,28 @@
 ghost use Rattle.std.specs.Prelude.{◌≡◌, true};
 ghost use Rattle.lynx_resting.specs.Resting.{settled_front};
 
+use crate::bells::Bells;
 use lynx_keep::BatchKeeper;
+use lynx_names::ServerId;
 use lynx_resting::{Mark, Resting};
 use std::alloc::Global;
 use std::sync::atomic::{AtomicU64, Ordering};
-use std::sync::{Condvar, Mutex, MutexGuard, Wait};
+use std::sync::{Condvar, CondvarTimeouts, Mutex, MutexGuard, Wait};
+use std::time::{Clock, Duration};
 
 /// Entries that wait for a settling, at most: from then on each step settles.
 const MOST_WAITING: usize = 256;
+
+/// Entries of a server from the first on of which a message is owed, at most, where another chain
+/// begins there at once. Else its worker has to come first.
+const MOST_BEHIND: u64 = 512;
+
+/// Milliseconds for which a begin waits until less is owed, at most. For a message that is owed
+/// still then, since its server stopped, say, no begin waits again.
+const PATIENCE_MILLIS: u64 = 100;
+
+/// How often a begin waits until less is owed, at most.
+const MOST_WAITS: u32 = 16;
 
 /// How many steps of a server go into one transaction of its store.
 #[derive(Clone, Copy, Debug, PartialEq, Eq)]
@@ -32,6 +46,12 @@ pub(crate) struct Post<K: BatchKeeper> {
     entered: AtomicU64,
     /// How many begins were made since its worker had it last.
     begins: AtomicU64,
+    /// How far nothing was owed when its worker looked last.
+    owed_from: AtomicU64,
+    /// From where something was owed when a begin waited in vain until less is.
+    stuck_at: AtomicU64,
+    /// Rung where less is owed.
+    moved: Condvar,
     /// How much is settled, as the last settling left it.
     mark: Mutex<Mark>,
     /// Rung at each settling.
@@ -48,6 +68,9 @@ impl<K: BatchKeeper> Post<K> {
             asked: AtomicU64::new(0),
             entered: AtomicU64::new(0),
             begins: AtomicU64::new(0),
+            owed_from: AtomicU64::new(0),
+            stuck_at: AtomicU64::new(u64::MAX),
+            moved: Condvar::new(),
             mark: Mutex::new(mark),
             settled: Condvar::new(),
         }
@@ -59,6 +82,57 @@ impl<K: BatchKeeper> Post<K> {
         let state = self.state.lock(rt);
         self.entered.fetch_add(1, Ordering::SeqCst);
         state
+    }
+
+    /// So much lies behind the first entry of which a message is owed that another chain shouldn't
+    /// begin.
+    fn is_behind(&self, reached: u64, owed_from: u64) -> bool {
+        reached.saturating_sub(owed_from) > MOST_BEHIND
+            && self.stuck_at.load(Ordering::SeqCst) != owed_from
+    }
+
+    /// Waits until less is owed, for a while.
+    fn await_worker<R: Wait + Clock>(&self, rt: &R, owed_from: u64) {
+        let patience = Duration::from_millis(PATIENCE_MILLIS);
+        let (mark, waited) = self
+            .moved
+            .wait_timeout_while(rt, self.mark.lock(rt), patience, |_: &mut Mark| {
+                self.owed_from.load(Ordering::SeqCst) == owed_from
+            });
+        drop(mark);
+        if waited.timed_out() {
+            self.stuck_at.store(owed_from, Ordering::SeqCst);
+        }
+    }
+
+    /// The lock, to begin a chain: once less is owed where much is, so that later hops keep pace
+    /// with begins. The worker of the server, whose bell that is, comes meanwhile.
+    pub(crate) fn enter_to_begin<R: Wait + Clock>(
+        &self,
+        rt: &R,
+        alloc: Global,
+        bells: &Bells,
+        server: ServerId,
+    ) -> MutexGuard<'_, Resting<K>> {
+        for _ in 0..MOST_WAITS {
+            let state = self.enter(rt);
+            let owed_from = self.owed_from.load(Ordering::SeqCst);
+            if !self.is_behind(state.reached() as u64, owed_from) {
+                return state;
+            }
+            self.give_back(rt, alloc, state);
+            bells.ring(server);
+            self.await_worker(rt, owed_from);
+        }
+        self.enter(rt)
+    }
+
+    /// The worker found that nothing is owed before that place.
+    pub(crate) fn note_owed<R: Wait>(&self, rt: &R, from: u64) {
+        let mark = self.mark.lock(rt);
+        self.owed_from.store(from, Ordering::SeqCst);
+        drop(mark);
+        self.moved.notify_all();
     }
 
     /// The lock, to look.

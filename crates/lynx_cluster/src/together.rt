@@ -18,7 +18,7 @@ use lynx_resting::Resting;
 use std::alloc::Global;
 use std::collections::VecDeque;
 use std::sync::Wait;
-use std::time::Instant;
+use std::time::{Clock, Instant};
 
 /// Begins of one server that were asked one after the other, and of which nobody is told yet.
 struct Run {
@@ -146,7 +146,7 @@ impl<K: BatchKeeper, G: Gate> Front<K, G> {
 
     /// Asks this request, and those that stand next and begin at that server, too, under one taking
     /// of its lock. False where the lock has the state of another server: then none was asked.
-    fn ask_run<R: Wait>(
+    fn ask_run<R: Wait + Clock>(
         &self,
         rt: &R,
         alloc: Global,
@@ -172,7 +172,7 @@ impl<K: BatchKeeper, G: Gate> Front<K, G> {
             + length rest.new.items ≡ length rest.old.items + 1 }
         ensures fewer { length rest.new.items ≤ length rest.old.items }
     {
-        let mut state = post.enter(rt);
+        let mut state = post.enter_to_begin(rt, alloc, &self.bells, server);
         self.gate.enter(server, Passage::Begin);
         run.since = self.gate.now();
         let is_here = is_of(&state, &self.set, server);
@@ -220,7 +220,7 @@ impl<K: BatchKeeper, G: Gate> Front<K, G> {
     }
 
     /// Begins this request, and those that stand next and begin at that server, too.
-    fn begin_run<R: Wait>(
+    fn begin_run<R: Wait + Clock>(
         &self,
         rt: &R,
         alloc: Global,
@@ -255,7 +255,7 @@ impl<K: BatchKeeper, G: Gate> Front<K, G> {
 
     /// Begins this request, and those that stand next and begin at the same server, too, where
     /// there is memory for that and each isn't to be settled by itself.
-    fn begin_leading<R: Wait>(
+    fn begin_leading<R: Wait + Clock>(
         &self,
         rt: &R,
         alloc: Global,
@@ -289,7 +289,7 @@ impl<K: BatchKeeper, G: Gate> Front<K, G> {
     /// at one server are begun under one taking of its lock, and share a settling: where the store
     /// fails in that, each of them is answered Stopped. Each is begun by itself under
     /// [`Pace::Each`](crate::Pace::Each), and where memory is wanting for the list of them.
-    pub fn begin_all<R: Wait>(
+    pub fn begin_all<R: Wait + Clock>(
         &self,
         rt: &R,
         alloc: Global,

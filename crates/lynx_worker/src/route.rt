@@ -1,5 +1,5 @@
 //! What a worker sends to one server.
-ghost use Rattle.std.specs.Prelude.{◌≡◌, MatchBool, None, Some, take, unwrap_or};
+ghost use Rattle.std.specs.Prelude.{◌≡◌, IfSome, MatchBool, None, Some, take, unwrap_or};
 ghost use Rattle.lynx_worker.specs.Sending.{CatchesUp, SendsAll, SendsNothing, SendsTo};
 
 use crate::resending::{Passes, Reach};
@@ -150,6 +150,15 @@ impl Route {
         self.to
     }
 
+    /// The place of the first message that wasn't sent, or wasn't acknowledged; None where there is
+    /// none before how far the worker has come.
+    pub(crate) fn owes_from(&self) -> Option<u64> {
+        match (self.lags_at, self.flight.unheard.first()) {
+            (Some(lags), Some(first)) => Some(lags.min(first)),
+            (lags, first) => lags.or(first),
+        }
+    }
+
     /// Whether a message lags, or nothing was heard of one that was sent.
     pub(crate) fn awaits(&self) -> bool {
         self.lags_at.is_some() || self.flight.unheard.first().is_some()
@@ -185,7 +194,9 @@ impl Route {
     }
 
     /// Where the route goes on that lags, if there is room in its ring.
-    pub(crate) fn lags_at(&self, ends: &mut Ends) -> Option<u64> {
+    pub(crate) fn lags_at(&self, ends: &mut Ends) -> Option<u64>
+        ensures { IfSome result (λ place. self.now.lags_at ≡ Some place) }
+    {
         match self.lags_at {
             Some(place) if !is_full(ends, self.to) => Some(place),
             _ => None,
@@ -201,6 +212,8 @@ impl Route {
         owed: Owed,
         reached: u64,
     ) -> bool
+        // Asked from just where the route lags: no message is passed over.
+        requires from { self.old.lags_at ≡ Some owed.from }
         ensures goes { CatchesUp self.old.to owed reached ends.old self.old.lags_at ends.new
             self.new.lags_at }
         ensures to { self.new.to ≡ self.old.to }

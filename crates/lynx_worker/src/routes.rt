@@ -14,7 +14,7 @@ use std::sync::Wait;
 use std::time::Clock;
 
 /// Messages that one turn sends by each route that lags, at most.
-const ROUTE_MESSAGES: usize = 64;
+const ROUTE_MESSAGES: usize = 256;
 
 /// A route to each server. Contracts see from where each lags.
 #[derive(Drop)]
@@ -195,6 +195,17 @@ impl Routes {
         for heard in heard {
             hear_one(rt, self.routes.as_mut_slice(), heard);
         }
+    }
+
+    /// How far nothing is owed by any route, where the worker has come so far.
+    pub(crate) fn owe_from(&self, reached: u64) -> u64 {
+        let mut from = reached;
+        for route in self.routes.iter() {
+            if let Some(first) = route.owes_from() {
+                from = from.min(first);
+            }
+        }
+        from
     }
 
     /// Whether something that was sent may have to be sent again, or lags.

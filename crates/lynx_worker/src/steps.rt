@@ -20,6 +20,8 @@ pub struct Due {
 /// What a server owes from a place of its history on.
 #[derive(Debug, PartialEq, Eq, Drop)]
 pub struct Owed {
+    /// From where it was asked.
+    pub from: u64,
     /// The first messages, in the order of the history.
     pub dues: Vec<Due>,
     /// The length of the history, where these are all that it owes. None where there may be more.
@@ -75,8 +77,11 @@ impl Served {
 /// What a worker does with the server that it serves. Each call takes the server's lock once, for
 /// many messages or parcels: a lock that is taken for each makes those wait that begin there.
 pub trait Steps {
+    ghost use Rattle.std.specs.Prelude.{◌≡◌};
+
     /// What the server owes from that place of its history on, with so many messages at most.
-    fn owed<R: Wait>(&self, rt: &R, alloc: Global, from: u64, most: usize) -> Owed;
+    fn owed<R: Wait>(&self, rt: &R, alloc: Global, from: u64, most: usize) -> Owed
+        ensures from { result.from ≡ from };
 
     /// The messages of those of these places that still owe one, in order.
     fn owed_at<R: Wait>(&self, rt: &R, alloc: Global, places: &[u64]) -> Result<Vec<Due>, Memory>;
@@ -96,6 +101,10 @@ pub trait Steps {
     fn rest<R: Wait + Clock>(&self, rt: &R, most: Duration) {
         thread::sleep(rt, most);
     }
+
+    /// Notes, once a turn, how far the server owes nothing: every message of an entry before that
+    /// place was acknowledged.
+    fn note_owed<R: Wait>(&self, _rt: &R, _from: u64) {}
 
     /// Rings for the worker of that server, to which something was sent.
     fn ring(&self, _to: ServerId) {}

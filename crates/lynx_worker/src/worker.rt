@@ -16,10 +16,10 @@ use std::sync::atomic::{AtomicBool, Ordering};
 use std::time::Clock;
 
 /// Messages that one turn sends, at most.
-const TURN_MESSAGES: usize = 64;
+const TURN_MESSAGES: usize = 256;
 
 /// Rounds over all rings in which one turn takes parcels out of them, ..
-const TURN_ROUNDS: u32 = 8;
+const TURN_ROUNDS: u32 = 16;
 
 /// .. and parcels that each round takes out of each ring, at most. Chains of one origin come by
 /// several rings, and what is far ahead of the others is held, or dropped where there is no room.
@@ -59,6 +59,8 @@ impl<S: Steps> Worker<S> {
     /// Sends what is owed and was not sent yet. A message whose ring is full makes its route lag,
     /// and no other. Whether there was any.
     fn send<R: Clock>(&mut self, rt: &R, owed: Owed) -> bool
+        // Asked from just where the worker has come: no message is passed over.
+        requires from { owed.from ≡ self.old.reached }
         ensures sends { Sends owed.dues.items self.old.ends self.old.routes self.new.ends
             self.new.routes }
         ensures reached { self.new.reached ≡ reached_after self.old.reached owed }
@@ -143,8 +145,8 @@ impl<S: Steps> Worker<S> {
     /// takes longer until it acknowledges a message, and after a time that doubles while the very
     /// first stays owed, or nothing is heard of that server, up to
     /// [`LONGEST_MILLIS`](crate::LONGEST_MILLIS). False where there was nothing to do. A turn has a
-    /// bound: 4,096 receipts told twice, 64 messages sent, and for each server 64 more where its
-    /// ring was full, 128 sent again and 128 parcels taken; and one taking of the lock for what
+    /// bound: 4,096 receipts told twice, 256 messages sent, and for each server 256 more where its
+    /// ring was full, 128 sent again and 256 parcels taken; and one taking of the lock for what
     /// came in. Where there is nothing to do it takes the server's lock once.
     pub fn turn<R: Wait + Clock>(&mut self, rt: &R, alloc: Global) -> bool {
         self.tell();
@@ -157,6 +159,7 @@ impl<S: Steps> Worker<S> {
         let has_served = (has_taken || holds) && self.serve(rt, alloc);
         let (steps, ends) = (&self.steps, &mut self.ends);
         let has_sent_again = self.routes.send_again(rt, alloc, steps, ends);
+        self.steps.note_owed(rt, self.routes.owe_from(self.reached));
         has_sent || has_caught_up || has_served || has_sent_again
     }
 

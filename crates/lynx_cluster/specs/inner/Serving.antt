@@ -13,7 +13,7 @@ use Rattle.lynx_link.specs.declared.parcel.Parcel.{Parcel}
 use Rattle.lynx_link.specs.declared.parcel.Parcel.TheVariants as parcels
 use Rattle.lynx_names.specs.declared.chain.ChainId.{ChainId}
 use Rattle.lynx_server.specs.Acts.{act_of}
-use Rattle.lynx_server.specs.Owed.{Acknowledges, IsOwed, OwesNothingBetween, sender_of}
+use Rattle.lynx_server.specs.Owed.{Acknowledges, IsOwed, IsSender, OwesNothingBetween, sender_of}
 use Rattle.lynx_server.specs.Serving.{Delivers, Serving}
 use Rattle.lynx_set.specs.Lookups.{server_at}
 use Rattle.lynx_set.specs.Set.{Set}
@@ -46,6 +46,14 @@ NotesDone to chain hop given old new =
     (new ≡ old)
     ⊎ ((was_done given ≡ true) × ((server : ℕ) × (to ≡ Some server)
     × (new ≡ old ++ (record { to = server; chain = chain; hop = hop }) ∷ [])))
+
+-- No receipt was added, or one that is for the server which sends the message of its hop, as the
+-- hop's entry tells.
+abbrev pub NamesSender : {K : Type 0} → Serving K → List Receipt → List Receipt → Type 0
+NamesSender serving old new =
+    (new ≡ old)
+    ⊎ ((receipt : Receipt) × (new ≡ old ++ receipt ∷ [])
+    × IsSender serving.set receipt.hop (act_of receipt.chain receipt.hop serving.history) receipt.to)
 
 -- that the sender of the hop was acknowledged is noted with the place of its entry, or isn't
 abbrev pub HearsOf : ℕ → ChainId → ℕ → History → List Heard → List Heard → Type 0

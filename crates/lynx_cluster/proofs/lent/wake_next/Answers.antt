@@ -1,7 +1,7 @@
 use Rattle.std.proofs.Common.{ap}
 use Rattle.lynx_keep.specs.HeldBack.{held_terms}
 use Rattle.lynx_resting.specs.Resting.{RestingState}
-use Rattle.lynx_cluster.proofs.Dones.{notes_done, waking_leaves}
+use Rattle.lynx_cluster.proofs.Dones.{names_sender, notes_done, waking_leaves}
 use Rattle.lynx_cluster.proofs.lent.wake_next.Goals as goal
 
 pub returns : goal.returns
@@ -13,4 +13,6 @@ returns g c =
       done = notes_done state.history after.history c.args.turn.now.served.receipts.items c.note_done.new.served.receipts.items _ woken.chain woken.hop woken.delivered
           (waking_leaves (held_terms g.K.Keeper.terms) state woken after
           (λ stopped. let was = c.in-Some.ensures.stopped stopped in (was.0, ap (λ (r : RestingState g.row.K.Denot). r.here) was.1)) c.in-Some.ensures.wakes) c.note_done.ensures.notes;
+      sender = names_sender after _ woken.chain woken.hop woken.delivered c.args.turn.now.served.receipts.items c.note_done.new.served.receipts.items
+          c.note_done.ensures.notes c.sender_of-to.ensures;
     }

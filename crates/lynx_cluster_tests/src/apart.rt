@@ -27,7 +27,7 @@ const STUCK: u64 = 600;
 const MOST_LOOKS: u32 = 5_000;
 
 /// Begins a program without arguments. Whether it began.
-fn begins<R: Wait, K: BatchKeeper, G: Gate>(
+fn begins<R: Wait + Clock, K: BatchKeeper, G: Gate>(
     rt: &R,
     alloc: Global,
     front: &Front<K, G>,

@@ -150,7 +150,12 @@ impl<'a> Steps for Fake<'a> {
         let mut dues = Vec::new(alloc);
         let end = self.collect(alloc, from, most, &mut dues);
         let holds = self.board.held.load(Ordering::SeqCst) != 0;
-        Owed { from, dues, end, holds }
+        Owed {
+            from,
+            dues,
+            end,
+            holds,
+        }
     }
 
     fn owed_at<R: Wait>(&self, _rt: &R, alloc: Global, places: &[u64]) -> Result<Vec<Due>, Memory> {

@@ -24,7 +24,7 @@ const MOST_BEGINS: u64 = 200;
 const SETTLINGS: u64 = 40;
 
 /// Begins, one after another, until one isn't answered by a begin: how many were, and that answer.
-fn begin_on<R: Wait, K: BatchKeeper, G: Gate>(
+fn begin_on<R: Wait + Clock, K: BatchKeeper, G: Gate>(
     rt: &R,
     alloc: Global,
     front: &Front<K, G>,

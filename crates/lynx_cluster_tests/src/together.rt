@@ -210,7 +210,7 @@ const ROWS: &[Row] = &[
 ];
 
 /// Whether the session is told so when it asks all together.
-fn is_told<R: Wait, K: BatchKeeper, G: Gate>(
+fn is_told<R: Wait + Clock, K: BatchKeeper, G: Gate>(
     rt: &R,
     alloc: Global,
     front: &Front<K, G>,

@@ -47,7 +47,7 @@ struct Call {
 }
 
 /// Begins it. Whether it began.
-fn begins<R: Wait, K: BatchKeeper, G: Gate>(
+fn begins<R: Wait + Clock, K: BatchKeeper, G: Gate>(
     rt: &R,
     alloc: Global,
     front: &Front<K, G>,
@@ -67,7 +67,7 @@ fn begins<R: Wait, K: BatchKeeper, G: Gate>(
 
 /// Lets a chain go the long way, and then many the short one: they are held at the slow server, and
 /// woken one after another once the barrier is open.
-fn send_ahead<R: Wait, K: BatchKeeper, G: Gate>(
+fn send_ahead<R: Wait + Clock, K: BatchKeeper, G: Gate>(
     rt: &R,
     alloc: Global,
     front: &Front<K, G>,

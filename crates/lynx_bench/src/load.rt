@@ -94,7 +94,7 @@ fn amount(load: Load) -> u64
 }
 
 /// Fills the account that each server pays from.
-fn seed_all<R: Wait, K: BatchKeeper, G: Gate>(
+fn seed_all<R: Wait + Clock, K: BatchKeeper, G: Gate>(
     rt: &R,
     alloc: Global,
     front: &Front<K, G>,
@@ -110,12 +110,11 @@ fn seed_all<R: Wait, K: BatchKeeper, G: Gate>(
 }
 
 /// Has the clients make their payments, each in a thread of its own.
-fn pay<R: Threads + Wait + Sync, K: BatchKeeper + Send + Drop, G: Gate + Send + Sync + Drop>(
-    rt: &R,
-    alloc: Global,
-    front: &Front<K, G>,
-    payers: &mut [Payer],
-) {
+fn pay<
+    R: Threads + Wait + Clock + Sync,
+    K: BatchKeeper + Send + Drop,
+    G: Gate + Send + Sync + Drop,
+>(rt: &R, alloc: Global, front: &Front<K, G>, payers: &mut [Payer]) {
     let threads = payers.len().max(1);
     thread::for_each_mut(
         rt,
@@ -157,7 +156,7 @@ fn await_hop<R: Wait + Clock, K: BatchKeeper, G: Gate>(
 }
 
 /// Begins a last payment from that server to the next.
-fn pay_last<R: Wait, K: BatchKeeper, G: Gate>(
+fn pay_last<R: Wait + Clock, K: BatchKeeper, G: Gate>(
     rt: &R,
     alloc: Global,
     front: &Front<K, G>,
@@ -171,7 +170,7 @@ fn pay_last<R: Wait, K: BatchKeeper, G: Gate>(
 }
 
 /// Begins a last payment from each server to the next.
-fn pay_last_of_all<R: Wait, K: BatchKeeper, G: Gate>(
+fn pay_last_of_all<R: Wait + Clock, K: BatchKeeper, G: Gate>(
     rt: &R,
     alloc: Global,
     front: &Front<K, G>,

@@ -10,6 +10,7 @@ use lynx_keep::BatchKeeper;
 use lynx_names::ChainId;
 use std::alloc::Global;
 use std::sync::Wait;
+use std::time::Clock;
 
 /// How many of so many servers belong to that client, of so many: each that many behind the one
 /// before, from the client's number on. One at least: where there are fewer servers than clients, a
@@ -90,7 +91,7 @@ pub(crate) struct Payer {
 
 impl Payer {
     /// Makes one payment.
-    fn pay<R: Wait, K: BatchKeeper, G: Gate>(
+    fn pay<R: Wait + Clock, K: BatchKeeper, G: Gate>(
         &mut self,
         rt: &R,
         alloc: Global,
@@ -109,7 +110,7 @@ impl Payer {
     }
 
     /// Makes its payments, and counts those that began.
-    fn try_pay_all<R: Wait, K: BatchKeeper, G: Gate>(
+    fn try_pay_all<R: Wait + Clock, K: BatchKeeper, G: Gate>(
         &mut self,
         rt: &R,
         alloc: Global,
@@ -124,7 +125,7 @@ impl Payer {
     }
 
     /// Makes its payments.
-    pub(crate) fn pay_all<R: Wait, K: BatchKeeper, G: Gate>(
+    pub(crate) fn pay_all<R: Wait + Clock, K: BatchKeeper, G: Gate>(
         &mut self,
         rt: &R,
         alloc: Global,

@@ -75,7 +75,7 @@ fn try_serve(alloc: Global) -> Tried {
 }
 
 /// The seed begins at the cluster.
-fn begin<R: Wait, K: BatchKeeper, G: Gate>(
+fn begin<R: Wait + Clock, K: BatchKeeper, G: Gate>(
     rt: &R,
     alloc: Global,
     front: &Front<K, G>,
@@ -108,7 +108,7 @@ fn all_begun(answers: &[Answer]) -> Called {
 }
 
 /// The seeds begin at the cluster together.
-fn begin_together<R: Wait, K: BatchKeeper, G: Gate>(
+fn begin_together<R: Wait + Clock, K: BatchKeeper, G: Gate>(
     rt: &R,
     alloc: Global,
     front: &Front<K, G>,
@@ -121,7 +121,7 @@ fn begin_together<R: Wait, K: BatchKeeper, G: Gate>(
 }
 
 /// The seeds begin, and again where memory was wanting to one of them.
-fn begin_together_again<R: Wait, K: BatchKeeper, G: Gate>(
+fn begin_together_again<R: Wait + Clock, K: BatchKeeper, G: Gate>(
     rt: &R,
     alloc: Global,
     front: &Front<K, G>,
@@ -137,7 +137,7 @@ fn begin_together_again<R: Wait, K: BatchKeeper, G: Gate>(
 }
 
 /// The seed begins, and again where memory was wanting to it.
-fn begin_again<R: Wait, K: BatchKeeper, G: Gate>(
+fn begin_again<R: Wait + Clock, K: BatchKeeper, G: Gate>(
     rt: &R,
     alloc: Global,
     front: &Front<K, G>,

@@ -9,6 +9,7 @@ ghost use Rattle.lynx_cluster.specs.inner.Serving.{AddsFound, AreDone, AreOwed, 
 use crate::bells::Bells;
 use crate::cluster::is_of;
 use crate::gate::{Gate, Passage};
+use crate::inbox::brings_message;
 use crate::post::Post;
 use lynx_entry::{Delivered, Message};
 use lynx_keep::BatchKeeper;
@@ -227,16 +228,6 @@ fn step<K: BatchKeeper>(
     }
     let arrived = inbox.pop_front()?;
     Some(serve_one(alloc, state, arrived, turn))
-}
-
-/// Some parcel brings a message.
-fn brings_message(inbox: &VecDeque<Arrived>) -> bool {
-    for arrived in inbox.iter() {
-        if matches!(arrived.parcel, Parcel::Message(_)) {
-            return true;
-        }
-    }
-    false
 }
 
 /// Adds a message that is owed. None where there is no memory for it.

@@ -22,6 +22,7 @@ pub mod fault;
 pub mod gate;
 pub mod glancing;
 pub mod host;
+mod inbox;
 pub mod lent;
 mod looking;
 pub mod opening;

@@ -53,7 +53,8 @@ abbrev pub NamesSender : {K : Type 0} → Serving K → List Receipt → List Re
 NamesSender serving old new =
     (new ≡ old)
     ⊎ ((receipt : Receipt) × (new ≡ old ++ receipt ∷ [])
-    × IsSender serving.set receipt.hop (act_of receipt.chain receipt.hop serving.history) receipt.to)
+    × IsSender serving.set receipt.hop (act_of receipt.chain receipt.hop serving.history)
+    receipt.to)
 
 -- that the sender of the hop was acknowledged is noted with the place of its entry, or isn't
 abbrev pub HearsOf : ℕ → ChainId → ℕ → History → List Heard → List Heard → Type 0

@@ -1,10 +1,13 @@
 -- The lines of programs that can never begin.
-use Rattle.std.specs.Prelude.{ℕ, ◌+◌, List, [], ◌++◌, length, codes, decimal}
+use Rattle.std.specs.Prelude.{◌≡◌, ℕ, ◌+◌, List, [], ◌∷◌, ◌++◌, length, codes, decimal}
 use Rattle.std.specs.List.{flat_map, range_with_len}
 use Rattle.std.specs.Option.{option_map_or}
 use Rattle.lynx_lex.specs.Lines.{with_feed}
 use Rattle.lynx_set.specs.Lookups.{program_name}
 use Rattle.lynx_set.specs.Set.{Set}
+use Rattle.lynx_entry.specs.declared.entry.Entry.{Entry}
+use Rattle.lynx_entry.specs.Entry.{History}
+use Rattle.lynx_rules.specs.Lawful.{IsLawful}
 use Rattle.lynx_never.specs.declared.never.NeverAt.{NeverAt}
 use Rattle.lynx_never.specs.Never.{first_never}
 use Rattle.lynx_reasons.specs.HopLines.{line_of}
@@ -26,3 +29,9 @@ never_text set program = option_map_or (never_line set program) (first_never set
 -- a line for each such program
 abbrev pub never_lines : Set → List ℕ
 never_lines set = flat_map (never_text set) (range_with_len 0 (length set.programs))
+
+-- each entry of a server's history is lawful after those before it
+abbrev pub EachIsLawful : Set → ℕ → History → Type 0
+EachIsLawful set server history =
+    (before after : History) (entry : Entry) → history ≡ before ++ entry ∷ after
+    → IsLawful set server before entry

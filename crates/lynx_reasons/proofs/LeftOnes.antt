@@ -163,6 +163,57 @@ accepted_tabled set accepted = ⊎_elim walks blocks accepted
     blocks : NoBlockWalkOffends (untabled set) → IsAccepted set
     blocks none = inr (λ walk offends. none walk (blocks_tabled set walk offends))
 
+-- ---- nor have they one in that of a set with none
+
+conflict_untabled : (set : Set) (left_program left_hop right_program right_hop : ℕ) → MayConflict (untabled set) left_program left_hop right_program right_hop →
+    MayConflict set left_program left_hop right_program right_hop
+conflict_untabled set left_program left_hop right_program right_hop may = record { same_server = may.same_server; reaches_may_collide = may.reaches_may_collide }
+
+joins_untabled : (set : Set) (first visit : Visit) (rest : List Visit) → JoinsAround (untabled set) first visit rest → JoinsAround set first visit rest
+joins_untabled set first visit [] joins = conflict_untabled set visit.program visit.left first.program first.entered joins
+joins_untabled set first visit (next ∷ rest) joins = (conflict_untabled set visit.program visit.left next.program next.entered joins.0, joins_untabled set first next rest joins.1)
+
+closed_untabled : (set : Set) (walk : List Visit) → IsClosedWalk (untabled set) walk → IsClosedWalk set walk
+closed_untabled set [] closed = closed
+closed_untabled set (only ∷ []) closed = closed
+closed_untabled set (first ∷ second ∷ rest) closed = joins_untabled set first first (second ∷ rest) closed
+
+walk_untabled : (set : Set) (walk : List Visit) → IsOffending (untabled set) walk → IsOffending set walk
+walk_untabled set walk offends = (closed_untabled set walk offends.0, record { crosses = offends.1.crosses; differ = offends.1.differ })
+
+meets_untabled : (set : Set) (left right : Place) → Meets (untabled set) left right → Meets set left right
+meets_untabled set left right meets = record { conflict = conflict_untabled set left.program left.hop right.program right.hop meets.conflict; apart = meets.apart }
+
+block_untabled : (set : Set) (block : Block) → IsBlock (untabled set) block → IsBlock set block
+block_untabled set (One program entered left) is = tt
+block_untabled set (Two first entered second left) is = is
+
+forward_tabled : (set : Set) (block : Block) → IsForward set block → IsForward (untabled set) block
+forward_tabled set (One program entered left) forward = forward
+forward_tabled set (Two first entered second left) come = record { hop = come.hop; server = come.server; upto = come.upto; own = come.own; there = come.there }
+
+around_untabled : (set : Set) (first block : Block) (rest : List Block) → MeetsAround (untabled set) first block rest → MeetsAround set first block rest
+around_untabled set first block [] around = meets_untabled set (exit_of block) (entrance_of first) around
+around_untabled set first block (next ∷ rest) around = (meets_untabled set (exit_of block) (entrance_of next) around.0, around_untabled set first next rest around.1)
+
+blocks_untabled : (set : Set) (walk : List Block) → IsOffendingBlockWalk (untabled set) walk → IsOffendingBlockWalk set walk
+blocks_untabled set [] offends = absurd offends.0
+blocks_untabled set (only ∷ []) offends = absurd offends.0
+blocks_untabled set (first ∷ second ∷ rest) offends =
+    let backward = offends.1 in (
+      (All-weaker (IsBlock (untabled set)) (IsBlock set) (block_untabled set) (first ∷ second ∷ rest) offends.0.0, around_untabled set first first (second ∷ rest) offends.0.1),
+      (backward.0, backward.1, backward.2, backward.3, λ forward. backward.4 (forward_tabled set backward.1 forward)),
+    )
+
+pub accepted_untabled : (set : Set) → IsAccepted set → IsAccepted (untabled set)
+accepted_untabled set accepted = ⊎_elim walks blocks accepted
+  where
+    walks : NoWalkOffends set → IsAccepted (untabled set)
+    walks none = inl (λ walk offends. none walk (walk_untabled set walk offends))
+
+    blocks : NoBlockWalkOffends set → IsAccepted (untabled set)
+    blocks none = inr (λ walk offends. none walk (blocks_untabled set walk offends))
+
 -- ---- an excuse accepts
 
 pub accepted_by_excuse : (set : Set) (excused : Option (List Visit)) → IsExcuse set excused → IsAccepted set

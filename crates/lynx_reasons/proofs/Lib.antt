@@ -1,5 +1,11 @@
 pub mod HopLines
 pub mod Reasons
 pub mod LeftOnes
+pub mod Ways
 pub mod Together
+pub mod Looks
+pub mod Renumbered
+pub mod Joinings
+pub mod Sifting
+pub mod Accepts
 pub mod Begins

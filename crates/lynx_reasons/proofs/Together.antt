@@ -1,5 +1,5 @@
 -- A closed walk lies in one group, so where no group is mixed none offends.
-use Rattle.std.proofs.Common.{◌≡◌, ◌∙◌, ℕ, zero, suc, ◌<◌, false, not, List, [], ◌∷◌, ◌++◌, filter, length, get_or, Option, Some, None, refl, sym, ap, subst, ⊎_elim, eq-eqb, arith}
+use Rattle.std.proofs.Common.{◌≡◌, ◌∙◌, ℕ, zero, suc, ◌<◌, false, not, List, [], ◌∷◌, filter, length, get_or, Option, Some, None, refl, sym, ap, subst, ⊎_elim, eq-eqb, arith}
 use Rattle.std.specs.Prelude.{◌==◌, All, Contains, option_and_then, option_map, slice_get}
 use Rattle.std.proofs.lemmas.Bool.{and_cases, not-false}
 use Rattle.std.proofs.lemmas.List.Elements.{All-contains, All-from_get_or}
@@ -8,13 +8,12 @@ use Rattle.lynx_set.specs.declared.program.Hop.{Hop}
 use Rattle.lynx_set.specs.declared.program.Program.{Program}
 use Rattle.lynx_set.specs.Set.{Set}
 use Rattle.lynx_set.specs.Lookups.{hop_at}
-use Rattle.lynx_foot.proofs.ConflictLaws.{MayConflict-swapped}
 use Rattle.lynx_graph.specs.declared.members.Member.{Member}
 use Rattle.lynx_graph.specs.declared.meeting.Place.{Place}
 use Rattle.lynx_graph.specs.declared.visit.Visit.{Visit}
 use Rattle.lynx_graph.specs.Edges.{edges_of}
 use Rattle.lynx_graph.specs.Groups.{begin_at_one_server, group_of, leaders_of}
-use Rattle.lynx_graph.specs.Together.{AreLed, AreTogether, IsLed, LeadsTo, Meet}
+use Rattle.lynx_graph.specs.Together.{AreLed, AreTogether, IsLed, Meet}
 use Rattle.lynx_graph.specs.Walks.{Joins, JoinsAround, NoWalkOffends}
 use Rattle.lynx_graph.proofs.Lists.{slice_get-mapped, slice_get-range}
 use Rattle.lynx_graph.proofs.Places.{hop_left}
@@ -23,21 +22,7 @@ use Rattle.lynx_reasons.specs.Groups.{meet_at_one_hop}
 use Rattle.lynx_reasons.specs.Mixed.{is_mixed}
 use Rattle.lynx_reasons.specs.Reasons.{LiesIn, NoWalkOffendsIn}
 use Rattle.lynx_reasons.proofs.Reasons.{one_hop_lem, one_origin_lem}
-
--- ---- ways from program to program
-
-leads_on : (set : Set) (a b c : ℕ) (way further : List ℕ) → LeadsTo set a way b → LeadsTo set b further c → LeadsTo set a (way ++ further) c
-leads_on set a b c [] further to on = subst (λ (p : ℕ). LeadsTo set p further c) (sym to) on
-leads_on set a b c (next ∷ way) further to on = (to.0, leads_on set next b c way further to.1 on)
-
-together_on : (set : Set) (a b c : ℕ) → AreTogether set a b → AreTogether set b c → AreTogether set a c
-together_on set a b c to on = (to.0 ++ on.0, leads_on set a b c to.0 on.0 to.1 on.1)
-
-met : (set : Set) (a b : ℕ) → Meet set a b → AreTogether set a b
-met set a b meet = (b ∷ [], (meet, refl))
-
-Meet-swapped : (set : Set) (a b : ℕ) → Meet set a b → Meet set b a
-Meet-swapped set a b meet = record { left_hop = meet.right_hop; right_hop = meet.left_hop; conflict = MayConflict-swapped set a meet.left_hop b meet.right_hop meet.conflict }
+use Rattle.lynx_reasons.proofs.Ways.{Meet-swapped, itself, met, together_on}
 
 -- ---- the visits of a closed walk
 
@@ -94,9 +79,6 @@ member_of set members are program within =
     let found = slice_get-mapped (λ (member : Member). member.program) members program program named in
     let there : Contains members found.0 = (program, slice_get_within members program found.0 found.1, get_or_from_slice_get members program found.0 found.0 found.1) in
     record { member = found.0; there = there; own = found.2; led = All-contains (IsLed set) members found.0 are.led there }
-
-itself : (set : Set) (program : ℕ) → AreTogether set program program
-itself set program = ([], refl)
 
 -- programs that are together have one leader
 one_leader : (set : Set) (one other : Member) → IsLed set one → IsLed set other → AreTogether set one.program other.program → AreTogether set other.program one.program → one.leader ≡ other.leader

@@ -4,7 +4,7 @@ use Rattle.std.specs.List.{flat_map}
 use Rattle.lynx_lex.specs.Lines.{with_feed}
 use Rattle.lynx_set.specs.Set.{Set}
 use Rattle.lynx_set.specs.Lookups.{program_name}
-use Rattle.lynx_reasons.specs.Culprits.{AreCulprits}
+use Rattle.lynx_reasons.specs.Culprits.{AreCulprits, AreFewest, most_looks}
 use Rattle.lynx_reasons.specs.declared.culprit.Culprit.{Culprit}
 use Rattle.lynx_reasons.specs.declared.culprit.Culprit.TheVariants.{One, Two, Three}
 
@@ -25,14 +25,14 @@ without_line set culprit = with_feed (codes "without" ++ culprit_text set culpri
 abbrev pub without_lines : Set → List Culprit → List ℕ
 without_lines set found = flat_map (without_line set) found
 
--- how many sets were looked at, where no more were
+-- how many sets were looked at, where one was not for want of looks
 abbrev pub bound_text : Bool → ℕ → List ℕ
-bound_text is_met looks = if is_met then with_feed (codes "bound " ++ decimal looks) else []
+bound_text is_bound most = if is_bound then with_feed (codes "bound " ++ decimal most) else []
 
--- programs to blame, and whether more sets might have been looked at than so many were
+-- the programs to blame, just those that the search is to find, and its bound where it is met
 pub record AreBlameLines (set : Set) (lines : List ℕ) : Type 0 where
   pub found : List Culprit
-  pub is_met : Bool
-  pub looks : ℕ
+  pub is_bound : Bool
   pub right : AreCulprits set found
-  pub whole : lines ≡ without_lines set found ++ bound_text is_met looks
+  pub fewest : AreFewest set found is_bound
+  pub whole : lines ≡ without_lines set found ++ bound_text is_bound (most_looks set)

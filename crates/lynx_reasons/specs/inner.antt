@@ -1,5 +1,8 @@
 -- Definitions that no public clause cites: they serve the functions within.
 pub mod Counts
+pub mod Joinings
+pub mod Numbers
 pub mod Searches
+pub mod Sifts
 pub mod Tellings
 pub mod Untabled

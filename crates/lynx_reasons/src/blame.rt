@@ -58,11 +58,11 @@ fn put_without_lines(out: &mut Vec<u8>, set: &ChainSet, found: &[Culprit]) -> Re
     Ok(())
 }
 
-/// Writes how many sets were looked at, where there were no more looks.
-fn put_bound(alloc: Global, out: &mut Vec<u8>, is_met: bool, looks: usize) -> Result<(), Memory>
-    ensures { OnOk result (out.new.items ≡ out.old.items ++ bound_text is_met looks) }
+/// Writes how many sets were looked at, where one was not for want of looks.
+fn put_bound(alloc: Global, out: &mut Vec<u8>, is_bound: bool, looks: usize) -> Result<(), Memory>
+    ensures { OnOk result (out.new.items ≡ out.old.items ++ bound_text is_bound looks) }
 {
-    if is_met {
+    if is_bound {
         out.extend_from_slice(b"bound ".as_slice())?;
         put_number(alloc, out, looks as u64)?;
         out.push(b'\n')?;
@@ -83,5 +83,5 @@ pub(crate) fn put_blame(
 {
     let search = culprits_of(alloc, set, edges)?;
     put_without_lines(out, set, search.found.as_slice())?;
-    put_bound(alloc, out, search.is_bound(), search.looks)
+    put_bound(alloc, out, search.is_bound, search.looks)
 }

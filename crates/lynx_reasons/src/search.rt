@@ -1,9 +1,11 @@
 //! The search for the programs to blame.
 
-ghost use Rattle.std.specs.Prelude.{◌≡◌, ◌<◌, IfOk, OnOk, [], length};
+ghost use Rattle.std.specs.Prelude.{◌≡◌, ◌<◌, ◌↔◌, ◌/◌, ◌∷◌, ◌||◌, IfOk, IsTrue, OnOk, [], filter, length, max, min, nat_le, true};
+ghost use Rattle.lynx_graph.specs.Acceptance.{IsAccepted};
 ghost use Rattle.lynx_graph.specs.Edges.{edges_of};
-ghost use Rattle.lynx_reasons.specs.Culprits.{AreCulprits};
-ghost use Rattle.lynx_reasons.specs.inner.Searches.{IsOf, Keeps};
+ghost use Rattle.lynx_reasons.specs.Culprits.{AreCulprits, AreFewest, most_looks, ones, set_without, threes, threes_of, twos};
+ghost use Rattle.lynx_reasons.specs.inner.Searches.{Ends, Goes, IsNew, IsOf, Keeps, is_aimed};
+ghost use Rattle.lynx_reasons.specs.inner.Sifts.{IsSift};
 
 use crate::culprit::Culprit;
 use crate::sift::Sift;
@@ -22,29 +24,35 @@ const MAX_LOOKS: usize = 2_500;
 /// How many edges are looked at, at most, over all these sets: half a second's work.
 const MAX_EDGES_SEEN: usize = 50_000_000;
 
-/// What was found so far, how many sets without some programs were looked at, and how many may be.
+/// What was found so far, how many sets without some programs were looked at, how many may be, and
+/// whether one was not for want of looks.
 #[derive(Drop)]
 pub(crate) struct Search {
     pub(crate) found: Items<Culprit>,
     pub(crate) looks: usize,
     most: usize,
+    pub(crate) is_bound: bool,
 }
 
 impl Search {
     /// A search of a set of so many edges.
     fn new(alloc: Global, edges: usize) -> Search
-        ensures { result.found ≡ [] }
+        ensures new { IsNew result }
+        ensures most { result.most ≡ min MAX_LOOKS (MAX_EDGES_SEEN / max edges 1) }
     {
         Search {
             found: Items::new(alloc),
             looks: 0,
             most: MAX_LOOKS.min(MAX_EDGES_SEEN / edges.max(1)),
+            is_bound: false,
         }
     }
 
-    /// Whether the search ended for want of looks.
-    pub(crate) fn is_bound(&self) -> bool {
-        self.looks >= self.most && self.found.len() < MAX_TOLD
+    /// Whether no more sets are looked at.
+    fn is_done(&self) -> bool
+        ensures { result ≡ (nat_le 3 (length self.now.found) || self.now.is_bound) }
+    {
+        self.found.len() >= MAX_TOLD || self.is_bound
     }
 }
 
@@ -53,6 +61,17 @@ impl Search {
 struct Aim {
     count: usize,
     is_late: bool,
+}
+
+/// Whether the set without these programs is accepted. Most that aren't are told by the sift.
+fn is_culprit(alloc: Global, set: &ChainSet, sift: &Sift, culprit: &Culprit) -> Result<bool, Memory>
+    requires { IsSift set.now sift.now }
+    ensures { IfOk result (λ is. IsTrue is ↔ IsAccepted (set_without set.now culprit.now)) }
+{
+    if !sift.lets_through(alloc, set, culprit)? {
+        return Ok(false);
+    }
+    is_accepted_without(alloc, set, culprit)
 }
 
 /// Looks at the set without these programs, where they are of the aim.
@@ -64,16 +83,25 @@ fn look(
     culprit: &Culprit,
     search: &mut Search,
 ) -> Result<(), Memory>
+    requires sift { IsSift set.now sift.now }
     requires of { IsOf set.now aim.now.count culprit.now }
     requires keeps { Keeps set.now aim.now.count search.old }
-    ensures { OnOk result (Keeps set.now aim.now.count search.new) }
+    ensures keeps { OnOk result (Keeps set.now aim.now.count search.new) }
+    ensures goes { OnOk result (Goes set.now
+        (filter (is_aimed set.now aim.now.is_late) (culprit.now ∷ [])) search.old search.new) }
 {
-    let is_done = search.found.len() >= MAX_TOLD || search.looks >= search.most;
-    if is_done || sift.are_late(culprit) != aim.is_late {
+    if search.is_done() {
+        return Ok(());
+    }
+    if sift.are_late(culprit) != aim.is_late {
+        return Ok(());
+    }
+    if search.looks >= search.most {
+        search.is_bound = true;
         return Ok(());
     }
     search.looks += 1;
-    if sift.lets_through(alloc, set, culprit)? && is_accepted_without(alloc, set, culprit)? {
+    if is_culprit(alloc, set, sift, culprit)? {
         search.found.push(*culprit)?;
     }
     Ok(())
@@ -87,8 +115,11 @@ fn look_at_ones(
     is_late: bool,
     search: &mut Search,
 ) -> Result<(), Memory>
-    requires { Keeps set.now 1 search.old }
-    ensures { OnOk result (Keeps set.now 1 search.new) }
+    requires sift { IsSift set.now sift.now }
+    requires keeps { Keeps set.now 1 search.old }
+    ensures keeps { OnOk result (Keeps set.now 1 search.new) }
+    ensures goes { OnOk result (Goes set.now (filter (is_aimed set.now is_late) (ones set.now))
+        search.old search.new) }
 {
     let aim = Aim { count: 1, is_late };
     for first in 0..set.programs().len() {
@@ -106,8 +137,11 @@ fn look_at_twos(
     is_late: bool,
     search: &mut Search,
 ) -> Result<(), Memory>
-    requires { Keeps set.now 2 search.old }
-    ensures { OnOk result (Keeps set.now 2 search.new) }
+    requires sift { IsSift set.now sift.now }
+    requires keeps { Keeps set.now 2 search.old }
+    ensures keeps { OnOk result (Keeps set.now 2 search.new) }
+    ensures goes { OnOk result (Goes set.now (filter (is_aimed set.now is_late) (twos set.now))
+        search.old search.new) }
 {
     let aim = Aim { count: 2, is_late };
     let count = set.programs().len();
@@ -131,8 +165,12 @@ fn look_at_threes_of(
 ) -> Result<(), Memory>
     requires first { pair.0 < length set.now.programs }
     requires second { pair.1 < length set.now.programs }
+    requires sift { IsSift set.now sift.now }
     requires keeps { Keeps set.now 3 search.old }
-    ensures { OnOk result (Keeps set.now 3 search.new) }
+    ensures keeps { OnOk result (Keeps set.now 3 search.new) }
+    ensures goes { OnOk result (Goes set.now
+        (filter (is_aimed set.now is_late) (threes_of set.now pair.0 pair.1))
+        search.old search.new) }
 {
     let aim = Aim { count: 3, is_late };
     let (first, second) = pair;
@@ -152,8 +190,11 @@ fn look_at_threes(
     is_late: bool,
     search: &mut Search,
 ) -> Result<(), Memory>
-    requires { Keeps set.now 3 search.old }
-    ensures { OnOk result (Keeps set.now 3 search.new) }
+    requires sift { IsSift set.now sift.now }
+    requires keeps { Keeps set.now 3 search.old }
+    ensures keeps { OnOk result (Keeps set.now 3 search.new) }
+    ensures goes { OnOk result (Goes set.now (filter (is_aimed set.now is_late) (threes set.now))
+        search.old search.new) }
 {
     let count = set.programs().len();
     for first in 0..count {
@@ -172,8 +213,10 @@ fn look_at_all(
     sift: &Sift,
     search: &mut Search,
 ) -> Result<(), Memory>
-    requires { search.old.found ≡ [] }
-    ensures { OnOk result (AreCulprits set.now search.new.found) }
+    requires sift { IsSift set.now sift.now }
+    requires new { IsNew search.old }
+    ensures right { OnOk result (AreCulprits set.now search.new.found) }
+    ensures all { OnOk result (Ends set.now search.old.most search.new) }
 {
     look_at_ones(alloc, set, sift, true, search)?;
     look_at_ones(alloc, set, sift, false, search)?;
@@ -194,7 +237,10 @@ fn look_at_all(
 /// taking away makes it accepted, at most three of as many; and how many sets were looked at.
 pub(crate) fn culprits_of(alloc: Global, set: &ChainSet, edges: &[Edge]) -> Result<Search, Memory>
     requires { edges.now ≡ edges_of set.now }
-    ensures { IfOk result (λ search. AreCulprits set.now search.found) }
+    ensures right { IfOk result (λ search. AreCulprits set.now search.found) }
+    ensures fewest { IfOk result (λ search. AreFewest set.now search.found search.is_bound) }
+    ensures looks { IfOk result (λ search. search.is_bound ≡ true
+        → search.looks ≡ most_looks set.now) }
 {
     let sift = Sift::new(alloc, set, edges)?;
     let mut search = Search::new(alloc, edges.len());

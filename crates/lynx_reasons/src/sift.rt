@@ -1,7 +1,14 @@
 //! Which programs may be to blame, told from the edges of the set. What is told is judged.
 
-ghost use Rattle.std.specs.Prelude.{◌≡◌};
+ghost use Rattle.std.specs.Prelude.{◌≡◌, ◌==◌, ◌&&◌, ◌||◌, All, IfOk, IsTrue, false, not};
+ghost use Rattle.std.specs.List.{list_any};
+ghost use Rattle.lynx_graph.specs.Acceptance.{IsAccepted};
+ghost use Rattle.lynx_graph.specs.Blocks.{entrance_of, exit_of};
 ghost use Rattle.lynx_graph.specs.Edges.{edges_of};
+ghost use Rattle.lynx_graph.specs.Walks.{NoWalkOffends};
+ghost use Rattle.lynx_set.specs.Set.{Set};
+ghost use Rattle.lynx_reasons.specs.Culprits.{are_late, is_late, is_of, set_without};
+ghost use Rattle.lynx_reasons.specs.inner.Sifts.{AreOfAbroad, IsEnd, IsSift, is_block_left, is_end_left, is_end_at, leaves_late};
 
 use crate::culprit::Culprit;
 use crate::joining::Joining;
@@ -28,7 +35,9 @@ pub(crate) struct Sift {
 }
 
 /// The programs of the hops, up to four.
-fn some_programs(alloc: Global, hops: &[Place]) -> Result<Items<ProgramId>, Memory> {
+fn some_programs(alloc: Global, hops: &[Place]) -> Result<Items<ProgramId>, Memory>
+    ensures { IfOk result (λ programs. AreOfAbroad hops.now programs) }
+{
     let mut programs = Items::new(alloc);
     for hop in hops {
         if programs.len() < 4 && !programs.as_slice().contains(&hop.program) {
@@ -41,6 +50,7 @@ fn some_programs(alloc: Global, hops: &[Place]) -> Result<Items<ProgramId>, Memo
 /// The hops that reach abroad.
 fn ends_of(alloc: Global, set: &ChainSet, edges: &[Edge]) -> Result<Vec<End>, Memory>
     requires { edges.now ≡ edges_of set.now }
+    ensures { IfOk result (λ ends. All (IsEnd set.now) ends.items) }
 {
     let places = places_of(alloc, set)?;
     let mut ends = Vec::new(alloc);
@@ -57,16 +67,35 @@ fn ends_of(alloc: Global, set: &ChainSet, edges: &[Edge]) -> Result<Vec<End>, Me
 }
 
 impl End {
-    /// Whether the hop reaches abroad without these programs.
-    fn is_left(&self, culprit: &Culprit) -> bool {
-        let meets = self.meets.as_slice();
-        !culprit.has(self.place.program) && meets.iter().any(|program| !culprit.has(*program))
+    /// Whether a program that the hop meets is none of these.
+    fn meets_another(&self, culprit: &Culprit) -> bool
+        ensures { result ≡ list_any (λ program. not (is_of culprit.now program)) self.now.meets }
+    {
+        let mut meets = self.meets.as_slice().iter();
+        meets.any(|program| !culprit.has(*program))
     }
+
+    /// Whether the hop reaches abroad without these programs.
+    fn is_left(&self, culprit: &Culprit) -> bool
+        ensures { result ≡ is_end_left culprit.now self.now }
+    {
+        !culprit.has(self.place.program) && self.meets_another(culprit)
+    }
+}
+
+/// Whether one of the blocks is of the program.
+fn is_one_of(blocks: &[Block], program: ProgramId) -> bool
+    ensures { result ≡ list_any (λ block. (entrance_of block).program == program
+        || (exit_of block).program == program) blocks.now }
+{
+    blocks.iter().any(|block| entrance_of(block).program == program
+        || exit_of(block).program == program)
 }
 
 impl Sift {
     pub(crate) fn new(alloc: Global, set: &ChainSet, edges: &[Edge]) -> Result<Sift, Memory>
         requires { edges.now ≡ edges_of set.now }
+        ensures { IfOk result (λ sift. IsSift set.now sift) }
     {
         Ok(Sift {
             edges: edges.iter().copied().collect(alloc)?,
@@ -76,14 +105,16 @@ impl Sift {
     }
 
     /// Whether a late block is of the program.
-    fn is_late(&self, program: ProgramId) -> bool {
-        self.blocks.iter().any(|block| {
-            entrance_of(block).program == program || exit_of(block).program == program
-        })
+    fn is_late(&self, program: ProgramId) -> bool
+        ensures { (set : Set) → IsSift set self.now → result ≡ is_late set program }
+    {
+        is_one_of(self.blocks.as_slice(), program)
     }
 
     /// Whether a late block is of each of the programs.
-    pub(crate) fn are_late(&self, culprit: &Culprit) -> bool {
+    pub(crate) fn are_late(&self, culprit: &Culprit) -> bool
+        ensures { (set : Set) → IsSift set self.now → result ≡ are_late set culprit.now }
+    {
         match *culprit {
             Culprit::One(first) => self.is_late(first),
             Culprit::Two(first, second) => self.is_late(first) && self.is_late(second),
@@ -94,13 +125,17 @@ impl Sift {
     }
 
     /// Whether the hop reaches abroad without these programs.
-    fn is_end(&self, culprit: &Culprit, place: &Place) -> bool {
+    fn is_end(&self, culprit: &Culprit, place: &Place) -> bool
+        ensures { result ≡ list_any (is_end_at culprit.now place.now) self.now.ends.items }
+    {
         let mut ends = self.ends.iter();
         ends.any(|end| end.place == *place && end.is_left(culprit))
     }
 
     /// Whether the block is late without these programs.
-    fn is_left(&self, culprit: &Culprit, block: &Block) -> bool {
+    fn is_left(&self, culprit: &Culprit, block: &Block) -> bool
+        ensures { result ≡ is_block_left culprit.now self.now.ends.items block.now }
+    {
         let (entered, left) = (entrance_of(block), exit_of(block));
         !culprit.has(entered.program)
             && !culprit.has(left.program)
@@ -108,9 +143,12 @@ impl Sift {
             && self.is_end(culprit, &left)
     }
 
-    /// Whether no block is late without these programs.
-    fn leaves_none_late(&self, culprit: &Culprit) -> bool {
-        !self.blocks.iter().any(|block| self.is_left(culprit, block))
+    /// Whether some block is late without these programs.
+    fn leaves_late(&self, culprit: &Culprit) -> bool
+        ensures { result ≡ leaves_late culprit.now self.now }
+    {
+        let mut blocks = self.blocks.iter();
+        blocks.any(|block| self.is_left(culprit, block))
     }
 
     /// Whether no group is mixed without these programs.
@@ -119,24 +157,32 @@ impl Sift {
         alloc: Global,
         set: &ChainSet,
         culprit: &Culprit,
-    ) -> Result<bool, Memory> {
+    ) -> Result<bool, Memory>
+        requires { IsSift set.now self.now }
+        ensures { IfOk result (λ none. none ≡ false
+            → NoWalkOffends (set_without set.now culprit.now) → ⊥) }
+    {
         let mut joining = Joining::new(alloc, set)?;
         for edge in self.edges.iter() {
             if !culprit.has(edge.left.program) && !culprit.has(edge.right.program) {
-                joining.join(edge);
+                joining.join(alloc, edge)?;
             }
         }
         Ok(!joining.has_mixed())
     }
 
-    /// Whether the set seems to be accepted without these programs.
+    /// Whether the set seems to be accepted without these programs, as it does wherever it is.
     pub(crate) fn lets_through(
         &self,
         alloc: Global,
         set: &ChainSet,
         culprit: &Culprit,
-    ) -> Result<bool, Memory> {
-        if self.leaves_none_late(culprit) {
+    ) -> Result<bool, Memory>
+        requires { IsSift set.now self.now }
+        ensures { IfOk result (λ lets. IsAccepted (set_without set.now culprit.now)
+            → IsTrue lets) }
+    {
+        if !self.leaves_late(culprit) {
             return Ok(true);
         }
         self.leaves_none_mixed(alloc, set, culprit)

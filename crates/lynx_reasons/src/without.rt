@@ -1,6 +1,6 @@
 //! Whether a set is accepted once some of its programs are taken away.
 
-ghost use Rattle.std.specs.Prelude.{◌≡◌, ◌<◌, ◌++◌, ◌∷◌, [], IfOk, IsTrue, None, OnOk, length};
+ghost use Rattle.std.specs.Prelude.{◌≡◌, ◌<◌, ◌↔◌, ◌++◌, ◌∷◌, [], IfOk, IsTrue, None, OnOk, length};
 ghost use Rattle.lynx_names.specs.declared.limits.TheConstants.{MAX_PROGRAMS};
 ghost use Rattle.lynx_set.specs.Lookups.{program_names};
 ghost use Rattle.lynx_set.specs.Names.{place_of};
@@ -51,7 +51,7 @@ fn programs_without(alloc: Global, set: &ChainSet, culprit: &Culprit) -> Result<
 /// Whether the verdict on this very set is that it is accepted.
 fn is_accepted(set: &ChainSet, verdict: &Verdict) -> bool
     requires { Judges set.now verdict.now }
-    ensures { IsTrue result → IsAccepted set.now }
+    ensures { IsTrue result ↔ IsAccepted set.now }
 {
     match verdict {
         Verdict::Accepted(_) => true,
@@ -65,7 +65,7 @@ pub(crate) fn is_accepted_without(
     set: &ChainSet,
     culprit: &Culprit,
 ) -> Result<bool, Memory>
-    ensures { IfOk result (λ is. IsTrue is → IsAccepted (set_without set.now culprit.now)) }
+    ensures { IfOk result (λ is. IsTrue is ↔ IsAccepted (set_without set.now culprit.now)) }
 {
     let left = programs_without(alloc, set, culprit)?;
     let verdict = check(alloc, &left)?;

@@ -70,10 +70,14 @@ def script(name):
 
 
 def free_port():
-    """A port that nobody listens at just now."""
-    with socket.socket() as found:
-        found.bind(("127.0.0.1", 0))
-        return found.getsockname()[1]
+    """A port that nobody listens at just now, and that no other worker of pytest is given."""
+    worker, workers = int(os.environ.get("PYTEST_XDIST_WORKER", "gw0")[2:]), int(os.environ.get("PYTEST_XDIST_WORKER_COUNT", "1"))
+    while True:
+        with socket.socket() as found:
+            found.bind(("127.0.0.1", 0))
+            port = found.getsockname()[1]
+        if port // 2 % workers == worker:  # the system gives odd ports first
+            return port
 
 
 def end_of(words, given="", **how):

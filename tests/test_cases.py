@@ -1,5 +1,4 @@
-#!/usr/bin/env python3
-"""tests/run [PROGRAM] [CASE..]: runs the cases under tests/cases over the built program, and prints what differs.
+"""The cases under tests/cases over the built program.
 
 A case is a group of files of one name in a folder of tests/cases:
 
@@ -20,17 +19,17 @@ The standard output of a case of `lynx draw SET` is what tests/reference_picture
 apart from the program: tests/reference_picture.py tests/cases/pictures/trip.set > tests/cases/pictures/trip.stdout. That of
 `lynx draw SET SCRIPT` is what tests/reference_chart.py SET SCRIPT prints, and what begins as an SVG is read by an XML parser.
 
-PROGRAM is crates/lynx/out/lynx if left out; CASE is FOLDER/NAME or the beginning of one. The last line is
-'N passed, M failed'.
+`tests/pytest test_cases.py -k FOLDER/NAME` runs the cases that have this in their names.
 """
 import os
 import sqlite3
 import subprocess
-import sys
 import tempfile
 import xml.etree.ElementTree as ElementTree
 
-TOP = os.path.dirname(os.path.dirname(os.path.abspath(__file__)))
+import pytest
+from serving import TOP
+
 CASES = os.path.join(TOP, "tests", "cases")
 PARTS = ("set", "script", "stdin", "sql", "args", "stdout", "stderr", "status", "to", "errors")
 
@@ -51,7 +50,7 @@ def names_of(folder):
         if part in PARTS:
             found.add(stem)
         elif file not in ("ARGS", "SET", "SQL", "STATUS"):
-            sys.exit(f"tests/cases/{folder}/{file} is of no case")
+            raise ValueError(f"tests/cases/{folder}/{file} is of no case")
     return sorted(found)
 
 
@@ -123,45 +122,27 @@ class Case:
             return ran.stdout or b"", (ran.stderr or b"") + changed, ran.returncode
 
 
-def is_read(printed):
-    """Whether an XML parser reads it, if it begins as an SVG."""
-    try:
-        return not printed.startswith(b"<svg") or ElementTree.fromstring(printed) is not None
-    except ElementTree.ParseError as fault:
-        print(f"-- no XML: {fault}")
-        return False
+def every_case():
+    return [(folder, name) for folder in sorted(os.listdir(CASES)) for name in names_of(folder)]
 
 
-def differs(case, got):
-    """Prints what differs from what is wanted."""
-    print(f"== {case.name}")
+def shown(printed):
+    """What was printed, or a status, behind what it is called."""
+    return printed if isinstance(printed, int) else "\n" + printed.decode(errors="backslashreplace")
+
+
+def differences(case, got):
+    """What differs from what is wanted."""
     for what, is_so, wanted in zip(("standard output", "standard error", "status"), got, case.wanted):
         if is_so != wanted:
-            show = lambda it: it if isinstance(it, int) else "\n" + it.decode(errors="backslashreplace")
-            print(f"-- {what}: {show(is_so)}\n-- wanted: {show(wanted)}")
+            yield f"-- {what}: {shown(is_so)}\n-- wanted: {shown(wanted)}"
 
 
-def main(words):
-    program = os.path.join(TOP, "crates", "lynx", "out", "lynx")
-    if words and os.path.isfile(words[0]):
-        program = os.path.abspath(words.pop(0))
-    if not os.path.isfile(program):
-        sys.exit(f"there is no {program}: 'rt ci', or 'rt run' in crates/lynx, builds it")
-    passed = failed = 0
-    for folder in sorted(os.listdir(CASES)):
-        for name in names_of(folder):
-            case = Case(folder, name)
-            if words and not any(case.name.startswith(word) for word in words):
-                continue
-            got = case.ends(program)
-            if got == case.wanted and is_read(got[0]):
-                passed += 1
-            else:
-                failed += 1
-                differs(case, got)
-    print(f"{passed} passed, {failed} failed")
-    return 1 if failed or not passed else 0
-
-
-if __name__ == "__main__":
-    sys.exit(main(sys.argv[1:]))
+@pytest.mark.parametrize("folder, name", [pytest.param(*it, id="/".join(it)) for it in every_case()])
+def test_case(program, folder, name):
+    case = Case(folder, name)
+    got = case.ends(program)
+    if got != case.wanted:
+        pytest.fail("\n".join(differences(case, got)), pytrace=False)
+    if got[0].startswith(b"<svg"):
+        ElementTree.fromstring(got[0])

@@ -200,6 +200,20 @@ class Line:
         return self.take(1 << 30)
 
 
+def files(folder):
+    """The bytes of each file of a folder."""
+    found = {}
+    for name in sorted(os.listdir(folder)):
+        with open(os.path.join(folder, name), "rb") as file:
+            found[name] = file.read()
+    return found
+
+
+def stored(lynx, room, text, folder=None):
+    """Runs a script over the stores of the room, or over those of another folder."""
+    return end_of([lynx, "run", "--stores", folder or room.stores, room.set, room.file("script", text)])
+
+
 def wait_until(fact, within=30.0):
     """Whether the fact came to hold in time."""
     until = time.monotonic() + within

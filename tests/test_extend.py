@@ -1,9 +1,4 @@
-#!/usr/bin/env python3
-"""tests/extend [PROGRAM [PART..]]: stores given to sets that extend theirs. PROGRAM is crates/lynx/out/lynx if left out. The
-last line is 'N passed, M failed'.
-
-Whether a set extends another is read here once more, from their texts alone.
-"""
+"""Stores given to sets that extend theirs. Whether a set extends another is read here once more, from their texts alone."""
 import glob
 import hashlib
 import os
@@ -12,13 +7,12 @@ import re
 import shutil
 import sqlite3
 import subprocess
-import sys
 import time
 
-sys.path.insert(0, os.path.dirname(os.path.abspath(__file__)))
-from serving import PAYMENT, TOP, Room, Service, Tally, end_of, program  # noqa: E402
-import lynx as client  # noqa: E402
-import reference  # noqa: E402
+import pytest
+import reference
+from serving import PAYMENT, TOP, Room, Service, end_of
+import lynx as client
 
 READER = """program read
 hop 1
@@ -43,6 +37,10 @@ GREATEST = GROWN.replace("lynx 1\n", "lynx 2\n") + "program top n\nhop 2\nmax no
 OWING = "begin 0 1 1 seed 100\nbegin 0 1 2 pay 30\n"
 
 WHOLE_ORDER = "closed\norder 0:0 0:1 1:0 2:0\n"
+
+
+# How many changes of a line are tried, and how many kills.
+CHANGED_LINES, KILLS = 900, 20
 
 
 # ---- whether a set extends another, from their texts
@@ -86,12 +84,12 @@ def lines_of(old, new, entries):
 
 # ---- folders of stores
 
-def filled(lynx, room, script, set_text=None):
+def filled(program, room, script, set_text=None):
     """Makes the stores of the room by a run."""
     path = room.file("run-set", set_text) if set_text else room.set
-    out, err, status = end_of([lynx, "run", "--stores", room.stores, path, room.file("script", script)])
+    out, err, status = end_of([program, "run", "--stores", room.stores, path, room.file("script", script)])
     if status or err:
-        sys.exit(f"no stores were made: {out}{err}")
+        pytest.fail(f"no stores were made: {out}{err}")
 
 
 def states(folder):
@@ -103,12 +101,12 @@ def states(folder):
     return found
 
 
-def extend(lynx, room, text, *options):
-    return end_of([lynx, "extend", room.stores, room.file("next", text), *options])
+def extend(program, room, text, *options):
+    return end_of([program, "extend", room.stores, room.file("next", text), *options])
 
 
-def shown(lynx, room, servers):
-    return [end_of([lynx, "show", room.store(server)])[0] for server in range(servers)]
+def shown(program, room, servers):
+    return [end_of([program, "show", room.store(server)])[0] for server in range(servers)]
 
 
 def meta(path):
@@ -119,102 +117,97 @@ def meta(path):
         conn.close()
 
 
-# ---- parts
-
-def worked(tally, lynx):
+def test_worked(tally, program, room):
     """What was owed under the old set is done under the new one, and all takes its place in one order."""
-    with Room(PAYMENT) as room:
-        filled(lynx, room, OWING)
-        before = shown(lynx, room, 2)
-        tally.is_same("extended", extend(lynx, room, GROWN), ("made 2\nextended 0 2\nextended 1 0\n", "", 0))
-        tally.is_same("entries and cells", shown(lynx, room, 2), before)
-        tally.is_same("a new store", shown(lynx, room, 3)[2], "server 2\nentries 0\n")
-        for server in range(3):
-            tally.is_same(f"meta of {server}", meta(room.store(server)), ["lynx store 1", str(server), GROWN])
-        tally.is_same("again", extend(lynx, room, GROWN), ("same 0\nsame 1\nsame 2\n", "", 0))
-        old = room.set
-        room.set = room.file("grown", GROWN)
-        with Service(lynx, room) as service:
-            asked = client.Client(service.port, old, client=1)
-            tally.is_same("an old request", asked.begin("pay", 30, number=2).again, True)
-            chain = client.Chain(0, 1)
-            tally.is_same("what was owed", asked.look(chain, 1, wait=10).results, [])
-            new = client.Client(service.port, room.set, client=2)
-            tally.is_same("a new program", new.begin("read", number=1).results, [30])
-            tally.is_same("a new server", new.begin("note", 7, number=2).results, [])
-            asked.close()
-            new.shut()
-            tally.is_same("the end", service.end(), (WHOLE_ORDER, "", 0))
-        room.set = old
-        with Service(lynx, room) as service:
-            tally.is_same("the old set", service.end(), ("", "lynx: store 0: other-set\n", 4))
+    filled(program, room, OWING)
+    before = shown(program, room, 2)
+    tally.is_same("extended", extend(program, room, GROWN), ("made 2\nextended 0 2\nextended 1 0\n", "", 0))
+    tally.is_same("entries and cells", shown(program, room, 2), before)
+    tally.is_same("a new store", shown(program, room, 3)[2], "server 2\nentries 0\n")
+    for server in range(3):
+        tally.is_same(f"meta of {server}", meta(room.store(server)), ["lynx store 1", str(server), GROWN])
+    tally.is_same("again", extend(program, room, GROWN), ("same 0\nsame 1\nsame 2\n", "", 0))
+    old = room.set
+    room.set = room.file("grown", GROWN)
+    with Service(program, room) as service:
+        asked = client.Client(service.port, old, client=1)
+        tally.is_same("an old request", asked.begin("pay", 30, number=2).again, True)
+        chain = client.Chain(0, 1)
+        tally.is_same("what was owed", asked.look(chain, 1, wait=10).results, [])
+        new = client.Client(service.port, room.set, client=2)
+        tally.is_same("a new program", new.begin("read", number=1).results, [30])
+        tally.is_same("a new server", new.begin("note", 7, number=2).results, [])
+        asked.close()
+        new.shut()
+        tally.is_same("the end", service.end(), (WHOLE_ORDER, "", 0))
+    room.set = old
+    with Service(program, room) as service:
+        tally.is_same("the old set", service.end(), ("", "lynx: store 0: other-set\n", 4))
 
 
-def rising(tally, lynx):
+def test_rising(tally, program, room):
     """Version 1 rises to 2, and the hops are kept then; it doesn't fall."""
-    with Room(PAYMENT) as room:
-        filled(lynx, room, OWING + "deliver 0:1 1\n")
-        before = shown(lynx, room, 2)
-        tally.is_same("rises", extend(lynx, room, GREATEST), ("made 2\nextended 0 2\nextended 1 1\n", "", 0))
-        tally.is_same("entries and cells", shown(lynx, room, 2), before)
-        for server, hops in enumerate([[(0, b"\0" * 8, 0, 0), (0, b"\0" * 7 + b"\1", 0, 1)], [(0, b"\0" * 7 + b"\1", 1, 0)], []]):
-            conn = sqlite3.connect(room.store(server))
-            tally.is_same(f"hops of {server}", conn.execute("SELECT * FROM acted ORDER BY place").fetchall(), hops)
-            conn.close()
-            tally.is_same(f"meta of {server}", meta(room.store(server))[0], "lynx store 2")
-        kept = states(room.stores)
-        tally.is_same("falls", extend(lynx, room, GROWN), ("", "lynx: store 0: other-version\n", 4))
-        tally.is_same("files of a refusal", states(room.stores), kept)
-        tally.is_same("why it falls", extend(lynx, room, GROWN, "--hints")[1],
-                      "lynx: store 0: other-version\n  the store's set is of version 2, and this one of version 1\n")
+    filled(program, room, OWING + "deliver 0:1 1\n")
+    before = shown(program, room, 2)
+    tally.is_same("rises", extend(program, room, GREATEST), ("made 2\nextended 0 2\nextended 1 1\n", "", 0))
+    tally.is_same("entries and cells", shown(program, room, 2), before)
+    for server, hops in enumerate([[(0, b"\0" * 8, 0, 0), (0, b"\0" * 7 + b"\1", 0, 1)], [(0, b"\0" * 7 + b"\1", 1, 0)], []]):
+        conn = sqlite3.connect(room.store(server))
+        tally.is_same(f"hops of {server}", conn.execute("SELECT * FROM acted ORDER BY place").fetchall(), hops)
+        conn.close()
+        tally.is_same(f"meta of {server}", meta(room.store(server))[0], "lynx store 2")
+    kept = states(room.stores)
+    tally.is_same("falls", extend(program, room, GROWN), ("", "lynx: store 0: other-version\n", 4))
+    tally.is_same("files of a refusal", states(room.stores), kept)
+    tally.is_same("why it falls", extend(program, room, GROWN, "--hints")[1],
+                  "lynx: store 0: other-version\n  the store's set is of version 2, and this one of version 1\n")
 
 
-def refused(tally, lynx):
+def test_refused(tally, program, room):
     """What isn't extended, and that nothing of it is touched."""
-    with Room(PAYMENT) as room:
-        filled(lynx, room, OWING)
-        kept = states(room.stores)
+    filled(program, room, OWING)
+    kept = states(room.stores)
 
-        def fails(name, text, told, status=4, *options):
-            tally.is_same(name, extend(lynx, room, text, *options), (told[0], told[1], status))
-            tally.is_same(f"files after {name}", states(room.stores), kept)
+    def fails(name, text, told, status=4, *options):
+        tally.is_same(name, extend(program, room, text, *options), (told[0], told[1], status))
+        tally.is_same(f"files after {name}", states(room.stores), kept)
 
-        offending = GROWN + "program both\nhop 1\nget a acct 1000\nhop 0\nget b acct 0\nend\n"
-        check = end_of([lynx, "check", room.file("offending", offending)])
-        tally.is_same("a set that offends", check[2], 1)
-        fails("an offending set", offending, check[:2], 1)
-        fails("a faulty set", GROWN + "end\n", ("", f"lynx: set line {len(GROWN.splitlines()) + 1}: bad-line\n"), 2)
-        fails("another set", GROWN.replace("acct", "cash"), ("", "lynx: store 0: other-set\n"))
-        fails("another program", GROWN.replace("need x >= n", "need x > n"),
-              ("", "lynx: store 0: other-set\n  line 13 of the store's set: need x >= n\n"
-               "  line 15 of this set: need x > n\n"), 4, "--hints")
-        fails("other shards", GROWN.replace("999", "998").replace("1000 1844", "999 1844"),
-              ("", "lynx: store 0: other-set\n  line 4 of the store's set: shard 0 999 0\n"
-               "  line 4 of this set: shard 0 998 0\n"), 4, "--hints")
-        fewer = PAYMENT.split("program pay")[0]
-        fails("a program less", fewer, ("", "lynx: store 0: other-set\n  program 1 of the store's set, counted from 0, "
-                                        "isn't there: what a set has stays in each that extends it\n"), 4, "--hints")
-        one = "lynx 1\nservers 1\n"
-        fails("a server less", one, ("", "lynx: store 0: other-set\n  the store's set has 2 servers, and this one 1\n"), 4,
-              "--hints")
-        tally.is_same("a file that isn't there", end_of([lynx, "extend", room.stores, "nowhere.set"]),
-                      ("", "lynx: cannot read nowhere.set\n", 4))
-        tally.is_same("a folder that isn't there", end_of([lynx, "extend", room.path + "/nowhere", room.set]),
-                      ("", "lynx: store 0: store\n", 4))
-        tally.is_same("no words", end_of([lynx, "extend"])[2], 2)
-        with Service(lynx, room) as service:
-            tally.holds("listening", service.first)
-            tally.is_same("a folder that is served", extend(lynx, room, GROWN), ("", "lynx: store 0: store\n", 4))
-        old = room.set
-        room.set = room.file("grown", GROWN)
-        served = end_of([lynx, "serve", room.set, room.stores, "1", "--hints"])
-        tally.is_same("served before", served, (
-            "", "lynx: store 0: other-set\n  this set extends that of the store: lynx extend DIR SET gives the stores to it\n",
-            4))
-        room.set = old
-        with open(room.store(1), "r+b") as file:
-            file.write(b"no database")
-        tally.is_same("no database", extend(lynx, room, GROWN), ("", "lynx: store 1: damaged\n", 4))
+    offending = GROWN + "program both\nhop 1\nget a acct 1000\nhop 0\nget b acct 0\nend\n"
+    check = end_of([program, "check", room.file("offending", offending)])
+    tally.is_same("a set that offends", check[2], 1)
+    fails("an offending set", offending, check[:2], 1)
+    fails("a faulty set", GROWN + "end\n", ("", f"lynx: set line {len(GROWN.splitlines()) + 1}: bad-line\n"), 2)
+    fails("another set", GROWN.replace("acct", "cash"), ("", "lynx: store 0: other-set\n"))
+    fails("another program", GROWN.replace("need x >= n", "need x > n"),
+          ("", "lynx: store 0: other-set\n  line 13 of the store's set: need x >= n\n"
+           "  line 15 of this set: need x > n\n"), 4, "--hints")
+    fails("other shards", GROWN.replace("999", "998").replace("1000 1844", "999 1844"),
+          ("", "lynx: store 0: other-set\n  line 4 of the store's set: shard 0 999 0\n"
+           "  line 4 of this set: shard 0 998 0\n"), 4, "--hints")
+    fewer = PAYMENT.split("program pay")[0]
+    fails("a program less", fewer, ("", "lynx: store 0: other-set\n  program 1 of the store's set, counted from 0, "
+                                    "isn't there: what a set has stays in each that extends it\n"), 4, "--hints")
+    one = "lynx 1\nservers 1\n"
+    fails("a server less", one, ("", "lynx: store 0: other-set\n  the store's set has 2 servers, and this one 1\n"), 4,
+          "--hints")
+    tally.is_same("a file that isn't there", end_of([program, "extend", room.stores, "nowhere.set"]),
+                  ("", "lynx: cannot read nowhere.set\n", 4))
+    tally.is_same("a folder that isn't there", end_of([program, "extend", room.path + "/nowhere", room.set]),
+                  ("", "lynx: store 0: store\n", 4))
+    tally.is_same("no words", end_of([program, "extend"])[2], 2)
+    with Service(program, room) as service:
+        tally.holds("listening", service.first)
+        tally.is_same("a folder that is served", extend(program, room, GROWN), ("", "lynx: store 0: store\n", 4))
+    old = room.set
+    room.set = room.file("grown", GROWN)
+    served = end_of([program, "serve", room.set, room.stores, "1", "--hints"])
+    tally.is_same("served before", served, (
+        "", "lynx: store 0: other-set\n  this set extends that of the store: lynx extend DIR SET gives the stores to it\n",
+        4))
+    room.set = old
+    with open(room.store(1), "r+b") as file:
+        file.write(b"no database")
+    tally.is_same("no database", extend(program, room, GROWN), ("", "lynx: store 1: damaged\n", 4))
 
 
 # What is done to a folder's first store by the system's sqlite3, the set that it is to be given to then, and what is told.
@@ -227,25 +220,25 @@ CHANGED = [
 ]
 
 
-def changed(tally, lynx):
+def test_changed(tally, program):
     """What other hands did to a store is told, and nothing of the folder is touched."""
     for statement, text, word in CHANGED:
         with Room(PAYMENT) as room:
-            filled(lynx, room, OWING)
+            filled(program, room, OWING)
             conn = sqlite3.connect(room.store(0))
             conn.executescript(statement)
             conn.close()
             kept = states(room.stores)
-            tally.is_same(statement, extend(lynx, room, text), ("", f"lynx: store 0: {word}\n", 4))
+            tally.is_same(statement, extend(program, room, text), ("", f"lynx: store 0: {word}\n", 4))
             tally.is_same(f"files after {statement}", states(room.stores), kept)
 
 
-def halves(tally, lynx):
+def test_halves(tally, program):
     """A folder a part of which was extended goes on, and a store that is gone is not made anew."""
     with Room(PAYMENT) as room, Room(PAYMENT) as other:
-        filled(lynx, room, OWING)
+        filled(program, room, OWING)
         shutil.copytree(room.stores, other.stores, dirs_exist_ok=True)
-        extend(lynx, other, GROWN)
+        extend(program, other, GROWN)
 
         def mixed(name, grown, gone, wanted):
             """The stores of some servers are those that were extended, and some are gone."""
@@ -257,11 +250,11 @@ def halves(tally, lynx):
                             if os.path.exists(source.store(server) + end):
                                 shutil.copy(source.store(server) + end, mix.store(server) + end)
                 kept = states(mix.stores)
-                tally.is_same(name, extend(lynx, mix, GROWN), wanted)
+                tally.is_same(name, extend(program, mix, GROWN), wanted)
                 if wanted[2]:
                     tally.is_same(f"files after {name}", states(mix.stores), kept)
                 else:
-                    tally.is_same(f"again after {name}", extend(lynx, mix, GROWN), ("same 0\nsame 1\nsame 2\n", "", 0))
+                    tally.is_same(f"again after {name}", extend(program, mix, GROWN), ("same 0\nsame 1\nsame 2\n", "", 0))
 
         mixed("all are old", [], [], ("made 2\nextended 0 2\nextended 1 0\n", "", 0))
         mixed("the new one is made", [2], [], ("extended 0 2\nextended 1 0\nsame 2\n", "", 0))
@@ -278,7 +271,7 @@ def halves(tally, lynx):
         os.rename(room.store(0), room.store(7))
         os.rename(room.store(1), room.store(0))
         os.rename(room.store(7), room.store(1))
-        tally.is_same("stores of each other's names", extend(lynx, room, GROWN, "--hints"),
+        tally.is_same("stores of each other's names", extend(program, room, GROWN, "--hints"),
                       ("", "lynx: store 0: other-set\n  it is the store of server 1\n", 4))
 
 
@@ -317,7 +310,7 @@ def changes(text, choose):
             yield "".join(head + [line.replace(">=", ">")] + tail)
 
 
-def one_line(tally, lynx, most=900):
+def test_one_line(tally, program):
     """Each change of a line of a set is taken, or refused, as the texts say."""
     choose = random.Random(7)
     tried = [(text, change) for text in texts() for change in changes(text, choose)]
@@ -329,19 +322,19 @@ def one_line(tally, lynx, most=900):
     with Room(PAYMENT) as room:
         def verdict(text):
             if text not in verdicts:
-                verdicts[text] = end_of([lynx, "check", room.file("next", text)])
+                verdicts[text] = end_of([program, "check", room.file("next", text)])
             return verdicts[text]
 
         for old, new in tried:
-            if sum(counts.values()) >= most:
+            if sum(counts.values()) >= CHANGED_LINES:
                 break
             if verdict(old)[2]:
                 continue
             shutil.rmtree(room.stores)
             os.mkdir(room.stores)
-            filled(lynx, room, "", old)
+            filled(program, room, "", old)
             kept = states(room.stores)
-            got = extend(lynx, room, new)
+            got = extend(program, room, new)
             if verdict(new)[2]:
                 wanted, kind = verdict(new), "refused"
             elif why_not(old, new):
@@ -357,44 +350,29 @@ def one_line(tally, lynx, most=900):
     tally.holds("each kind was met", all(counts.values()))
 
 
-def kills(tally, lynx, count=20):
+@pytest.mark.alone
+def test_kills(tally, program):
     """An extension that is killed leaves stores that the next one takes, with all that they keep."""
     begins = "begin 0 1 1 seed 100000\n" + "".join(f"begin 0 1 {number} pay 1\n" for number in range(2, 3000))
     with Room(PAYMENT) as room:
-        filled(lynx, room, begins)
-        before = shown(lynx, room, 2)
+        filled(program, room, begins)
+        before = shown(program, room, 2)
         choose = random.Random(3)
         began = time.monotonic()
         with Room(PAYMENT) as whole:
             shutil.copytree(room.stores, whole.stores, dirs_exist_ok=True)
-            extend(lynx, whole, GREATEST)
+            extend(program, whole, GREATEST)
         takes = time.monotonic() - began
-        for kill in range(count):
+        for kill in range(KILLS):
             with Room(PAYMENT) as copy:
                 shutil.copytree(room.stores, copy.stores, dirs_exist_ok=True)
-                ran = subprocess.Popen([lynx, "extend", copy.stores, copy.file("next", GREATEST)], stdout=subprocess.DEVNULL)
+                ran = subprocess.Popen([program, "extend", copy.stores, copy.file("next", GREATEST)], stdout=subprocess.DEVNULL)
                 time.sleep(choose.random() * takes)
                 ran.kill()
                 ran.wait()
-                out, err, status = extend(lynx, copy, GREATEST)
+                out, err, status = extend(program, copy, GREATEST)
                 told = re.sub(r"^(made 2|same [012]|extended 0 2999|extended 1 0)\n", "", out, flags=re.MULTILINE)
                 tally.is_same(f"goes on after kill {kill}", (told, err, status), ("", "", 0))
-                tally.is_same(f"kept over kill {kill}", shown(lynx, copy, 2), before)
+                tally.is_same(f"kept over kill {kill}", shown(program, copy, 2), before)
                 tally.is_same(f"of the set after kill {kill}", [meta(copy.store(server))[2] for server in range(3)],
                               [GREATEST] * 3)
-
-
-PARTS = {"worked": worked, "rising": rising, "refused": refused, "changed": changed, "halves": halves, "one_line": one_line,
-         "kills": kills}
-
-
-def main(words):
-    lynx = program(words)
-    tally = Tally()
-    for name in words[1:] or PARTS:
-        PARTS[name](tally, lynx)
-    return tally.end()
-
-
-if __name__ == "__main__":
-    sys.exit(main(sys.argv[1:]))

@@ -1,10 +1,6 @@
-#!/usr/bin/env python3
-"""tests/restore [PROGRAM [PART..]]: `lynx restore` over copies of different moments, of runs that parted, and of a service that
-was killed. PROGRAM is crates/lynx/out/lynx if left out. The last line is 'N passed, M failed'.
-
-How much of copies fits together is computed here once more, plainly: whatever hop's sender is missing goes, with all that is
-behind it at its server, until nothing goes.
-"""
+"""`lynx restore` over copies of different moments, of runs that parted, and of a service that was killed. How much of copies fits
+together is computed here once more, plainly: whatever hop's sender is missing goes, with all that is behind it at its server,
+until nothing goes."""
 import contextlib
 import os
 import random
@@ -12,13 +8,14 @@ import shutil
 import signal
 import sqlite3
 import subprocess
-import sys
 import time
 
-sys.path.insert(0, os.path.dirname(os.path.abspath(__file__)))
-from serving import PAYMENT, Room, Service, Tally, end_of, program  # noqa: E402
+import pytest
+from serving import PAYMENT, Room, Service, end_of, files, stored
+import lynx as client
 
-import lynx as client  # noqa: E402
+# What is told where there are stores.
+OCCUPIED = ("", "lynx: there are stores already\n", 4)
 
 RING = """lynx 1
 servers 3
@@ -53,27 +50,13 @@ end
 """
 
 
-def stored(lynx, room, script, folder=None):
-    """Runs a script over the stores of the room, or over those of another folder."""
-    return end_of([lynx, "run", "--stores", folder or room.stores, room.set, room.file("script", script)])
-
-
-def shown(lynx, store):
+def shown(program, store):
     """The lines of the entries of a store, and those of its cells."""
-    out, fault, status = end_of([lynx, "show", store])
+    out, fault, status = end_of([program, "show", store])
     if status != 0:
         raise ValueError(f"{store}: {fault}")
     lines = out.splitlines()[2:]
     return [line for line in lines if not line.startswith("cell ")], [line for line in lines if line.startswith("cell ")]
-
-
-def files(folder):
-    """The bytes of each file of a folder."""
-    found = {}
-    for name in sorted(os.listdir(folder)):
-        with open(os.path.join(folder, name), "rb") as file:
-            found[name] = file.read()
-    return found
 
 
 def hop_of(line):
@@ -103,11 +86,11 @@ def fitting(histories):
 class Moments:
     """Copies of the stores of a run, one behind each of its events."""
 
-    def __init__(self, lynx, room, events):
+    def __init__(self, program, room, events):
         self.room, self.path, self.count = room, os.path.join(room.path, "moments"), 0
         os.mkdir(self.path)
         for event in events:
-            stored(lynx, room, event + "\n")
+            stored(program, room, event + "\n")
             shutil.copytree(room.stores, os.path.join(self.path, str(self.count)))
             self.count += 1
 
@@ -121,38 +104,38 @@ class Moments:
         return found
 
 
-def restored(tally, lynx, room, name, copies):
+def restored(tally, program, room, name, copies):
     """Restores copies, and compares what is told and kept with what fits together."""
     new = os.path.join(room.path, "new")
     shutil.rmtree(new, ignore_errors=True)
     os.mkdir(new)
     servers = range(len([it for it in os.listdir(copies) if it.endswith(".lynx")]))
-    histories = [shown(lynx, os.path.join(copies, f"server-{server}.lynx"))[0] for server in servers]
+    histories = [shown(program, os.path.join(copies, f"server-{server}.lynx"))[0] for server in servers]
     counts, before = fitting(histories), files(copies)
     told = "".join(f"restored {server} {counts[server]} of {len(histories[server])}\n" for server in servers)
-    tally.is_same(f"{name}: told", end_of([lynx, "restore", copies, new]), (told, "", 0))
+    tally.is_same(f"{name}: told", end_of([program, "restore", copies, new]), (told, "", 0))
     tally.is_same(f"{name}: the copies", files(copies), before)
     tally.is_same(f"{name}: files", sorted(it for it in os.listdir(new) if not it.endswith("-wal")),
                   [f"server-{server}.lynx" for server in servers])
     for server in servers:
-        entries, _ = shown(lynx, os.path.join(new, f"server-{server}.lynx"))
+        entries, _ = shown(program, os.path.join(new, f"server-{server}.lynx"))
         tally.is_same(f"{name}: entries of {server}", entries, histories[server][:counts[server]])
-    out, fault, status = end_of([lynx, "audit", new])
+    out, fault, status = end_of([program, "audit", new])
     tally.is_same(f"{name}: the audit", (out.split()[:2], fault, status), (["closed", "order"], "", 0))
     tally.is_same(f"{name}: what it counts", [line for line in out.splitlines() if line.startswith("entries")],
                   [f"entries {server} {counts[server]}" for server in servers])
     return counts
 
 
-def pairs(tally, lynx):
+def test_pairs(tally, program):
     """All pairs of moments of the payment."""
     events = ("begin 0 1 1 seed 100", "begin 0 1 2 pay 30", "begin 0 1 3 pay 200", "deliver 0:1 1", "begin 0 1 4 pay 20",
               "deliver 0:2 1", "begin 0 1 5 pay 1")
     with Room(PAYMENT) as room:
-        moments = Moments(lynx, room, events)
+        moments = Moments(program, room, events)
         for first in range(moments.count):
             for second in range(moments.count):
-                counts = restored(tally, lynx, room, f"moments {first} {second}", moments.together((first, second)))
+                counts = restored(tally, program, room, f"moments {first} {second}", moments.together((first, second)))
                 tally.is_same(f"moments {first} {second}: by hand", counts,
                               [(1, 2, 3, 3, 4, 4, 5)[first], min((0, 0, 0, 1, 1, 2, 2)[second], (0, 1, 1, 1, 2, 2, 2)[first])])
 
@@ -174,127 +157,127 @@ def ring_events(rest, count):
     return found
 
 
-def ring(tally, lynx):
+def test_ring(tally, program):
     """Moments at random of runs whose chains go around three servers: what goes at one may take more with it at the next."""
     rest, lost = random.Random(7), 0
     for run in range(3):
         with Room(RING) as room:
-            moments = Moments(lynx, room, ring_events(rest, 40))
+            moments = Moments(program, room, ring_events(rest, 40))
             for trial in range(12):
                 chosen = [rest.randrange(12, moments.count) for _ in range(3)]
-                counts = restored(tally, lynx, room, f"run {run}, moments {chosen}", moments.together(chosen))
-                whole = [len(shown(lynx, os.path.join(moments.path, str(moment), f"server-{server}.lynx"))[0])
+                counts = restored(tally, program, room, f"run {run}, moments {chosen}", moments.together(chosen))
+                whole = [len(shown(program, os.path.join(moments.path, str(moment), f"server-{server}.lynx"))[0])
                          for server, moment in enumerate(chosen)]
                 lost += counts != whole
     print(f"something goes in {lost} of 36 trials")
     tally.holds("something goes in many trials", lost >= 12)
 
 
-def parted(tally, lynx):
+def test_parted(tally, program):
     """Two runs that parted: the same chain with another amount is another one."""
     with Room(PAYMENT) as room:
-        stored(lynx, room, "begin 0 1 1 seed 100\nbegin 0 1 2 pay 30\ndeliver 0:1 1\n")
+        stored(program, room, "begin 0 1 1 seed 100\nbegin 0 1 2 pay 30\ndeliver 0:1 1\n")
         other, copies, new = (os.path.join(room.path, name) for name in ("other", "copies", "new"))
         shutil.copytree(room.stores, other)
-        stored(lynx, room, "begin 0 1 3 pay 20\ndeliver 0:2 1\n")
-        stored(lynx, room, "begin 0 1 3 pay 21\ndeliver 0:2 1\n", other)
+        stored(program, room, "begin 0 1 3 pay 20\ndeliver 0:2 1\n")
+        stored(program, room, "begin 0 1 3 pay 21\ndeliver 0:2 1\n", other)
         for second, wanted in ((room.stores, 2), (other, 1)):
             os.mkdir(copies)
             os.mkdir(new)
             shutil.copy(room.store(0), copies)
             shutil.copy(os.path.join(second, "server-1.lynx"), copies)
-            tally.is_same(f"server 1 of {os.path.basename(second)}", end_of([lynx, "restore", copies, new]),
+            tally.is_same(f"server 1 of {os.path.basename(second)}", end_of([program, "restore", copies, new]),
                           (f"restored 0 3 of 3\nrestored 1 {wanted} of 2\n", "", 0))
-            tally.is_same("its cells", shown(lynx, os.path.join(new, "server-0.lynx"))[1], ["cell acct 0 50"])
+            tally.is_same("its cells", shown(program, os.path.join(new, "server-0.lynx"))[1], ["cell acct 0 50"])
             shutil.rmtree(copies)
             shutil.rmtree(new)
 
 
-def void(tally, lynx):
+def test_void(tally, program):
     """What clients were answered that is void now, and which hops are undone, behind what is told."""
     with Room(RING) as room:
-        moments = Moments(lynx, room, ("begin 0 7 1 first 5", "deliver 0:0 1", "begin 1 8 3 second 2", "begin 1 8 4 second 1"))
+        moments = Moments(program, room, ("begin 0 7 1 first 5", "deliver 0:0 1", "begin 1 8 3 second 2", "begin 1 8 4 second 1"))
         new = os.path.join(room.path, "new")
         os.mkdir(new)
-        stored(lynx, room, "")
+        stored(program, room, "")
         empty = os.path.join(room.path, "empty")
         os.mkdir(empty)
-        stored(lynx, room, "", empty)
+        stored(program, room, "", empty)
         copies = moments.together((0, 3, 3))
         shutil.copy(os.path.join(empty, "server-0.lynx"), copies)
-        tally.is_same("told", end_of([lynx, "restore", "--hints", copies, new]),
+        tally.is_same("told", end_of([program, "restore", "--hints", copies, new]),
                       ("restored 0 0 of 0\nrestored 1 0 of 3\nrestored 2 0 of 0\n",
                        "  undone: hop 1 of chain 0:0, at server 1\n"
                        "  void: what client 8 was answered under its number 3, at server 1: chain 1:0 goes with all that it did\n"
                        "  void: what client 8 was answered under its number 4, at server 1: chain 1:1 goes with all that it did\n", 0))
 
 
-def owed_again(tally, lynx):
+def test_owed_again(tally, program):
     """A hop that is undone of a chain whose begin stays is owed again."""
     with Room(RING) as room:
         other, copies, new = (os.path.join(room.path, name) for name in ("other", "copies", "new"))
         for folder in (other, copies, new):
             os.mkdir(folder)
-        stored(lynx, room, "begin 0 7 1 first 5\ndeliver 0:0 1\nbegin 2 9 5 third 1\ndeliver 2:0 1\ndeliver 2:0 2\n")
-        stored(lynx, room, "begin 2 9 5 third 1\ndeliver 2:0 1\n", other)
+        stored(program, room, "begin 0 7 1 first 5\ndeliver 0:0 1\nbegin 2 9 5 third 1\ndeliver 2:0 1\ndeliver 2:0 2\n")
+        stored(program, room, "begin 2 9 5 third 1\ndeliver 2:0 1\n", other)
         for server, folder in ((0, other), (1, room.stores), (2, room.stores)):
             shutil.copy(os.path.join(folder, f"server-{server}.lynx"), copies)
-        tally.is_same("told", end_of([lynx, "restore", "--hints", copies, new]),
+        tally.is_same("told", end_of([program, "restore", "--hints", copies, new]),
                       ("restored 0 1 of 1\nrestored 1 0 of 2\nrestored 2 1 of 1\n",
                        "  undone: hop 1 of chain 0:0, at server 1\n  undone: hop 2 of chain 2:0, at server 1\n", 0))
-        tally.is_same("owed", end_of([lynx, "owed", new]), ("owed 2:0 2 server 1 since 2\n", "", 0))
+        tally.is_same("owed", end_of([program, "owed", new]), ("owed 2:0 2 server 1 since 2\n", "", 0))
 
 
-def refused(tally, lynx):
+def test_refused(tally, program):
     """Folders that have stores, copies that aren't there, aren't whole, or that somebody serves."""
     with Room(PAYMENT) as room:
-        stored(lynx, room, "begin 0 1 1 seed 100\nbegin 0 1 2 pay 30\ndeliver 0:1 1\n")
+        stored(program, room, "begin 0 1 1 seed 100\nbegin 0 1 2 pay 30\ndeliver 0:1 1\n")
         copies, new = os.path.join(room.path, "copies"), os.path.join(room.path, "new")
         shutil.copytree(room.stores, copies)
         os.mkdir(new)
         before = files(room.stores)
-        occupied = ("", "lynx: there are stores already\n", 4)
-        tally.is_same("into stores", end_of([lynx, "restore", copies, room.stores]), occupied)
-        tally.is_same("into itself", end_of([lynx, "restore", copies, copies]), occupied)
+        tally.is_same("into stores", end_of([program, "restore", copies, room.stores]), OCCUPIED)
+        tally.is_same("into itself", end_of([program, "restore", copies, copies]), OCCUPIED)
         tally.is_same("the stores", files(room.stores), before)
         beside = os.path.join(new, "restore.new")
         shutil.copytree(copies, beside)
-        tally.is_same("of where stores are made", end_of([lynx, "restore", beside, new]), occupied)
+        tally.is_same("of where stores are made", end_of([program, "restore", beside, new]), OCCUPIED)
         tally.is_same("the copies there", [name for name in files(beside) if name.endswith(".lynx")], ["server-0.lynx", "server-1.lynx"])
         shutil.rmtree(beside)
         shutil.copy(room.store(0), os.path.join(new, "server-9.lynx"))
-        tally.is_same("where a server has a store that the set hasn't", end_of([lynx, "restore", copies, new]), occupied)
+        tally.is_same("where a server has a store that the set hasn't", end_of([program, "restore", copies, new]), OCCUPIED)
         os.remove(os.path.join(new, "server-9.lynx"))
         absent = os.path.join(room.path, "absent")
-        tally.is_same("into no folder", end_of([lynx, "restore", copies, absent]), ("", "lynx: store 0: store\n", 4))
-        tally.is_same("of no folder", end_of([lynx, "restore", absent, new]), ("", "lynx: store 0: store\n", 4))
+        tally.is_same("into no folder", end_of([program, "restore", copies, absent]), ("", "lynx: store 0: store\n", 4))
+        tally.is_same("of no folder", end_of([program, "restore", absent, new]), ("", "lynx: store 0: store\n", 4))
         os.remove(os.path.join(copies, "server-1.lynx"))
-        tally.is_same("a copy that is missing", end_of([lynx, "restore", copies, new]), ("", "lynx: store 1: damaged\n", 4))
+        tally.is_same("a copy that is missing", end_of([program, "restore", copies, new]), ("", "lynx: store 1: damaged\n", 4))
         with open(os.path.join(copies, "server-1.lynx"), "w", encoding="ascii") as file:
             file.write("no database, and long enough for its head to be looked at\n" * 4)
-        tally.is_same("a copy that is none", end_of([lynx, "restore", copies, new]), ("", "lynx: store 1: damaged\n", 4))
-        with Service(lynx, room):
-            tally.is_same("stores that are served", end_of([lynx, "restore", room.stores, new]), ("", "lynx: store 0: store\n", 4))
+        tally.is_same("a copy that is none", end_of([program, "restore", copies, new]), ("", "lynx: store 1: damaged\n", 4))
+        with Service(program, room):
+            tally.is_same("stores that are served", end_of([program, "restore", room.stores, new]), ("", "lynx: store 0: store\n", 4))
         tally.is_same("nothing was made", os.listdir(new), [])
-        tally.is_same("a word too few", end_of([lynx, "restore", copies])[2], 2)
+        tally.is_same("a word too few", end_of([program, "restore", copies])[2], 2)
 
 
-def killed(tally, lynx):
+@pytest.mark.alone
+def test_killed(tally, program):
     """A restore that is killed leaves no stores, or all, or some that no service takes; whoever begins anew has all."""
     rest = random.Random(11)
     begins = "begin 0 1 1 seed 100000\n" + "".join(
         f"begin 0 1 {number} pay 1\ndeliver 0:{number - 1} 1\n" for number in range(2, 400))
     with Room(PAYMENT) as room:
-        stored(lynx, room, begins)
+        stored(program, room, begins)
         new, wanted = os.path.join(room.path, "new"), "restored 0 399 of 399\nrestored 1 398 of 398\n"
         began = time.monotonic()
         os.mkdir(new)
-        tally.is_same("whole", end_of([lynx, "restore", room.stores, new]), (wanted, "", 0))
+        tally.is_same("whole", end_of([program, "restore", room.stores, new]), (wanted, "", 0))
         took, stopped = time.monotonic() - began, 0
         for trial in range(12):
             shutil.rmtree(new)
             os.mkdir(new)
-            with subprocess.Popen([lynx, "restore", room.stores, new], stdout=subprocess.DEVNULL, stderr=subprocess.DEVNULL) as run:
+            with subprocess.Popen([program, "restore", room.stores, new], stdout=subprocess.DEVNULL, stderr=subprocess.DEVNULL) as run:
                 time.sleep(rest.random() * took)
                 run.send_signal(signal.SIGKILL)
             there = [name for name in os.listdir(new) if name.startswith("server-") and name.endswith(".lynx")]
@@ -302,33 +285,34 @@ def killed(tally, lynx):
                 stopped += 1
                 shutil.rmtree(new)
                 os.mkdir(new)
-                tally.is_same(f"kill {trial}, begun anew", end_of([lynx, "restore", room.stores, new]), (wanted, "", 0))
-            tally.is_same(f"kill {trial}, the audit", end_of([lynx, "audit", new])[2], 0)
+            tally.is_same(f"kill {trial}, begun anew", end_of([program, "restore", room.stores, new]),
+                          (wanted, "", 0) if len(there) < 2 else OCCUPIED)
+            tally.is_same(f"kill {trial}, the audit", end_of([program, "audit", new])[2], 0)
         tally.holds("most kills came before its end", stopped >= 4)
 
 
-def served(tally, lynx):
+def test_served(tally, program):
     """A service whose disk of server 0 is lost, with a copy of that server from before: the rest is restored, and clients ask
     again by their numbers."""
     with Room(PAYMENT) as room:
         copies, new = os.path.join(room.path, "copies"), os.path.join(room.path, "new")
-        with Service(lynx, room) as service:
+        with Service(program, room) as service:
             bank = client.Client(room.stores, client=1)
             bank.begin("seed", 100)
             tally.is_same("paid", bank.begin("pay", 30).wait(5), [[100], []])
             client.Client(room.stores).shut()
             service.end()
         shutil.copytree(room.stores, copies)
-        with Service(lynx, room) as service:
+        with Service(program, room) as service:
             tally.is_same("paid, and lost", client.Client(room.stores, client=1).begin("pay", 20, number=3).wait(5), [[70], []])
             client.Client(room.stores).shut()
             service.end()
         shutil.copy(room.store(1), copies)
         os.mkdir(new)
-        tally.is_same("restored", end_of([lynx, "restore", copies, new]), ("restored 0 2 of 2\nrestored 1 1 of 2\n", "", 0))
+        tally.is_same("restored", end_of([program, "restore", copies, new]), ("restored 0 2 of 2\nrestored 1 1 of 2\n", "", 0))
         shutil.rmtree(room.stores)
         os.rename(new, room.stores)
-        with Service(lynx, room) as service:
+        with Service(program, room) as service:
             asked = client.Client(room.stores, client=1)
             tally.is_same("the first stands", asked.begin("pay", 30, number=2).again, True)
             lost = asked.begin("pay", 20, number=3)
@@ -343,10 +327,10 @@ def hurt(store, statement):
         base.execute(statement)
 
 
-def longest(tally, lynx):
+def test_longest(tally, program):
     """Copies of which rows, pages or all are lost: the longest lawful fronts."""
     with Room(PAYMENT) as room:
-        stored(lynx, room, "begin 0 1 1 seed 100\nbegin 0 1 2 pay 30\ndeliver 0:1 1\nbegin 0 1 3 pay 20\ndeliver 0:2 1\n")
+        stored(program, room, "begin 0 1 1 seed 100\nbegin 0 1 2 pay 30\ndeliver 0:1 1\nbegin 0 1 3 pay 20\ndeliver 0:2 1\n")
         copies, new = os.path.join(room.path, "copies"), os.path.join(room.path, "new")
         first, second = (os.path.join(copies, f"server-{server}.lynx") for server in (0, 1))
 
@@ -362,12 +346,12 @@ def longest(tally, lynx):
                 else:
                     hurt(store, how)
             before = files(copies)
-            tally.is_same(f"{name}: without", end_of([lynx, "restore", copies, new]), ("", fault, 4) if fault else (lines, "", 0))
+            tally.is_same(f"{name}: without", end_of([program, "restore", copies, new]), ("", fault, 4) if fault else (lines, "", 0))
             shutil.rmtree(new)
             os.mkdir(new)
-            tally.is_same(f"{name}: told", end_of([lynx, "restore", "--longest", "--hints", copies, new]), (lines, told, 0))
+            tally.is_same(f"{name}: told", end_of([program, "restore", "--longest", "--hints", copies, new]), (lines, told, 0))
             tally.is_same(f"{name}: the copies", files(copies), before)
-            tally.is_same(f"{name}: the audit", end_of([lynx, "audit", new])[2], 0)
+            tally.is_same(f"{name}: the audit", end_of([program, "audit", new])[2], 0)
 
         damaged, whole = "lynx: store {}: damaged\n".format, "restored 0 3 of 3\nrestored 1 2 of 2\n"
         undone = "  undone: hop 1 of chain 0:{}, at server 1\n".format
@@ -386,21 +370,5 @@ def longest(tally, lynx):
         os.remove(second)
         shutil.rmtree(new)
         os.mkdir(new)
-        tally.is_same("nothing is there", end_of([lynx, "restore", "--longest", copies, new]), ("", damaged(0), 4))
+        tally.is_same("nothing is there", end_of([program, "restore", "--longest", copies, new]), ("", damaged(0), 4))
         tally.is_same("nothing was made", os.listdir(new), [])
-
-
-PARTS = (pairs, ring, parted, void, owed_again, refused, longest, killed, served)
-
-
-def main(words):
-    lynx = program(words[:1])
-    tally = Tally()
-    for part in PARTS:
-        if not words[1:] or part.__name__ in words[1:]:
-            part(tally, lynx)
-    return tally.end()
-
-
-if __name__ == "__main__":
-    sys.exit(main(sys.argv[1:]))

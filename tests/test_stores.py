@@ -1,25 +1,18 @@
-#!/usr/bin/env python3
-"""tests/stores [FOLDER]: runs the worked payment over stores in files, ends the program and goes on over the same files, and
-looks at them with the sqlite3 of the system. FOLDER has the built program `lynx` (left out: that which `rt run` leaves in
-crates/lynx/out). The last line is 'N passed, M failed'.
-
-tests/stores --make COUNT FOLDER makes the two stores of a payment in FOLDER, the first with COUNT entries, to be measured.
-
-The rows that are wanted are spelled here from docs/FORMATS.md, by hand and apart from the program.
-"""
+"""Stores in files: the worked payment is run over them, the program ends and goes on over the same files, and the sqlite3 of
+the system looks at them, damages them and writes to them. The rows that are wanted are spelled here from docs/FORMATS.md, by
+hand and apart from the program."""
 import array
 import fcntl
 import os
 import shutil
 import sqlite3
 import subprocess
-import sys
 import tempfile
 import termios
 import time
 
-sys.path.insert(0, os.path.dirname(os.path.abspath(__file__)))
-from serving import PAYMENT, TOP  # noqa: E402
+import pytest
+from serving import PAYMENT, end_of, files
 
 SQLITE = "/usr/bin/sqlite3"
 
@@ -101,33 +94,12 @@ SEEDED_BYTES = ("22 0000003e 0000000000000001 0000000000000001 00 01 00000000000
                 "0000000000000000 01 00 0000000000000000 0000000000000001 00")
 
 
-class Tally:
-    """How many tests passed, and how many failed."""
-
-    def __init__(self):
-        self.passed = self.failed = 0
-
-    def is_same(self, name, got, wanted):
-        """Counts a test, and prints what differs."""
-        if got == wanted:
-            self.passed += 1
-        else:
-            self.failed += 1
-            print(f"== {name}\n-- got: {got!r}\n-- wanted: {wanted!r}")
-
-
 def text_file(room, name, text):
     """A file of that text."""
     path = os.path.join(room, name)
     with open(path, "w", encoding="utf-8") as file:
         file.write(text)
     return path
-
-
-def end_of(words, **how):
-    """What a program prints, and its status."""
-    ran = subprocess.run(words, stdin=subprocess.DEVNULL, capture_output=True, text=True, timeout=120, **how)
-    return ran.stdout, ran.stderr, ran.returncode
 
 
 def sql(store, statements):
@@ -190,15 +162,24 @@ def wanted_rows(server, entries, cells):
             [f"0 {word(key).hex().upper()} {word(value).hex().upper()}" for key, value in cells]]
 
 
-def first_run(tally, stores):
+@pytest.fixture
+def stores(program):
+    """The stores that the worked payment leaves."""
+    with Stores(program) as made:
+        made.ran = made.run(WORKED)
+        yield made
+
+
+def test_first_run(tally, stores):
     """The worked payment over new stores, and what stands in the files."""
     tally.is_same("worked entry", SEEDED.hex(), SEEDED_BYTES.replace(" ", ""))
-    tally.is_same("first run", stores.run(WORKED), (WORKED_LINES, "", 0))
+    tally.is_same("first run", stores.ran, (WORKED_LINES, "", 0))
     for server, entries, cells in ((0, [SEEDED, PAID], [(0, 70)]), (1, [ARRIVED], [(1000, 30)])):
         tally.is_same(f"integrity of store {server}", stores.sql(server, "PRAGMA integrity_check"), "ok\n")
         schema = stores.sql(server, "SELECT sql FROM sqlite_schema WHERE sql NOT NULL ORDER BY rowid")
         tally.is_same(f"schema of store {server}", schema.split("\n")[:-1], SCHEMA)
         tally.is_same(f"rows of store {server}", rows(stores.path(server)), wanted_rows(server, entries, cells))
+    shown(tally, stores, "first run")
 
 
 def shown(tally, stores, name):
@@ -207,7 +188,7 @@ def shown(tally, stores, name):
     tally.is_same(f"{name}: store 1 is shown", stores.show(1), (SECOND_SHOWN, "", 0))
 
 
-def second_run(tally, stores):
+def test_second_run(tally, stores):
     """A second run goes on: what is asked again is answered from the record, and what is new gets the next stamps."""
     script = WORKED + "begin 0 1 3 pay 20\ndeliver 0:2 1\nrestart 0\nrestart 1\nlose 0:2 1\ndeliver 0:2 1\nwake 1\ndeliver 0:3 1\n"
     wanted = """begun 0:0 stamp 1 results - again
@@ -307,7 +288,7 @@ OTHER_DAMAGES = [
 ]
 
 
-def damages(tally, stores):
+def test_damages(tally, stores):
     """What other hands did to a store is told."""
     for statements, said in DAMAGES:
         with Stores(stores.program, stores) as copy:
@@ -335,11 +316,12 @@ def damages(tally, stores):
         tally.is_same("no database", copy.run("wake 0\n"), ("", "lynx: store 0: damaged\n", 4))
     with Stores(stores.program, stores) as copy:
         os.remove(copy.path(0))
+        os.remove(copy.path(0) + "-wal")
         told = ("idle 0\n", "lynx: close: mismatch\n", 4)
         tally.is_same("store of the sender lost", copy.run("wake 0\n"), told)
 
 
-def refusals(tally, stores):
+def test_refusals(tally, stores):
     """What is refused has an entry and no cell, and a cell that comes to 0 has no row."""
     with Stores(stores.program) as fresh:
         lines = "begun 0:0 stamp 1 results -\nrefused 0 stamp 2\n"
@@ -375,7 +357,7 @@ def acted(store):
     return sql(store, "SELECT origin || ' ' || hex(idx) || ' ' || hop || ' ' || place FROM acted ORDER BY place").split("\n")[:-1]
 
 
-def version_two(tally, stores):
+def test_version_two(tally, stores):
     """Stores of a set of version 2: a row more for each hop that ran, in the entry's transaction, and none for a refusal."""
     with Stores(stores.program) as fresh:
         script = WORKED + "begin 0 1 3 pay 500\n"
@@ -400,7 +382,7 @@ def version_two(tally, stores):
     tally.is_same("a set of version 2 over version 1", stores.run("wake 0\n", SECOND), ("", "lynx: store 0: other-version\n", 4))
 
 
-def upgraded(tally, stores):
+def test_upgraded(tally, stores):
     """Stores of version 1 made stores of version 2: the same entries and cells, for the same set at version 2."""
     with Stores(stores.program) as fresh:
         tally.is_same("run before an upgrade", fresh.run(WORKED), (WORKED_LINES, "", 0))
@@ -431,7 +413,7 @@ def upgraded(tally, stores):
         tally.is_same("upgrade of no file", end_of([fresh.program, "upgrade", absent]), ("", f"lynx: cannot read {absent}\n", 4))
 
 
-def faults(tally, stores):
+def test_faults(tally, stores):
     """Faulty words and texts."""
     with Stores(stores.program) as fresh:
         program = stores.program
@@ -469,7 +451,7 @@ end
 """
 
 
-def flags(tally, stores):
+def test_flags(tally, stores):
     """A run over stores with the flags of a run."""
     with Stores(stores.program) as fresh:
         words = fresh.words("begin 0 1 1 seed 100\nbegin 0 1 2 pay 30\n")
@@ -488,7 +470,7 @@ def flags(tally, stores):
         tally.is_same("a cycle over two runs", (second[0].split("\n")[-2].split(" ")[0], *second[1:]), ("cycle", "", 1))
 
 
-def written_by_hand(tally, stores):
+def test_written_by_hand(tally, stores):
     """A further payment that the system's sqlite3 wrote is gone on from."""
     with Stores(stores.program, stores) as copy:
         copy.sql(0, f"BEGIN; INSERT INTO entry VALUES(2, x'{PAID_AGAIN.hex()}');"
@@ -517,10 +499,10 @@ def waiting_run(stores):
             return ran, reader
         time.sleep(0.01)
     ran.kill()
-    sys.exit("a run over stores printed too little")
+    pytest.fail("a run over stores printed too little")
 
 
-def locked(tally, stores):
+def test_locked(tally, stores):
     """A store that another process has open is refused at once."""
     with Stores(stores.program) as fresh:
         ran, reader = waiting_run(fresh)
@@ -534,7 +516,7 @@ def locked(tally, stores):
         shown(tally, fresh, "after it")
 
 
-def killed(tally, stores):
+def test_killed(tally, stores):
     """A run that is killed leaves its entries in the log beside the file; both are copied together."""
     with Stores(stores.program) as fresh:
         ran, reader = waiting_run(fresh)
@@ -554,7 +536,7 @@ repeat 0:1 1 stamp 3 results - end
         tally.is_same("run after a kill", fresh.run(WORKED), (again, "", 0))
 
 
-def copied(tally, stores):
+def test_copied(tally, stores):
     """Files that are copied after a run are the same stores, with their logs and without."""
     with Stores(stores.program, stores) as copy:
         shown(tally, copy, "copy")
@@ -565,15 +547,6 @@ def copied(tally, stores):
         shown(tally, copy, "copy without logs")
 
 
-def bytes_in(room):
-    """The bytes of each file of a folder."""
-    found = {}
-    for name in os.listdir(room):
-        with open(os.path.join(room, name), "rb") as file:
-            found[name] = file.read()
-    return found
-
-
 def write(path, data):
     """A file of those bytes."""
     with open(path, "wb") as file:
@@ -582,9 +555,9 @@ def write(path, data):
 
 def touches_nothing(tally, name, stores, words, wanted):
     """A command that ends so, and leaves every file of the stores' folder, and the names in it, as they are."""
-    before = bytes_in(stores.room)
+    before = files(stores.room)
     tally.is_same(name, end_of([stores.program, *words]), wanted)
-    after = bytes_in(stores.room)
+    after = files(stores.room)
     tally.is_same(f"{name}: names", sorted(after), sorted(before))
     tally.is_same(f"{name}: bytes", [it for it in before if after.get(it) != before[it]], [])
 
@@ -602,7 +575,7 @@ NO_DATABASES = [
 DAMAGED = ("", "lynx: store: damaged\n", 4)
 
 
-def no_databases(tally, stores):
+def test_no_databases(tally, stores):
     """What is no database is neither listed nor upgraded, nor is anything written to it or beside it."""
     for name, data in NO_DATABASES:
         with Stores(stores.program) as fresh:
@@ -628,7 +601,7 @@ def left_by_a_kill(stores, room):
             shutil.copyfile(os.path.join(stores.room, name), os.path.join(room, name))
 
 
-def emptied(tally, stores):
+def test_emptied(tally, stores):
     """A file that was emptied beside its log: the log is not touched, and with the file back all is there."""
     with Stores(stores.program) as run, Stores(stores.program) as killed, Stores(stores.program) as shut:
         left_by_a_kill(run, killed.room)
@@ -646,12 +619,12 @@ def emptied(tally, stores):
                     tally.is_same(f"{name}: put back", copy.show(0)[2], 0)
 
 
-def half_made(tally, stores):
+def test_half_made(tally, stores):
     """What a stop within the making of a new store leaves is made a store by the next run."""
     with Stores(stores.program) as run, Stores(stores.program) as killed:
         left_by_a_kill(run, killed.room)
-        head = bytes_in(killed.room)["server-0.lynx-wal"][:41]
-        first = bytes_in(killed.room)["server-0.lynx"][:4096]
+        head = files(killed.room)["server-0.lynx-wal"][:41]
+        first = files(killed.room)["server-0.lynx"][:4096]
         cases = [(b"", b""), (b"", b"\0"), (b"", b"\0" + head[1:]), (b"", head), (b"\0", head), (b"\0" + first[1:], head)]
         for at, (data, log) in enumerate(cases):
             with Stores(stores.program) as fresh:
@@ -660,7 +633,7 @@ def half_made(tally, stores):
                 tally.is_same(f"half-made store {at}", fresh.run(WORKED), (WORKED_LINES, "", 0))
 
 
-def only_read(tally, stores):
+def test_only_read(tally, stores):
     """A listing, and an upgrade that is refused, leave files and logs as they are, to the byte."""
     with Stores(stores.program) as fresh:
         fresh.run(WORKED, SECOND)
@@ -685,7 +658,7 @@ def only_read(tally, stores):
             touches_nothing(tally, f"foreign database: {verb}", fresh, [verb, fresh.path(0)], DAMAGED)
 
 
-def read_only(tally, stores):
+def test_read_only(tally, stores):
     """A store that may only be read is listed."""
     with Stores(stores.program, stores) as copy:
         drop = ["setpriv", "--reuid=65534", "--regid=65534", "--clear-groups"] if os.geteuid() == 0 else []
@@ -702,7 +675,7 @@ def read_only(tally, stores):
         os.chmod(copy.room, 0o700)
 
 
-def pipes(tally, stores):
+def test_pipes(tally, stores):
     """A pipe in a file's place can't be read, at once; what is behind standard input can."""
     with Stores(stores.program) as fresh:
         pipe = os.path.join(fresh.room, "pipe")
@@ -728,7 +701,7 @@ NOT_UPGRADED = [
 ]
 
 
-def not_upgraded(tally, stores):
+def test_not_upgraded(tally, stores):
     """What no store of version 2 can hold is not upgraded, nor is anything written."""
     for name, statement, is_listed in NOT_UPGRADED:
         with Stores(stores.program) as copy:
@@ -762,7 +735,7 @@ UNLAWFUL = [
 UPGRADED_SO = ("cell changed", "entry changed", "nothing")
 
 
-def hinted(tally, stores):
+def test_hinted(tally, stores):
     """What is listed and upgraded as it stands, though no server would open it, is said behind it where hints are wanted."""
     for name, statement, said in UNLAWFUL:
         with Stores(stores.program) as copy:
@@ -787,7 +760,7 @@ ssize_t pread64(int fd, void *to, size_t n, off_t at) { return pread(fd, to, n, 
 """
 
 
-def short_reads(tally, stores):
+def test_short_reads(tally, stores):
     """A listing goes on where a read gives a part of its bytes."""
     with Stores(stores.program, stores) as copy:
         source = text_file(copy.room, "short.c", SHORT)
@@ -803,7 +776,7 @@ FLIPS = [("a client", 12, False), ("a request number", 20, False), ("a told stam
          ("an index", 47, True), ("a stamp", len(PAID) - 10, True), ("a result", len(PAID) - 1, True)]
 
 
-def flipped(tally, stores):
+def test_flipped(tally, stores):
     """Which flipped bits of an entry are found."""
     for name, at, is_found in FLIPS:
         with Stores(stores.program) as copy:
@@ -815,72 +788,10 @@ def flipped(tally, stores):
             tally.is_same(f"flipped bit of {name}", copy.run("") == found, is_found)
 
 
-def second_name(tally, stores):
+def test_second_name(tally, stores):
     """A store whose file has a second name is told as the database's fault."""
     with Stores(stores.program, stores) as copy:
         os.link(copy.path(0), os.path.join(copy.room, "other"))
         for verb in ("show", "upgrade"):
             touches_nothing(tally, f"second name: {verb}", copy, [verb, copy.path(0)], ("", "lynx: store: store\n", 4))
         tally.is_same("second name: run", copy.run("wake 0\n"), ("", "lynx: store 0: store\n", 4))
-
-
-def made(count, folder):
-    """Makes the stores of two servers, the first with so many entries: seeds of 1."""
-    os.makedirs(folder, exist_ok=True)
-    for server in (0, 1):
-        base = sqlite3.connect(os.path.join(folder, f"server-{server}.lynx"))
-        base.executescript(";".join(SCHEMA))
-        heads = ["lynx store 1", str(server), PAYMENT]
-        base.executemany("INSERT INTO meta VALUES(?, ?)", enumerate(heads, 1))
-        if server == 0 and count:
-            seeds = ((at, begun(at, 0, 1, at, [(0, at)], at + 1, [])) for at in range(count))
-            base.executemany("INSERT INTO entry VALUES(?, ?)", seeds)
-            base.execute("INSERT INTO cell VALUES(0, ?, ?)", (word(0), word(count)))
-        base.commit()
-        base.close()
-
-
-def program_in(folder):
-    """The built program."""
-    found = os.path.join(folder or os.path.join(TOP, "crates", "lynx", "out"), "lynx")
-    if not os.path.isfile(found):
-        sys.exit(f"there is no {found}: 'rt ci', or 'rt run' in crates/lynx, builds it")
-    return found
-
-
-def main(words):
-    if words and words[0] == "--make":
-        made(int(words[1]), words[2])
-        return 0
-    tally = Tally()
-    with Stores(program_in(words[0] if words else None)) as stores:
-        first_run(tally, stores)
-        shown(tally, stores, "first run")
-        copied(tally, stores)
-        read_only(tally, stores)
-        short_reads(tally, stores)
-        second_name(tally, stores)
-        emptied(tally, stores)
-        damages(tally, stores)
-        refusals(tally, stores)
-        written_by_hand(tally, stores)
-        second_run(tally, stores)
-        version_two(tally, stores)
-        upgraded(tally, stores)
-        faults(tally, stores)
-        flags(tally, stores)
-        locked(tally, stores)
-        killed(tally, stores)
-        no_databases(tally, stores)
-        half_made(tally, stores)
-        only_read(tally, stores)
-        pipes(tally, stores)
-        not_upgraded(tally, stores)
-        flipped(tally, stores)
-        hinted(tally, stores)
-    print(f"{tally.passed} passed, {tally.failed} failed")
-    return 1 if tally.failed or not tally.passed else 0
-
-
-if __name__ == "__main__":
-    sys.exit(main(sys.argv[1:]))

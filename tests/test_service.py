@@ -1,18 +1,13 @@
-#!/usr/bin/env python3
-"""tests/service [PROGRAM [PART..]]: how a `lynx serve` begins and how it ends: over one world of stores, at once when it is
-asked, whatever its clients do, and with its stores let go of before the last line. PROGRAM is crates/lynx/out/lynx if left
-out. The last line is 'N passed, M failed'.
-"""
+"""How a `lynx serve` begins and how it ends: over one world of stores, at once when it is asked, whatever its clients do, and with
+its stores let go of before the last line."""
 import os
 import resource
 import shutil
 import socket
 import subprocess
-import sys
 import time
 
-sys.path.insert(0, os.path.dirname(os.path.abspath(__file__)))
-from serving import PAYMENT, Line, Room, Service, Tally, end_of, free_port, program, wait_until  # noqa: E402
+from serving import PAYMENT, Line, Room, Service, end_of, free_port, wait_until
 
 SHUT, BYE = bytes.fromhex("0400000000"), bytes.fromhex("1300000000")
 LOOK = bytes.fromhex("020000000a0000000000000000000000")[:15]
@@ -50,9 +45,9 @@ def what_comes(line):
         return b""
 
 
-def at_once(tally, lynx):
+def test_at_once(tally, program):
     """A shut is seen before its stream is closed: who comes after it isn't served."""
-    with Room(PAYMENT) as room, Service(lynx, room) as service, service.connect() as shutter:
+    with Room(PAYMENT) as room, Service(program, room) as service, service.connect() as shutter:
         shutter.send(SHUT)
         tally.is_same("bye", shutter.item(), BYE)
         served = 0
@@ -68,14 +63,14 @@ def at_once(tally, lynx):
         tally.is_same("end at once", service.end(10), ("closed\norder -\n", "", 0))
 
 
-def no_handles(tally, lynx):
+def test_no_handles(tally, program):
     """A shut ends a service that has no file handle left."""
     def few():
         resource.setrlimit(resource.RLIMIT_NOFILE, (20, 20))
 
     with Room(PAYMENT) as room:
         port = free_port()
-        with subprocess.Popen([lynx, "serve", room.set, room.stores, str(port)], stdout=subprocess.PIPE,
+        with subprocess.Popen([program, "serve", room.set, room.stores, str(port)], stdout=subprocess.PIPE,
                               stderr=subprocess.PIPE, text=True, preexec_fn=few) as ran:
             ran.stdout.readline()
             lines = []
@@ -94,9 +89,9 @@ def no_handles(tally, lynx):
                 line.socket.close()
 
 
-def held_off(tally, lynx):
+def test_held_off(tally, program):
     """A client that goes on asking doesn't hold the end off for longer than ten seconds, and gets whole answers."""
-    with Room(PAYMENT) as room, Service(lynx, room) as service, service.connect() as line:
+    with Room(PAYMENT) as room, Service(program, room) as service, service.connect() as line:
         line.send(LOOK)
         tally.is_same("before the shut", line.item(), ABSENT)
         began = time.monotonic()
@@ -117,9 +112,9 @@ def held_off(tally, lynx):
         tally.is_same("end that was held off", service.end(10), ("closed\norder -\n", "", 0))
 
 
-def never_reads(tally, lynx):
+def test_never_reads(tally, program):
     """A client that takes no answers is hung up on ten seconds after the first byte that doesn't go."""
-    with Room(PAYMENT) as room, Service(lynx, room) as service:
+    with Room(PAYMENT) as room, Service(program, room) as service:
         with socket.socket() as greedy:
             greedy.setsockopt(socket.SOL_SOCKET, socket.SO_RCVBUF, 4096)
             greedy.connect(("127.0.0.1", service.port))
@@ -147,9 +142,9 @@ def kilobytes(ran):
         return sum(int(line.split()[1]) for line in file if line.startswith("Private_"))
 
 
-def many_connections(tally, lynx):
+def test_many_connections(tally, program):
     """Connections that come and go leave nothing behind."""
-    with Room(PAYMENT) as room, Service(lynx, room) as service:
+    with Room(PAYMENT) as room, Service(program, room) as service:
         def come_and_go(count):
             for _ in range(count):
                 with service.connect() as line:
@@ -165,14 +160,14 @@ def many_connections(tally, lynx):
         tally.is_same("end of connections", service.end(), ("closed\norder -\n", "", 0))
 
 
-def unread_end(tally, lynx):
+def test_unread_end(tally, program):
     """The stores are let go of before the last lines, which nobody may read."""
-    with Room(PAYMENT) as room, Service(lynx, room) as service:
+    with Room(PAYMENT) as room, Service(program, room) as service:
         pay(service, 0, 12_000)
         shut(service)
 
         def is_free():
-            return end_of([lynx, "show", room.store(0)])[2] == 0
+            return end_of([program, "show", room.store(0)])[2] == 0
 
         tally.holds("a store is free while the last line isn't read", wait_until(is_free, 60))
         tally.is_same("the service waits", service.ran.poll(), None)
@@ -187,20 +182,20 @@ def copied(room, name):
     return path
 
 
-def ended_at_once(lynx, room, folder, *more):
+def ended_at_once(program, room, folder, *more):
     """How a service ends that doesn't begin."""
-    return end_of([lynx, "serve", *more, room.set, folder, str(free_port())])
+    return end_of([program, "serve", *more, room.set, folder, str(free_port())])
 
 
-def worlds(tally, lynx):
+def test_worlds(tally, program):
     """Stores that no one run left together aren't served."""
     with Room(PAYMENT) as room:
-        with Service(lynx, room) as service:
+        with Service(program, room) as service:
             pay(service, 0, 3)
             shut(service)
             service.end()
         older = copied(room, "older")
-        with Service(lynx, room) as service:
+        with Service(program, room) as service:
             pay(service, 100, 3)
             shut(service)
             service.end()
@@ -211,8 +206,8 @@ def worlds(tally, lynx):
         for name in os.listdir(mixed):
             if name.startswith("server-0") and name not in os.listdir(older):
                 os.remove(os.path.join(mixed, name))
-        tally.is_same("an older copy", ended_at_once(lynx, room, mixed), ("", "lynx: close: mismatch\n", 4))
-        tally.is_same("an older copy, with hints", ended_at_once(lynx, room, mixed, "--hints"),
+        tally.is_same("an older copy", ended_at_once(program, room, mixed), ("", "lynx: close: mismatch\n", 4))
+        tally.is_same("an older copy, with hints", ended_at_once(program, room, mixed, "--hints"),
                       ("", "lynx: close: mismatch\n"
                        "  entry 3 of server 1, counted from 0, ran on a message that no store has sent: a store is older "
                        "than others, or of another run\n", 4))
@@ -221,8 +216,8 @@ def worlds(tally, lynx):
             if name.startswith("server-1"):
                 os.remove(os.path.join(lost, name))
         before = sorted(os.listdir(lost))
-        tally.is_same("a store that is lost", ended_at_once(lynx, room, lost), ("", "lynx: store 1: damaged\n", 4))
-        tally.is_same("a store that is lost, with hints", ended_at_once(lynx, room, lost, "--hints"),
+        tally.is_same("a store that is lost", ended_at_once(program, room, lost), ("", "lynx: store 1: damaged\n", 4))
+        tally.is_same("a store that is lost, with hints", ended_at_once(program, room, lost, "--hints"),
                       ("", "lynx: store 1: damaged\n"
                        "  there is no such store, and other servers of the folder have entries: put it back, or begin "
                        "with an empty folder; the stores of servers that a set adds are made by lynx extend\n", 4))
@@ -230,45 +225,29 @@ def worlds(tally, lynx):
         with Room(PAYMENT) as other:
             shutil.rmtree(other.stores)
             shutil.copytree(older, other.stores)
-            with Service(lynx, other) as service:
+            with Service(program, other) as service:
                 tally.is_same("the older folder as a whole", service.first, f"listening 127.0.0.1:{service.port}\n")
                 shut(service)
                 tally.is_same("its end", service.end(), ("closed\norder 0:0 0:1 0:2 0:3\n", "", 0))
 
 
-def no_port(tally, lynx):
+def test_no_port(tally, program):
     """No store is made where the port can't be had; stores without entries are gone on with where one is missing."""
     with Room(PAYMENT) as room, socket.socket() as taken:
         taken.bind(("127.0.0.1", 0))
         taken.listen()
-        ended = end_of([lynx, "serve", room.set, room.stores, str(taken.getsockname()[1])])
+        ended = end_of([program, "serve", room.set, room.stores, str(taken.getsockname()[1])])
         tally.is_same("a port that is taken", ended, ("", "lynx: cannot listen\n", 4))
         tally.is_same("no store is made", os.listdir(room.stores), [])
         absent = os.path.join(room.stores, "absent")
-        ended = end_of([lynx, "serve", room.set, absent, str(taken.getsockname()[1])])
+        ended = end_of([program, "serve", room.set, absent, str(taken.getsockname()[1])])
         tally.is_same("a folder that isn't there, and a port that is taken", ended, ("", "lynx: store 0: store\n", 4))
-        with Service(lynx, room) as service:
+        with Service(program, room) as service:
             shut(service)
             tally.is_same("a new folder", service.end(), ("closed\norder -\n", "", 0))
         for name in os.listdir(room.stores):
             if name.startswith("server-1"):
                 os.remove(os.path.join(room.stores, name))
-        with Service(lynx, room) as service:
+        with Service(program, room) as service:
             shut(service)
             tally.is_same("a folder without entries", service.end(), ("closed\norder -\n", "", 0))
-
-
-PARTS = (at_once, no_handles, held_off, never_reads, many_connections, unread_end, worlds, no_port)
-
-
-def main(words):
-    lynx = program(words[:1])
-    tally = Tally()
-    for part in PARTS:
-        if not words[1:] or part.__name__ in words[1:]:
-            part(tally, lynx)
-    return tally.end()
-
-
-if __name__ == "__main__":
-    sys.exit(main(sys.argv[1:]))

@@ -1,10 +1,6 @@
-#!/usr/bin/env python3
-"""tests/status [PROGRAM [PART..]]: what a service tells of itself: over HTTP while clients pay, in its log, and by the set that
-clients compare. PROGRAM is crates/lynx/out/lynx if left out. The last line is 'N passed, M failed'.
-
-What is wanted stands in docs/FORMATS.md; the metrics are read by a parser of Prometheus' text format that is written here, and
-compared with what the clients were answered.
-"""
+"""What a service tells of itself: over HTTP while clients pay, in its log, and by the set that clients compare. What is wanted
+stands in docs/FORMATS.md; the metrics are read by a parser of Prometheus' text format that is written here, and compared with
+what the clients were answered."""
 import collections
 import concurrent.futures
 import datetime
@@ -13,14 +9,11 @@ import json
 import os
 import re
 import socket
-import sys
 import threading
 import time
 
-sys.path.insert(0, os.path.dirname(os.path.abspath(__file__)))
-from serving import PAYMENT, Room, Service, Tally, WatchedService, end_of, free_port, program, wait_until  # noqa: E402
-
-import lynx as client  # noqa: E402
+from serving import PAYMENT, Room, Service, WatchedService, end_of, free_port, wait_until
+import lynx as client
 
 SEED, PAY = PAYMENT[PAYMENT.index("program seed"):PAYMENT.index("program pay")], PAYMENT[PAYMENT.index("program pay"):]
 TURNED = PAYMENT[:PAYMENT.index("program seed")] + PAY + SEED
@@ -107,10 +100,10 @@ def summed(samples, name, **labels):
     return sum(value for (own, has), value in samples.items() if own == name and wanted <= set(has))
 
 
-def paths(tally, lynx):
+def test_paths(tally, program):
     """Each path, and each way to be refused."""
     with Room(PAYMENT) as room:
-        with Watched(lynx, room) as service:
+        with Watched(program, room) as service:
             tally.is_same("the first line", service.first, f"listening 127.0.0.1:{service.port}\n")
             tally.is_same("the second", service.second, f"status 127.0.0.1:{service.status}\n")
             with open(os.path.join(room.stores, "service"), encoding="ascii") as file:
@@ -145,22 +138,22 @@ def paths(tally, lynx):
             tally.holds("nothing from elsewhere", not re.search(rb"""(src|href)\s*=\s*["']?(https?:)?//|@import|url\((?!#)""", body))
             client.Client(room.stores).shut()
             tally.is_same("its end", service.end(), ("closed\norder 0:0 0:1\n", "", 0))
-        tally.is_same("a port that is taken", taken(lynx, room), ("", "lynx: cannot listen for the status\n", 4))
+        tally.is_same("a port that is taken", taken(program, room), ("", "lynx: cannot listen for the status\n", 4))
 
 
-def taken(lynx, room):
+def taken(program, room):
     """What a service says whose port for the status is taken; it leaves no notice."""
     with socket.socket() as other:
         other.bind(("127.0.0.1", 0))
         other.listen()
-        ended = end_of([lynx, "serve", room.set, room.stores, str(free_port()), "--status", str(other.getsockname()[1])])
+        ended = end_of([program, "serve", room.set, room.stores, str(free_port()), "--status", str(other.getsockname()[1])])
         return ended if not os.path.exists(os.path.join(room.stores, "service")) else ("a notice is left", *ended)
 
 
-def broken(tally, lynx):
+def test_broken(tally, program):
     """Requests that are none, that stop halfway or are too long, and more connections than may watch."""
     with Room(PAYMENT) as room:
-        with Watched(lynx, room) as service:
+        with Watched(program, room) as service:
             for name, data in (("no request", b"\x00\x01\x02\r\n\r\n"), ("a request of clients", bytes.fromhex("010000001a") + bytes(26)),
                                ("no version", b"GET /healthz\r\n\r\n"), ("a long path", b"GET /" + b"x" * 70000 + b" HTTP/1.1\r\nhost: localhost\r\n\r\n"),
                                ("a long head", b"GET /healthz HTTP/1.1\r\nhost: localhost\r\nx: " + b"y" * 70000 + b"\r\n\r\n"),
@@ -228,11 +221,11 @@ def paying(folder, number, counts, lock, until):
             counts.update(own)
 
 
-def measured(tally, lynx):
+def test_measured(tally, program):
     """While 16 clients pay and all paths are asked: the figures rise, and in the end they are what clients were answered."""
     counts, lock = collections.Counter(), threading.Lock()
     with Room(PAYMENT) as room:
-        with Watched(lynx, room) as service:
+        with Watched(program, room) as service:
             until = time.monotonic() + 4
             with concurrent.futures.ThreadPoolExecutor(24) as pool:
                 clients = [pool.submit(paying, room.stores, number, counts, lock, until) for number in range(16)]
@@ -273,17 +266,17 @@ def measured(tally, lynx):
             tally.holds("bytes were told", summed(samples, "lynx_told_bytes") > 25 * fresh)
             tally.is_same("the build", [dict(labels)["set"] for name, labels in samples if name == "lynx_build_info"], [hash_of(PAYMENT)])
             tally.is_same("its version", [dict(labels)["version"] for name, labels in samples if name == "lynx_build_info"],
-                          [end_of([lynx, "--version"])[0].split()[1]])
+                          [end_of([program, "--version"])[0].split()[1]])
             tally.is_same("types", (types["lynx_entries"], types["lynx_begins_total"], types["lynx_commit_seconds"]), ("gauge", "counter", "histogram"))
             client.Client(room.stores).shut()
             tally.is_same("its end", service.end()[2], 0)
 
 
-def owed(tally, lynx):
+def test_owed(tally, program):
     """What is owed over a restart: hops of chains that an earlier service left count too, and are done."""
     with Room(PAYMENT) as room:
-        end_of([lynx, "run", "--stores", room.stores, room.set, room.file("script", "begin 0 1 1 seed 9\nbegin 0 1 2 pay 3\nbegin 0 1 3 pay 3\n")])
-        with Watched(lynx, room) as service:
+        end_of([program, "run", "--stores", room.stores, room.set, room.file("script", "begin 0 1 1 seed 9\nbegin 0 1 2 pay 3\nbegin 0 1 3 pay 3\n")])
+        with Watched(program, room) as service:
             def left():
                 return summed(metrics_in(service.get("/metrics")[2].decode())[0], "lynx_owed_hops")
             tally.holds("they are done", wait_until(lambda: left() == 0))
@@ -294,21 +287,21 @@ def owed(tally, lynx):
             service.end()
 
 
-def compared(tally, lynx):
+def test_compared(tally, program):
     """Clients compare their set with the one that is served."""
     with Room(PAYMENT) as room:
         turned, front = room.file("turned", TURNED), room.file("front", PAYMENT[:PAYMENT.index("program pay")])
-        with Watched(lynx, room) as service:
+        with Watched(program, room) as service:
             at = [str(service.port), "--status", str(service.status)]
-            tally.is_same("ask by the same set", end_of([lynx, "ask", room.set, *at], "begin 1 1 seed 5\n"),
+            tally.is_same("ask by the same set", end_of([program, "ask", room.set, *at], "begin 1 1 seed 5\n"),
                           ("begun 0:0 stamp 1 results -\n", "", 0))
-            tally.is_same("ask by one that it extends", end_of([lynx, "ask", front, *at], "begin 1 2 seed 5\n"),
+            tally.is_same("ask by one that it extends", end_of([program, "ask", front, *at], "begin 1 2 seed 5\n"),
                           ("begun 0:1 stamp 2 results -\n", "", 0))
-            tally.is_same("ask by another order", end_of([lynx, "ask", turned, *at], "begin 1 3 seed 5\n"), ("", "lynx: other-set\n", 4))
-            tally.is_same("ask by a folder", end_of([lynx, "ask", room.stores], "look 0:1 0\n"), ("found stamp 2 results -\n", "", 0))
-            tally.is_same("no status there", end_of([lynx, "ask", room.set, str(service.port), "--status", str(service.port)], ""), ("", "lynx: no status\n", 4))
-            tally.is_same("nobody there", end_of([lynx, "ask", room.set, str(service.port), "--status", str(free_port())], ""), ("", "lynx: cannot connect\n", 4))
-            tally.is_same("a folder has its own", end_of([lynx, "ask", room.stores, "--status", str(service.status)], ""),
+            tally.is_same("ask by another order", end_of([program, "ask", turned, *at], "begin 1 3 seed 5\n"), ("", "lynx: other-set\n", 4))
+            tally.is_same("ask by a folder", end_of([program, "ask", room.stores], "look 0:1 0\n"), ("found stamp 2 results -\n", "", 0))
+            tally.is_same("no status there", end_of([program, "ask", room.set, str(service.port), "--status", str(service.port)], ""), ("", "lynx: no status\n", 4))
+            tally.is_same("nobody there", end_of([program, "ask", room.set, str(service.port), "--status", str(free_port())], ""), ("", "lynx: cannot connect\n", 4))
+            tally.is_same("a folder has its own", end_of([program, "ask", room.stores, "--status", str(service.status)], ""),
                           ("", "lynx: --status wants SET and PORT\n", 2))
             tally.is_same("the set that is served", client.served_set(service.status), PAYMENT)
             tally.is_same("a client", client.Client(service.port, room.set, status=service.status, client=9).begin("seed", 1).results, [])
@@ -319,10 +312,10 @@ def compared(tally, lynx):
                 tally.is_same("a client of another order", fault.reason, "other-set")
             client.Client(room.stores).shut()
             tally.is_same("its end", service.end(), ("closed\norder 0:0 0:1 0:2\n", "", 0))
-        with Room(TURNED) as other, Watched(lynx, other) as service:
+        with Room(TURNED) as other, Watched(program, other) as service:
             with open(os.path.join(room.stores, "service"), "w", encoding="ascii") as file:
                 file.write(f"listening 127.0.0.1:{service.port}\nstatus 127.0.0.1:{service.status}\n--\n{PAYMENT}")
-            tally.is_same("what a kill left", end_of([lynx, "ask", room.stores], "begin 1 9 seed 5\n"), ("", "lynx: other-set\n", 4))
+            tally.is_same("what a kill left", end_of([program, "ask", room.stores], "begin 1 9 seed 5\n"), ("", "lynx: other-set\n", 4))
             try:
                 client.Client(room.stores, client=1, tries=2).begin("seed", 5)
                 tally.holds("a client by what a kill left", False)
@@ -344,10 +337,10 @@ def events_of(text):
     return found
 
 
-def logged(tally, lynx):
+def test_logged(tally, program):
     """The log: a line for each event, and none without it."""
     with Room(PAYMENT) as room:
-        with Watched(lynx, room, "--log") as service:
+        with Watched(program, room, "--log") as service:
             with client.Client(room.stores, client=1) as bank:
                 bank.begin("seed", 100)
                 bank.begin("pay", 30).wait(5)
@@ -364,7 +357,7 @@ def logged(tally, lynx):
             tally.is_same("clients", sum(it["event"] == "client" for it in events), 3)
             tally.is_same("why they went", sorted(it["reason"] for it in events if it["event"] == "gone"), ["no-frame", "quit", "shut"])
             tally.is_same("the end", [(it["event"], it.get("owed") or it.get("well")) for it in events[-2:]], [("closing", "0"), ("audited", "true")])
-        with Service(lynx, room) as service:
+        with Service(program, room) as service:
             client.Client(room.stores).shut()
             tally.is_same("no log", service.end()[1], "")
 
@@ -375,10 +368,10 @@ def ticks_of(pid):
     return int(fields[11]) + int(fields[12])
 
 
-def idle(tally, lynx):
+def test_idle(tally, program):
     """A service that is looked at each second and asked nothing else takes next to nothing of a processor."""
     with Room(PAYMENT) as room:
-        with Watched(lynx, room) as service:
+        with Watched(program, room) as service:
             time.sleep(2)
             before, began = ticks_of(service.ran.pid), time.monotonic()
             for _ in range(6):
@@ -389,18 +382,3 @@ def idle(tally, lynx):
             tally.holds("below 2 of 100, or 4 beside other work", took < 0.04)
             client.Client(room.stores).shut()
             service.end()
-
-
-PARTS = {part.__name__: part for part in (paths, broken, measured, owed, compared, logged, idle)}
-
-
-def main(words):
-    tally = Tally()
-    lynx = program(words)
-    for name in words[1:] or PARTS:
-        PARTS[name](tally, lynx)
-    return tally.end()
-
-
-if __name__ == "__main__":
-    sys.exit(main(sys.argv[1:]))

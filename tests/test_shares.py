@@ -1,19 +1,14 @@
-#!/usr/bin/env python3
-"""tests/shares [PROGRAM]: how those share a server who wait for it. Over two servers in a ring sixteen connections begin chains as
-fast as they are answered, and the other server's hops keep pace: little is owed when the last is answered, and nothing soon after.
-One connection floods a server, and fifteen others each get their share. And the worked payment is answered alike whether steps
-share a transaction of their store or have one each (`--sync-each`). PROGRAM is crates/lynx/out/lynx if left out. The last line is
-'N passed, M failed'.
-"""
-import os
+"""How those share a server who wait for it. Over two servers in a ring sixteen connections begin chains as fast as they are
+answered, and the other server's hops keep pace: little is owed when the last is answered, and nothing soon after. One
+connection floods a server, and fifteen others each get their share. And the worked payment is answered alike whether steps
+share a transaction of their store or have one each (`--sync-each`)."""
 import struct
-import sys
 import threading
 import time
 
-sys.path.insert(0, os.path.dirname(os.path.abspath(__file__)))
-from serving import PAYMENT, Line, Room, Service, Tally, WatchedService, owed, program, wait_until  # noqa: E402
-import lynx  # noqa: E402
+import pytest
+from serving import PAYMENT, Line, Room, Service, WatchedService, owed, wait_until
+import lynx
 
 RING = """lynx 1
 servers 2
@@ -74,9 +69,10 @@ class Caller(threading.Thread):
                 self.begun += isinstance(bank.begin("pay0"), lynx.Begun)
 
 
-def keep_pace(tally, built):
+@pytest.mark.alone
+def test_keep_pace(tally, program):
     """Chains of a ring settle as fast as they begin."""
-    with Room(RING) as room, WatchedService(built, room) as service:
+    with Room(RING) as room, WatchedService(program, room) as service:
         floods = [Flood(service.port, client, client % 2, BEGINS) for client in range(1, FLOODS + 1)]
         for flood in floods:
             flood.start()
@@ -91,9 +87,10 @@ def keep_pace(tally, built):
         tally.is_same("the order of all", (out[:13], out.count(":"), err, status), ("closed\norder ", FLOODS * BEGINS, "", 0))
 
 
-def share(tally, built):
+@pytest.mark.alone
+def test_share(tally, program):
     """Who floods a server takes no share of others."""
-    with Room(RING) as room, Service(built, room) as service:
+    with Room(RING) as room, Service(program, room) as service:
         flood = Flood(service.port, 99, 0, FLOODED)
         flood.start()
         callers = [Caller(service.port, room, client) for client in range(1, 16)]
@@ -109,10 +106,10 @@ def share(tally, built):
         tally.is_same("closed", service.end()[1:], ("", 0))
 
 
-def pay_alike(tally, built):
+def test_pay_alike(tally, program):
     """The worked payment, with and without a transaction for each step."""
     for words in ([], ["--sync-each"]):
-        with Room(PAYMENT) as room, Service(built, room, words=words) as service:
+        with Room(PAYMENT) as room, Service(program, room, words=words) as service:
             with lynx.Client(service.port, room.set, client=1) as bank:
                 seeded, paid = bank.begin("seed", 100), bank.begin("pay", 30)
                 refused, again = bank.begin("pay", 1000), bank.begin("pay", 30, number=paid.number)
@@ -124,16 +121,3 @@ def pay_alike(tally, built):
             tally.is_same(f"refusal {words}", (type(refused), again.again), (lynx.Refused, True))
             tally.holds(f"the payment arrives {words}", found)
             tally.is_same(f"end {words}", (out, err, status), ("closed\norder 0:0 0:1\n", "", 0))
-
-
-def main(words):
-    built = program(words)
-    tally = Tally()
-    pay_alike(tally, built)
-    keep_pace(tally, built)
-    share(tally, built)
-    return tally.end()
-
-
-if __name__ == "__main__":
-    sys.exit(main(sys.argv[1:]))

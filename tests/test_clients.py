@@ -1,10 +1,6 @@
-#!/usr/bin/env python3
-"""tests/clients [PROGRAM]: clients at a running `lynx serve`: by single bytes, by `lynx ask`, by clients/python/lynx.py over
-connections that are lost on purpose, and the example of a service, in a browser too. PROGRAM is crates/lynx/out/lynx if left
-out. The last line is 'N passed, M failed'.
-
-The bytes and lines that are wanted are spelled here from docs/FORMATS.md, apart from the program.
-"""
+"""Clients at a running `lynx serve`: by single bytes, by `lynx ask`, by clients/python/lynx.py over connections that are lost on
+purpose, and the example of a service, in a browser too. The bytes and lines that are wanted are spelled here from
+docs/FORMATS.md, apart from the program."""
 import contextlib
 import io
 import json
@@ -21,10 +17,8 @@ import threading
 import time
 import urllib.request
 
-sys.path.insert(0, os.path.dirname(os.path.abspath(__file__)))
-from interpreter import go_on_with  # noqa: E402
-from serving import PAYMENT, TOP, Line, Room, Service, Tally, bound_by_modes, end_of, free_port, program, wait_until  # noqa: E402
-import lynx  # noqa: E402
+from serving import PAYMENT, TOP, Room, Service, bound_by_modes, end_of, free_port, wait_until
+import lynx
 
 # A set that offends: each of two payments can come before the other.
 OFFENDING = PAYMENT + """program back n
@@ -80,7 +74,7 @@ def shut(service):
         return line.rest()
 
 
-def worked(tally, program):
+def test_worked(tally, program):
     """The worked connection, whole, byte by byte and cut in two connections; then the service ends and goes on."""
     with Room(PAYMENT) as room:
         with Service(program, room) as service:
@@ -109,7 +103,7 @@ def worked(tally, program):
             tally.is_same("its end", service.end(), ("closed\norder 0:0\n", "", 0))
 
 
-def cut(tally, program):
+def test_cut(tally, program):
     """A connection that is cut after each byte of a request: the request was done once, or not yet."""
     with Room(PAYMENT) as room, Service(program, room) as service:
         for length in range(len(SEED) + 1):
@@ -124,7 +118,7 @@ def cut(tally, program):
         tally.is_same("end of cuts", service.end(), ("closed\norder 0:0\n", "", 0))
 
 
-def no_frames(tally, program):
+def test_no_frames(tally, program):
     """What is no frame ends its connection without an answer, and no other one; frames before it are answered."""
     with Room(PAYMENT) as room, Service(program, room) as service, service.connect() as other:
         other.send(SEED)
@@ -149,7 +143,7 @@ def no_frames(tally, program):
         tally.is_same("end of no frames", service.end(), ("closed\norder 0:0\n", "", 0))
 
 
-def many(tally, program):
+def test_many(tally, program):
     """Sixty-four clients at a time; a further one is hung up on at once, until one leaves."""
     with Room(PAYMENT) as room, Service(program, room) as service:
         lines = [service.connect() for _ in range(64)]
@@ -182,7 +176,7 @@ def many(tally, program):
             line.socket.close()
 
 
-def silent(tally, program):
+def test_silent(tally, program):
     """Neither a silent client, nor one in the middle of a frame, nor one that reads nothing holds the end up."""
     with Room(PAYMENT) as room, Service(program, room) as service:
         idle, half, deaf = service.connect(), service.connect(), service.connect()
@@ -204,7 +198,7 @@ def silent(tally, program):
             line.socket.close()
 
 
-def faults(tally, program):
+def test_faults(tally, program):
     """What is told where a service can't begin, with nothing half made."""
     with Room(PAYMENT) as room:
         words = [program, "serve", room.set, room.stores]
@@ -245,7 +239,7 @@ def faults(tally, program):
         tally.is_same("a broken store", (out, err[:14], status), ("", "lynx: store 1:", 4))
 
 
-def locked(tally, program):
+def test_locked(tally, program):
     """A second service over the same stores is refused."""
     with Room(PAYMENT) as room, Service(program, room) as service:
         tally.is_same("a second service at the stores", end_of([program, "serve", room.set, room.stores, str(free_port())]),
@@ -254,7 +248,7 @@ def locked(tally, program):
         tally.is_same("the first ends", service.end(), ("closed\norder -\n", "", 0))
 
 
-def causes(tally, program):
+def test_causes(tally, program):
     """Why a store or a port can't be had, where hints are asked for: the fault stays, and nothing is made."""
     with Room(PAYMENT) as room:
         port = free_port()
@@ -391,7 +385,7 @@ ARG_COUNT_HINT = """  standard input:1: begin 1 4 pay 1 2
 """
 
 
-def asked(tally, program):
+def test_asked(tally, program):
     """Lines of a shell: a faulty one is told, and the next one is asked."""
     with Room(PAYMENT) as room, Service(program, room) as service:
         words = [program, "ask", room.set, str(service.port)]
@@ -420,7 +414,7 @@ def asked(tally, program):
                       ("", f"lynx: cannot connect\n  127.0.0.1:{service.port}: Connection refused (os error 111)\n", 4))
 
 
-def waited(tally, program):
+def test_waited(tally, program):
     """A look that waits is answered once the hop is done, and after ten seconds where it isn't."""
     with Room(PAYMENT) as room, Service(program, room) as service:
         words = [program, "ask", room.set, str(service.port)]
@@ -446,7 +440,7 @@ def waited(tally, program):
         service.end()
 
 
-def at_a_terminal(tally, program):
+def test_at_a_terminal(tally, program):
     """At a terminal a faulty line is told with its hints, and the next one is asked."""
     with Room(PAYMENT) as room, Service(program, room) as service:
         near, far = pty.openpty()
@@ -512,7 +506,7 @@ class Cutter:
             it.close()
 
 
-def lost(tally, program):
+def test_lost(tally, program):
     """Payments of four clients at once round a ring, over connections that are cut: each is done once, and the sum stands."""
     with Room(RING) as room, Service(program, room) as service:
         cutter = Cutter(service.port, 11)
@@ -556,7 +550,7 @@ def lost(tally, program):
             tally.is_same(f"sum at server {server}", total, (moved[server - 1] - moved[server]) % 2 ** 64)
 
 
-def typed(tally, program):
+def test_typed(tally, program):
     """What the Python client gives and raises."""
     text = "program sum a\nhop 0\nget x t a\nlet s x + a\nget y t s\nend\n"
     tally.is_same("names of results", lynx.programs_of(text)["sum"].names, ("x", "s", "y"))
@@ -628,7 +622,7 @@ def answered_by(data, ask):
         return got
 
 
-def strange_services(tally, _program):
+def test_strange_services(tally):
     """What the Python client makes of answers that no service gives, and of byes that don't come."""
     begun = bytes.fromhex("00" "00" "0000000000000000" "0000000000000001" "00" "00")
     whole = b"\x11" + len(begun).to_bytes(4, "big") + begun
@@ -641,7 +635,7 @@ def strange_services(tally, _program):
     tally.is_same("bye lost", answered_by(b"", lambda bank: bank.shut()), (lynx.ByeLost, None))
 
 
-def second_version(tally, program):
+def test_second_version(tally, program):
     """A service of a set of version 2: an argument outside its range is told, and what was begun is there when it goes on."""
     ranged = PAYMENT.replace("lynx 1", "lynx 2").replace("program seed n\n", "program seed n\nrange n 0..999\n")
     with Room(ranged) as room:
@@ -664,7 +658,7 @@ def second_version(tally, program):
             tally.is_same("second end of version 2", service.end(), ("closed\norder 0:0\n", "", 0))
 
 
-def upgraded(tally, program):
+def test_upgraded(tally, program):
     """A service goes on over upgraded stores: stop, upgrade, serve the set of version 2."""
     with Room(PAYMENT) as room:
         with Service(program, room) as service:
@@ -699,7 +693,7 @@ def page(port, path, data=None, key=None):
         return fault.code, fault.read().decode()
 
 
-def documented(tally, program):
+def test_documented(tally, program):
     """The model of docs/SCALE.md, and the dozen lines of docs/CLIENTS.md."""
     with open(os.path.join(TOP, "docs", "SCALE.md")) as page:
         code, _, behind = page.read().partition("```python\n")[2].partition("```")
@@ -761,7 +755,7 @@ def clicked(tally, port, room):
         click("#slow")
 
 
-def example(tally, program):
+def test_example(tally, program):
     """The example of a payment service, by HTTP and in a browser."""
     with Room(PAYMENT) as room:
         port = free_port()
@@ -807,22 +801,3 @@ def example(tally, program):
             if ran.poll() is None:
                 ran.kill()
             ran.communicate()
-
-
-PARTS = [documented, worked, cut, no_frames, many, silent, faults, locked, causes, asked, waited, at_a_terminal, typed, strange_services, second_version, upgraded, lost, example]
-
-
-def main(words):
-    lynx_program = program(words)
-    wanted = words[1:]
-    if not wanted or "example" in wanted:
-        go_on_with("selenium")
-    tally = Tally()
-    for part in PARTS:
-        if not wanted or part.__name__ in wanted:
-            part(tally, lynx_program)
-    return tally.end()
-
-
-if __name__ == "__main__":
-    sys.exit(main(sys.argv[1:]))

@@ -1,8 +1,5 @@
-#!/usr/bin/env python3
-"""tests/system [PROGRAM [PART..]]: the built program where the system refuses it something: memory, stack, streams, files, words,
-signals. PROGRAM is crates/lynx/out/lynx if left out. Whatever is refused, it ends with a status of its own and one line, never
-with half a line, a trace or a signal that nobody sent. The last line is 'N passed, M failed'.
-"""
+"""The program where the system refuses it something: memory, stack, streams, files, words, signals. Whatever is refused, it ends
+with a status of its own and one line, never with half a line, a trace or a signal that nobody sent."""
 import collections
 import os
 import re
@@ -10,12 +7,10 @@ import resource
 import signal
 import socket
 import subprocess
-import sys
 import time
 
-sys.path.insert(0, os.path.dirname(os.path.abspath(__file__)))
-from serving import TOP, Room, Service, Tally, bound_by_modes, end_of, free_port, program, wait_until  # noqa: E402
-import lynx  # noqa: E402
+from serving import TOP, Room, Service, bound_by_modes, free_port
+import lynx
 
 # The part of a program's start that is the system's: less address space than this, and the loader says so in words of its own.
 LEAST_SPACE = 6 << 20
@@ -67,7 +62,7 @@ def jobs(room):
             "run -": (["run", "-"], (PAYMENT + "--\n" + SCRIPT).encode(), LINES, 0)}
 
 
-def memory(tally, program):
+def test_memory(tally, program):
     """Address space from the least that the system's loader needs, in small steps, to what is ample."""
     with Room(PAYMENT) as room:
         for name, (words, given, wanted, done) in jobs(room).items():
@@ -83,7 +78,7 @@ def memory(tally, program):
             tally.holds(f"{name} is done where memory is ample ({refused} refused, {whole} done)", whole >= 2)
 
 
-def memory_of_service(tally, program):
+def test_memory_of_service(tally, program):
     """A service in little memory: it doesn't begin, with a line that says why, or it serves."""
     for space in (8 << 20, 12 << 20, 24 << 20, 48 << 20, 96 << 20, 1 << 30):
         with Room(PAYMENT) as room:
@@ -124,7 +119,7 @@ def memory_of_service(tally, program):
                     (ran.returncode in (3, 4) and err.startswith("lynx: ") and err.count("\n") == 1) or ran.returncode == LOADER_STATUS))
 
 
-def stack(tally, program):
+def test_stack(tally, program):
     """Small stacks: what fits in a quarter of a megabyte is done; a program that is proved may still run out of less."""
     with Room(PAYMENT) as room:
         for name, (words, given, wanted, done) in jobs(room).items():
@@ -133,7 +128,7 @@ def stack(tally, program):
                 tally.is_same(f"{name} in a stack of {kib} KiB", (out, err, status), (wanted, "", done))
 
 
-def handles(tally, program):
+def test_handles(tally, program):
     """Few file handles: what can't be opened is told."""
     with Room(PAYMENT) as room:
         for count in (3, 4, 5, 6, 8):
@@ -146,7 +141,7 @@ def handles(tally, program):
                 tally.holds(f"serve with {count} handles: {status} {err!r}", status == LOADER_STATUS or (out, status) == ("", 4) and err.count("\n") == 1)
 
 
-def streams(tally, program):
+def test_streams(tally, program):
     """Closed and full streams, and readers that go."""
     with Room(PAYMENT) as room:
         for name, (words, given, wanted, done) in jobs(room).items():
@@ -168,7 +163,7 @@ def streams(tally, program):
         tally.is_same("shown after it", ended([program, "show", room.store(0)]), ("server 0\nentries 0\n", "", 0))
 
 
-def files(tally, program):
+def test_files(tally, program):
     """What is no plain file."""
     with Room(PAYMENT) as room:
         unread = lambda path: ("", f"lynx: cannot read {path}\n", 4)  # noqa: E731
@@ -198,7 +193,7 @@ def files(tally, program):
         tally.holds(f"a cut database: {err!r}", (out, status) == ("", 4) and err in ("lynx: store: store\n", "lynx: store: damaged\n"))
 
 
-def lengths(tally, program):
+def test_lengths(tally, program):
     """Texts of 65,536 and of 65,537 bytes."""
     with Room(PAYMENT) as room:
         names = []
@@ -218,7 +213,7 @@ def lengths(tally, program):
             tally.is_same(f"a set of {wanted} bytes", ended([program, "check", room.file(f"set{wanted}", "x" * wanted)]), ("", line, 2))
 
 
-def words(tally, program):
+def test_words(tally, program):
     """Words that are no words."""
     for given in ([b"\xff"], [b"check", b"\xff"], [b"check", b"a\xc3"], [b"serve", b"set", b"\xfe", b"7"]):
         tally.is_same(f"words {given}", ended([program.encode()] + given), ("", "lynx: a word is not UTF-8\n", 2))
@@ -253,7 +248,7 @@ def tell_words(tally, program):
         tally.holds(f"help tells of {command}", re.search(rf"(?m)^  {command} +\w", commands))
 
 
-def signals(tally, program):
+def test_signals(tally, program):
     """A service that is told to end by a signal ends; what it answered is there when it is started again."""
     for sent in (signal.SIGINT, signal.SIGTERM, signal.SIGHUP, signal.SIGKILL):
         if sent != signal.SIGKILL:
@@ -279,7 +274,7 @@ def signals(tally, program):
         tally.is_same("end after a pause", service.end(), ("closed\norder 0:0\n", "", 0))
 
 
-def full_disk(tally, program):
+def test_full_disk(tally, program):
     """A store that can't grow: its server stops, says so, and after a restart what it answered is there."""
     with Room(PAYMENT) as room:
         def limit():
@@ -311,19 +306,3 @@ def full_disk(tally, program):
             tally.is_same("answers after it", [(it.chain, it.stamp, it.again) for it in found], [(it.chain, it.stamp, True) for it in told])
             bank.shut()
             tally.is_same("end after a full store", service.end()[1:], ("", 0))
-
-
-PARTS = [memory, memory_of_service, stack, handles, streams, files, lengths, words, signals, full_disk]
-
-
-def main(given):
-    built = program(given)
-    tally = Tally()
-    for part in PARTS:
-        if not given[1:] or part.__name__ in given[1:]:
-            part(tally, built)
-    return tally.end()
-
-
-if __name__ == "__main__":
-    sys.exit(main(sys.argv[1:]))

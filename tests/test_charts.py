@@ -1,21 +1,16 @@
-#!/usr/bin/env python3
-"""tests/charts [PROGRAM]: draws the runs of tests/cases/charts and runs of two, four and sixteen servers, and looks where the
-shapes are: each chart is read by an XML parser, no two boxes meet, and no arrow goes through a box. As a headless Chromium
-draws it, each box has to stand below the head of the server whose entry it is, entries of later stamps lower. The last line is
-'N passed, M failed'."""
+"""Where the shapes of charts stand: the runs of tests/cases/charts, and runs of two, four and sixteen servers. Each chart is read
+by an XML parser, no two boxes meet, and no arrow goes through a box. As a headless Chromium draws it, each box has to stand
+below the head of the server whose entry it is, entries of later stamps lower."""
+import functools
 import os
 import random
 import re
-import shutil
 import subprocess
-import sys
-import tempfile
 import xml.etree.ElementTree as ElementTree
 
-TOP = os.path.dirname(os.path.dirname(os.path.abspath(__file__)))
-sys.path.insert(0, os.path.join(TOP, "tests"))
-sys.dont_write_bytecode = True
+import pytest
 import reference
+from serving import TOP
 
 SVG = "{http://www.w3.org/2000/svg}"
 PAGE = """<!DOCTYPE html><meta charset="ascii"><body style="margin:0">%s<pre id="told"></pre><script>
@@ -57,15 +52,24 @@ def random_run(seed, servers, count):
     return text, "".join(line + "\n" for line in script)
 
 
+def stored_run(stem):
+    """The set and the script of a case."""
+    return tuple(read(stem + part) for part in (".set", ".script"))
+
+
+def read(path):
+    with open(path, encoding="ascii") as file:
+        return file.read()
+
+
 def runs():
-    """The names, sets and scripts of all runs."""
+    """The names of all runs, each with what makes its set and its script."""
     folder = os.path.join(TOP, "tests", "cases", "charts")
     for name in sorted(os.listdir(folder)):
         if name.endswith(".script"):
-            paths = [os.path.join(folder, name[:-7] + part) for part in (".set", ".script")]
-            yield name[:-7], *(open(path, encoding="ascii").read() for path in paths)
+            yield name[:-7], functools.partial(stored_run, os.path.join(folder, name[:-7]))
     for servers, count in ((2, 12), (2, 40), (4, 40), (4, 120), (16, 40), (16, 200)):
-        yield f"{count} events of {servers} servers", *random_run(servers, servers, count)
+        yield f"{count} events of {servers} servers", functools.partial(random_run, servers, servers, count)
 
 
 def boxes_of(chart):
@@ -121,15 +125,13 @@ def servers_of(set_text, script):
     return found
 
 
-def seen_faults(browser, text, set_text, script):
+def seen_faults(browser, room, text, set_text, script):
     """What is wrong with the places of boxes as a browser draws them."""
-    with tempfile.TemporaryDirectory() as room:
-        page = os.path.join(room, "page.html")
-        with open(page, "w", encoding="ascii") as file:
-            file.write(PAGE % text)
-        words = [browser, "--headless", "--no-sandbox", "--disable-gpu", f"--user-data-dir={room}/data", "--dump-dom",
-                 f"file://{page}"]
-        ran = subprocess.run(words, stdin=subprocess.DEVNULL, capture_output=True, text=True, timeout=120)
+    page = room / "page.html"
+    page.write_text(PAGE % text, encoding="ascii")
+    words = [browser, "--headless", "--no-sandbox", "--disable-gpu", f"--user-data-dir={room}/data", "--dump-dom",
+             f"file://{page}"]
+    ran = subprocess.run(words, stdin=subprocess.DEVNULL, capture_output=True, text=True, timeout=120)
     told = re.search(r'<pre id="told">(.*?)</pre>', ran.stdout, re.S)
     if not told:
         yield f"the browser told nothing: {ran.stderr[-300:]}"
@@ -151,33 +153,14 @@ def seen_faults(browser, text, set_text, script):
         yield "rows aren't the stamps in order"
 
 
-def draw(program, set_text, script):
-    with tempfile.TemporaryDirectory() as room:
-        paths = [os.path.join(room, name) for name in ("set", "script")]
-        for path, content in zip(paths, (set_text, script)):
-            with open(path, "w", encoding="ascii") as file:
-                file.write(content)
-        return subprocess.run([program, "draw", *paths], stdin=subprocess.DEVNULL, capture_output=True, text=True, timeout=60)
-
-
-def main(words):
-    program = os.path.abspath(words[0]) if words else os.path.join(TOP, "crates", "lynx", "out", "lynx")
-    browser = shutil.which("chromium")
-    if not browser:
-        print("== chromium isn't installed: tests/setup installs it\n0 passed, 1 failed")
-        return 1
-    passed = failed = 0
-    for name, set_text, script in runs():
-        ran = draw(program, set_text, script)
-        faults = [ran.stderr] if ran.returncode > 1 or ran.stderr else list(faults_of(ran.stdout))
-        if not faults:
-            faults = list(seen_faults(browser, ran.stdout, set_text, script))
-        passed, failed = passed + (not faults), failed + bool(faults)
-        for fault in faults:
-            print(f"== {name}: {fault}")
-    print(f"{passed} passed, {failed} failed")
-    return 1 if failed or not passed else 0
-
-
-if __name__ == "__main__":
-    sys.exit(main(sys.argv[1:]))
+@pytest.mark.parametrize("made", [pytest.param(made, id=name) for name, made in runs()])
+def test_places(program, chromium, tmp_path, made):
+    """Nothing of a chart meets, and a browser puts each box where it belongs."""
+    set_text, script = made()
+    paths = [tmp_path / name for name in ("set", "script")]
+    for path, content in zip(paths, (set_text, script)):
+        path.write_text(content, encoding="ascii")
+    ran = subprocess.run([program, "draw", *paths], stdin=subprocess.DEVNULL, capture_output=True, text=True, timeout=60)
+    assert ran.returncode <= 1 and ran.stderr == ""
+    assert list(faults_of(ran.stdout)) == []
+    assert list(seen_faults(chromium, tmp_path, ran.stdout, set_text, script)) == []

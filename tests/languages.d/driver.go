@@ -1,4 +1,4 @@
-// What tests/languages asks of clients/go/lynx: lines in, a line out for each.
+// What tests/test_languages.py asks of clients/go/lynx: lines in, a line out for each.
 //
 //	driver folder FOLDER CLIENT TRIES TIMEOUT
 //	driver port PORT SET CLIENT TRIES TIMEOUT

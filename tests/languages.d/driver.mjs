@@ -1,4 +1,4 @@
-// What tests/languages asks of clients/javascript/lynx.mjs: lines in, a line out for each.
+// What tests/test_languages.py asks of clients/javascript/lynx.mjs: lines in, a line out for each.
 //
 //     driver.mjs folder FOLDER CLIENT TRIES TIMEOUT
 //     driver.mjs port PORT SET CLIENT TRIES TIMEOUT

@@ -1,11 +1,6 @@
-#!/usr/bin/env python3
-"""tests/languages [PROGRAM [PART..]]: the clients in JavaScript and in Go, by the bytes of connections that are played to
-them, and over a `lynx serve` that runs, is killed, or serves another set. PROGRAM is crates/lynx/out/lynx if left out. A tool
-of a language that isn't installed is a failure. The last line is 'N passed, M failed'.
-
-Each client is asked by a small program of its language in tests/languages.d, which takes lines and answers each with one.
-The bytes that are wanted are those of docs/CLIENTS.md, which are asked of the service too.
-"""
+"""The clients in JavaScript and in Go, by the bytes of connections that are played to them, and over a `lynx serve` that runs, is
+killed, or serves another set. Each client is asked by a small program of its language in tests/languages.d, which takes lines
+and answers each with one. The bytes that are wanted are those of docs/CLIENTS.md, which are asked of the service too."""
 import os
 import random
 import re
@@ -13,15 +8,13 @@ import shutil
 import socket
 import struct
 import subprocess
-import sys
-import tempfile
 import textwrap
 import threading
 import time
 
-sys.path.insert(0, os.path.dirname(os.path.abspath(__file__)))
-from serving import PAYMENT, TOP, Room, Service, Tally, WatchedService, end_of, free_port, program  # noqa: E402
-import lynx as python_client  # noqa: E402
+import pytest
+from serving import PAYMENT, TOP, Room, Service, WatchedService, end_of, free_port
+import lynx as python_client
 
 LOOKING = "program look\nhop 0\nget x acct 0\nend\n"
 
@@ -161,7 +154,79 @@ def begun(chain, stamp, results, number, named="-", again="false"):
     return f"begun {chain} stamp {stamp} results {results} again {again} number {number} named {named}"
 
 
-def worked(tally, language, lynx):
+class Python:
+    """The client that the others are like: of it only the lines of docs/CLIENTS.md are tried here."""
+    tool, name, prints = "python3", "Python", "100\n[[100], []]\n"
+
+    def __init__(self, _folder):
+        self.words = None
+
+    def shown(self, lines, _folder):
+        return ["env", "PYTHONPATH=" + os.path.join(TOP, "clients", "python"), "python3", "-c", lines]
+
+
+class JavaScript:
+    tool, name, prints = "node", "JavaScript", "100n\n[ [ 100n ], [] ]\n"
+
+    def __init__(self, _folder):
+        self.words = ["node", os.path.join(TOP, "tests", "languages.d", "driver.mjs")]
+
+    def shown(self, lines, folder):
+        shutil.copy(os.path.join(TOP, "clients", "javascript", "lynx.mjs"), folder)
+        with open(os.path.join(folder, "five.mjs"), "w", encoding="utf-8") as file:
+            file.write(lines)
+        return ["node", "five.mjs"]
+
+
+class Go:
+    tool, name, prints = "go", "Go", "100\n[[100] []]\n"
+    source = os.path.join(TOP, "clients", "go", "lynx")
+
+    def __init__(self, folder):
+        self.folder, self.words = folder, [os.path.join(folder, "driver")]
+        self.env = {**os.environ, "GOPROXY": "off", "GOFLAGS": "-mod=mod", "GO111MODULE": "on"}
+        if "HOME" not in os.environ:
+            self.env["GOCACHE"] = os.path.join(folder, "cache")
+        shutil.copy(os.path.join(TOP, "tests", "languages.d", "driver.go"), folder)
+        self.file("go.mod", f"module driver\n\ngo 1.19\n\nrequire lynx v0.0.0\n\nreplace lynx => {self.source}\n")
+        self.built = self.go("build", "-o", "driver", ".")
+
+    def go(self, *words):
+        return end_of(["go", *words], cwd=self.folder, env=self.env)
+
+    def file(self, name, text):
+        with open(os.path.join(self.folder, name), "w", encoding="utf-8") as file:
+            file.write(text)
+
+    def shown(self, lines, _folder):
+        os.makedirs(os.path.join(self.folder, "five"), exist_ok=True)
+        imports = 'import (\n"fmt"\n"lynx"\n"time"\n)\n'
+        self.file(os.path.join("five", "main.go"), f"package main\n{imports}func main() {{\n{lines}if err != nil {{\npanic(err)\n}}\n}}\n")
+        self.go("build", "-o", "five/five", "./five")
+        return [os.path.join(self.folder, "five", "five")]
+
+
+@pytest.fixture(scope="module", params=[JavaScript, Go], ids=lambda it: it.name)
+def language(request, tmp_path_factory):
+    """A client's language, with its driver built."""
+    return made_in(request.param, tmp_path_factory)
+
+
+def made_in(kind, tmp_path_factory):
+    if not shutil.which(kind.tool):
+        pytest.fail(f"{kind.tool} isn't installed: tests/setup installs it", pytrace=False)
+    return kind(str(tmp_path_factory.mktemp(kind.name)))
+
+
+def test_go_tools(tally, tmp_path_factory):
+    """The client in Go and its driver are built without a word, and are as its tools want them."""
+    made = made_in(Go, tmp_path_factory)
+    tally.is_same("go build", made.built, ("", "", 0))
+    tally.is_same("go vet", made.go("vet", ".", "lynx"), ("", "", 0))
+    tally.is_same("gofmt", end_of(["gofmt", "-l", made.source, made.folder]), ("", "", 0))
+
+
+def test_worked(tally, language, program):
     """The worked connection to the byte, to a listener that plays it and to the service."""
     asked, answers = worked_bytes()
     lines = ("begin 1 seed 100", "begin 1 seed 100", "begin 1 seed 99", "begin 2 pay 101", "look 0:0 0 0", "look 0:1 0 0", "close")
@@ -170,12 +235,12 @@ def worked(tally, language, lynx):
     told, sent = played(language, [answers], *lines)
     tally.is_same("what it is told", told, wanted)
     tally.is_same("what it sends", [it.hex() for it in sent], [it.hex() for it in asked])
-    with Room(PAYMENT) as room, Service(lynx, room) as service, service.connect() as line:
+    with Room(PAYMENT) as room, Service(program, room) as service, service.connect() as line:
         line.send(b"".join(asked))
         tally.is_same("what the service sends", line.rest().hex(), b"".join(answers).hex())
 
 
-def answers_of_each_kind(tally, language, _lynx):
+def test_answers_of_each_kind(tally, language):
     """Each kind of answer, the greatest numbers, and names of results."""
     kinds = {1: "Clash clash", 2: "Wrong unknown-program", 3: "Wrong wrong-origin", 4: "Wrong arg-count", 5: "Wrong wrong-shard",
              6: "Full full", 7: "Busy busy", 9: "Stopped stopped", 10: "Wanting memory", 11: "Outside outside-range",
@@ -191,7 +256,7 @@ def answers_of_each_kind(tally, language, _lynx):
     tally.is_same("greatest numbers sent", [it.hex() for it in sent], [f"010000001a{ones}{ones}0201{ones}"])
 
 
-def lost(tally, language, _lynx):
+def test_lost(tally, language):
     """Connections that are cut, and answers that no service gives."""
     lines = "begin - seed 1", "begin - seed 1"
     told, sent = played(language, [[b""], [WHOLE[:7]], [WHOLE, b""], [WHOLE]], *lines, tries=3)
@@ -212,9 +277,9 @@ def lost(tally, language, _lynx):
         tally.holds("two tries of a second", 2 <= time.monotonic() - began < 6)
 
 
-def cut(tally, language, lynx):
+def test_cut(tally, language, program):
     """Forty payments over connections that are cut again and again: each is made once."""
-    with Room(PAYMENT + LOOKING) as room, Service(lynx, room) as service:
+    with Room(PAYMENT + LOOKING) as room, Service(program, room) as service:
         way = Cut(service.port)
         with python_client.Client(room.stores) as bank:
             bank.begin("seed", 1000)
@@ -228,9 +293,9 @@ def cut(tally, language, lynx):
         tally.is_same("the end", service.end()[1:], ("", 0))
 
 
-def running(tally, language, lynx):
+def test_running(tally, language, program):
     """A service that runs: seeds, payments, names, waits, a refusal, and old numbers."""
-    with Room(NAMED) as room, Service(lynx, room) as service:
+    with Room(NAMED) as room, Service(program, room) as service:
         with Driver(language, "folder", room.stores, 1, 5, 10) as bank:
             tally.is_same("opened", bank.first, "opened")
             tally.is_same("paid", bank.ask("begin - seed 100", "begin - pay 30", "wait 20", "settle 20", "look 0:1 0 0", "look 0:9 0 0"),
@@ -250,19 +315,19 @@ def running(tally, language, lynx):
         tally.is_same("end of it", service.end(), ("closed\norder " + " ".join(f"0:{it}" for it in range(10)) + "\n", "", 0))
 
 
-def killed(tally, language, lynx):
+def test_killed(tally, language, program):
     """A service that is killed, given a set that extends its own, and begun again at another port: its client goes on."""
     with Room(PAYMENT) as room:
         grown = room.file("grown", PAYMENT + LOOKING)
-        with Service(lynx, room) as service:
+        with Service(program, room) as service:
             with Driver(language, "folder", room.stores, 1, 60, 10) as bank:
                 tally.is_same("before", bank.ask("begin - seed 100", "begin - pay 30"),
                               [begun("0:0", 1, "-", 1), begun("0:1", 2, "100", 2, "x=100")])
                 service.kill()
-                tally.is_same("extended", end_of([lynx, "extend", room.stores, grown])[2], 0)
+                tally.is_same("extended", end_of([program, "extend", room.stores, grown])[2], 0)
                 room.set = grown
                 bank.tell("begin - pay 20")
-                with Service(lynx, room) as other:
+                with Service(program, room) as other:
                     tally.holds("another port", other.port != service.port)
                     tally.is_same("it goes on", bank.told(), begun("0:2", 3, "70", 3, "x=70"))
                     tally.is_same("nothing runs twice", bank.ask("begin 2 pay 30", "begin 3 pay 20", "settle 20"),
@@ -271,14 +336,14 @@ def killed(tally, language, lynx):
                         tally.is_same("the balance", later.ask("begin - look"), [begun("0:3", 4, "50", 1, "x=50")])
                     tally.is_same("shut", bank.ask("shut"), ["shut"])
                     tally.is_same("end of the other", other.end()[2], 0)
-        tally.is_same("the audit", end_of([lynx, "audit", room.stores]),
+        tally.is_same("the audit", end_of([program, "audit", room.stores]),
                       ("closed\norder 0:0 0:1 0:2 0:3\nentries 0 4\nentries 1 2\ncells acct 2\n", "", 0))
 
 
-def unanswered(tally, language, lynx):
+def test_unanswered(tally, language, program):
     """A service that is killed before its answer comes to the client: the next one gives it from its record."""
     with Room(PAYMENT) as room, socket.create_server(("127.0.0.1", 0)) as way:
-        with Service(lynx, room) as service:
+        with Service(program, room) as service:
             python_client.Client(room.stores).begin("seed", 100)
             with open(os.path.join(room.stores, "service"), "w", encoding="ascii") as file:
                 file.write(f"listening 127.0.0.1:{way.getsockname()[1]}\n--\n{PAYMENT}")
@@ -289,13 +354,13 @@ def unanswered(tally, language, lynx):
                 tally.is_same("an answer that gets lost", line.item(), answer("00 00 0000000000000001 0000000000000002 00 01 0000000000000064"))
                 service.kill()
         way.close()
-        with bank, Service(lynx, room) as service:
+        with bank, Service(program, room) as service:
             tally.is_same("from the record", bank.told(), begun("0:1", 2, "100", 1, "x=100", "true"))
             tally.is_same("once more", bank.ask("wait 20", "begin - pay 1", "shut"), ["all 100 | -", begun("0:2", 4, "70", 2, "x=70"), "shut"])
             tally.is_same("the end", service.end(), ("closed\norder 0:0 0:1 0:2\n", "", 0))
 
 
-def no_service(tally, language, lynx):
+def test_no_service(tally, language, program):
     """Folders without a service, and a service of another set."""
     with Room(PAYMENT) as room:
         with Driver(language, "folder", room.stores, 1, 2, 10) as bank:
@@ -304,7 +369,7 @@ def no_service(tally, language, lynx):
             file.write("listening\n")
         with Driver(language, "folder", room.stores, 1, 2, 10) as bank:
             tally.is_same("a file that tells nothing", bank.first, "fault NoService no-service -")
-        with Service(lynx, room) as service, Driver(language, "folder", room.stores, 1, 2, 10) as bank:
+        with Service(program, room) as service, Driver(language, "folder", room.stores, 1, 2, 10) as bank:
             tally.is_same("before", bank.ask("begin - seed 100"), [begun("0:0", 1, "-", 1)])
             with Driver(language, "folder", room.stores, 2, 2, 10) as other:
                 tally.is_same("the end", other.ask("shut"), ["shut"])
@@ -314,7 +379,7 @@ def no_service(tally, language, lynx):
             shutil.rmtree(room.stores)
             os.mkdir(room.stores)
             room.file("set", TURNED)
-            with Service(lynx, room) as turned:
+            with Service(program, room) as turned:
                 tally.is_same("another set", bank.ask("begin - pay 30", "look 0:0 0 0"),
                               ["fault OtherSet other-set 3", "fault OtherSet other-set -"])
                 with Driver(language, "folder", room.stores, 2, 2, 10) as other:
@@ -322,14 +387,14 @@ def no_service(tally, language, lynx):
                 tally.is_same("nothing ran", turned.end(), ("closed\norder -\n", "", 0))
 
 
-def left_over(tally, language, lynx):
+def test_left_over(tally, language, program):
     """What a killed service left in its folder, while a service of another set has its ports."""
     with Room(PAYMENT) as room, Room(TURNED) as other:
-        with WatchedService(lynx, room) as service:
+        with WatchedService(program, room) as service:
             with Driver(language, "folder", room.stores, 1, 2, 10) as bank:
                 tally.is_same("its own", bank.ask("begin - seed 100", "shut"), [begun("0:0", 1, "-", 1), "shut"])
             service.end()
-        with WatchedService(lynx, other) as service:
+        with WatchedService(program, other) as service:
             with open(os.path.join(room.stores, "service"), "w", encoding="ascii") as file:
                 file.write(f"listening 127.0.0.1:{service.port}\nstatus 127.0.0.1:{service.status}\n--\n{PAYMENT}")
             with Driver(language, "folder", room.stores, 1, 2, 10) as bank:
@@ -339,91 +404,14 @@ def left_over(tally, language, lynx):
             tally.is_same("nothing ran", service.end(), ("closed\norder -\n", "", 0))
 
 
-def documented(tally, language, lynx):
-    """The five lines of docs/CLIENTS.md, as they stand there."""
+@pytest.mark.parametrize("kind", [Python, JavaScript, Go], ids=lambda it: it.name)
+def test_documented(tally, program, kind, tmp_path_factory):
+    """The five lines of docs/CLIENTS.md, as they stand there; of the client in Python these alone are tried here."""
+    language = made_in(kind, tmp_path_factory)
     with open(os.path.join(TOP, "docs", "CLIENTS.md"), encoding="utf-8") as page:
         lines = textwrap.dedent(re.search(rf"In {language.name}[^\n]*:\n\n((?:    .*\n)+)", page.read())[1])
-    with Room(PAYMENT) as room, Service(lynx, room) as service:
+    with Room(PAYMENT) as room, Service(program, room) as service:
         python_client.Client(room.stores).begin("seed", 100)
         tally.is_same("the lines of docs/CLIENTS.md", end_of(language.shown(lines, room.path), cwd=room.path), (language.prints, "", 0))
         python_client.Client(room.stores).shut()
         service.end()
-
-
-PARTS = (documented, worked, answers_of_each_kind, lost, cut, running, killed, unanswered, no_service, left_over)
-
-
-class Python:
-    """The client that the others are like: of it only the lines of docs/CLIENTS.md are tried here."""
-    tool, name, prints, parts = "python3", "Python", "100\n[[100], []]\n", (documented,)
-
-    def __init__(self, _tally, _folder):
-        self.words = None
-
-    def shown(self, lines, _folder):
-        return ["env", "PYTHONPATH=" + os.path.join(TOP, "clients", "python"), "python3", "-c", lines]
-
-
-class JavaScript:
-    tool, name, prints, parts = "node", "JavaScript", "100n\n[ [ 100n ], [] ]\n", PARTS
-
-    def __init__(self, _tally, _folder):
-        self.words = ["node", os.path.join(TOP, "tests", "languages.d", "driver.mjs")]
-
-    def shown(self, lines, folder):
-        shutil.copy(os.path.join(TOP, "clients", "javascript", "lynx.mjs"), folder)
-        with open(os.path.join(folder, "five.mjs"), "w", encoding="utf-8") as file:
-            file.write(lines)
-        return ["node", "five.mjs"]
-
-
-class Go:
-    tool, name, prints, parts = "go", "Go", "100\n[[100] []]\n", PARTS
-    source = os.path.join(TOP, "clients", "go", "lynx")
-
-    def __init__(self, tally, folder):
-        self.folder, self.words = folder, [os.path.join(folder, "driver")]
-        self.env = {**os.environ, "GOPROXY": "off", "GOFLAGS": "-mod=mod", "GO111MODULE": "on"}
-        if "HOME" not in os.environ:
-            self.env["GOCACHE"] = os.path.join(folder, "cache")
-        shutil.copy(os.path.join(TOP, "tests", "languages.d", "driver.go"), folder)
-        self.file("go.mod", f"module driver\n\ngo 1.19\n\nrequire lynx v0.0.0\n\nreplace lynx => {self.source}\n")
-        tally.is_same("go build", self.go("build", "-o", "driver", "."), ("", "", 0))
-        tally.is_same("go vet", self.go("vet", ".", "lynx"), ("", "", 0))
-        if tally.finds("gofmt"):
-            tally.is_same("gofmt", end_of(["gofmt", "-l", self.source, folder]), ("", "", 0))
-
-    def go(self, *words):
-        return end_of(["go", *words], cwd=self.folder, env=self.env)
-
-    def file(self, name, text):
-        with open(os.path.join(self.folder, name), "w", encoding="utf-8") as file:
-            file.write(text)
-
-    def shown(self, lines, _folder):
-        os.makedirs(os.path.join(self.folder, "five"), exist_ok=True)
-        imports = 'import (\n"fmt"\n"lynx"\n"time"\n)\n'
-        self.file(os.path.join("five", "main.go"), f"package main\n{imports}func main() {{\n{lines}if err != nil {{\npanic(err)\n}}\n}}\n")
-        self.go("build", "-o", "five/five", "./five")
-        return [os.path.join(self.folder, "five", "five")]
-
-
-def main(words):
-    lynx = program(words[:1])
-    tally = Tally()
-    for made in (Python, JavaScript, Go):
-        if not tally.finds(made.tool):
-            continue
-        with tempfile.TemporaryDirectory(prefix="lynx-languages-") as folder:
-            language = made(tally, folder)
-            for part in made.parts:
-                if not words[1:] or part.__name__ in words[1:]:
-                    before = tally.failed
-                    part(tally, language, lynx)
-                    if tally.failed > before:
-                        print(f"(that was {part.__name__}, of the client in {made.name})")
-    return tally.end()
-
-
-if __name__ == "__main__":
-    sys.exit(main(sys.argv[1:]))

@@ -1,7 +1,7 @@
 /* Loses the power of a machine, as far as stores see it. Of each file below the folder LYNX_LOSES it keeps what was synced
    and what was written since. At the sync whose number is LYNX_LOSE_AT, before it is done, each file is left with what was
    synced and some of the sectors that were written since, by chance (LYNX_CHANCE), and the process is killed. Preloaded by
-   tests/kills. */
+   tests/test_kills.py. */
 #define _GNU_SOURCE
 #include <dlfcn.h>
 #include <fcntl.h>

@@ -1,23 +1,20 @@
-#!/usr/bin/env python3
-"""tests/kills [PROGRAM [KILLS [LOSSES]]]: a service that is killed again and again while sixteen clients pay, and one whose machine
-loses its power. PROGRAM is crates/lynx/out/lynx, KILLS 50 and LOSSES 30, if left out. After each end the service is started over
-the same stores, each third time with a transaction for each step, the clients ask again for what they have no answer to, and in
-the end every answer that was ever told stands, each payment was made once, and no money is lost. A loss of power leaves what was
-synced, and some of the sectors that were written since (tests/lose.c). The last line is 'N passed, M failed'.
-"""
+"""A service that is killed again and again while sixteen clients pay, and one whose machine loses its power. After each end the
+service is started over the same stores, each third time with a transaction for each step, the clients ask again for what they have
+no answer to, and in the end every answer that was ever told stands, each payment was made once, and no money is lost. A loss of
+power leaves what was synced, and some of the sectors that were written since (tests/lose.c). `--times 10` makes ten times as many
+kills and losses."""
 import os
 import random
 import subprocess
-import sys
 import threading
 import time
 
-sys.path.insert(0, os.path.dirname(os.path.abspath(__file__)))
-from serving import PAYMENT, TOP, Room, Service, Tally, end_of, free_port, program  # noqa: E402
-import lynx  # noqa: E402
-
+import pytest
+from serving import PAYMENT, TOP, Room, Service, end_of, free_port
+import lynx
 
 CLIENTS = 16
+KILLS, LOSSES = 50, 30
 
 
 class Payer:
@@ -82,7 +79,7 @@ class Power:
                     LYNX_CHANCE=str(chance.randrange(1 << 30)))
 
 
-def audit(tally, lynx_program, room, service, paid):
+def audit(tally, program, room, service, paid):
     """The service ends well, and the stores have what was paid."""
     with lynx.Client(service.port, room.set, client=98) as bank:
         last = max(paid, key=lambda chain: chain.index)
@@ -92,11 +89,11 @@ def audit(tally, lynx_program, room, service, paid):
     tally.is_same("the audit", (out[:13], err, status), ("closed\norder ", "", 0))
     moved = sum(paid.values())
     for server, cell in ((0, f"cell acct 0 {1_000_000_000 - moved}"), (1, f"cell acct 1000 {moved}")):
-        listing = end_of([lynx_program, "show", room.store(server)])[0].split("\n")
+        listing = end_of([program, "show", room.store(server)])[0].split("\n")
         tally.is_same(f"cell at server {server}", [line for line in listing if line.startswith("cell ")], [cell])
 
 
-def pay_through(tally, lynx_program, name, ends, end):
+def pay_through(tally, program, name, ends, end):
     """Sixteen clients pay while the service ends so many times."""
     chance = random.Random(5)
     with Room(PAYMENT) as room:
@@ -104,7 +101,7 @@ def pay_through(tally, lynx_program, name, ends, end):
 
         def started(at):
             env = power.env(chance) if end is lose and 0 < at < ends else None
-            return Service(lynx_program, room, port, env=env, words=["--sync-each"] if at % 3 == 2 else [])
+            return Service(program, room, port, env=env, words=["--sync-each"] if at % 3 == 2 else [])
 
         service = started(0)
         with lynx.Client(port, room.set, client=99) as bank:
@@ -129,17 +126,17 @@ def pay_through(tally, lynx_program, name, ends, end):
         paid = {answer.chain: amount for payer in payers for amount, answer in payer.told.values()}
         tally.is_same("each chain once", len(paid), sum(len(payer.told) for payer in payers))
         tally.holds("payments are made between them", len(paid) > ends)
-        audit(tally, lynx_program, room, service, paid)
+        audit(tally, program, room, service, paid)
         print(f"({ends} {name}, {len(paid)} payments)")
 
 
-def main(words):
-    lynx_program = program(words)
-    tally = Tally()
-    pay_through(tally, lynx_program, "kills", int(words[1]) if len(words) > 1 else 50, kill)
-    pay_through(tally, lynx_program, "losses of power", int(words[2]) if len(words) > 2 else 30, lose)
-    return tally.end()
+@pytest.mark.alone
+def test_kills(tally, program, pytestconfig):
+    """What was told stands over kills at random moments."""
+    pay_through(tally, program, "kills", KILLS * pytestconfig.getoption("--times"), kill)
 
 
-if __name__ == "__main__":
-    sys.exit(main(sys.argv[1:]))
+@pytest.mark.alone
+def test_losses(tally, program, pytestconfig):
+    """What was told stands over losses of power."""
+    pay_through(tally, program, "losses of power", LOSSES * pytestconfig.getoption("--times"), lose)

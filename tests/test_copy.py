@@ -1,10 +1,6 @@
-#!/usr/bin/env python3
-"""tests/copy [PROGRAM [PART..]]: a folder that follows a service, `lynx serve SET DIR PORT --copy DIR2`. PROGRAM is
-crates/lynx/out/lynx if left out. The last line is 'N passed, M failed'.
-
-At all times, over kills, pauses, disks that fill and disks that hang, what a store of DIR2 has is a front of what the store of
-DIR has; `lynx restore` makes of it a folder with all promises; and no begin waits for DIR2.
-"""
+"""A folder that follows a service, `lynx serve SET DIR PORT --copy DIR2`. At all times, over kills, pauses, disks that fill and
+disks that hang, what a store of DIR2 has is a front of what the store of DIR has; `lynx restore` makes of it a folder with all
+promises; and no begin waits for DIR2."""
 import http.client
 import os
 import random
@@ -12,15 +8,13 @@ import re
 import shutil
 import socket
 import subprocess
-import sys
 import tempfile
 import threading
 import time
 
-sys.path.insert(0, os.path.dirname(os.path.abspath(__file__)))
-from serving import PAYMENT, TOP, Room, Tally, WatchedService, end_of, program, wait_until  # noqa: E402
-
-import lynx as client  # noqa: E402
+import pytest
+from serving import PAYMENT, Room, WatchedService, end_of, files, wait_until
+import lynx as client
 
 SERVERS = (0, 1)
 KILLS, MOMENTS = 50, 10
@@ -41,8 +35,8 @@ class CopyRoom(Room):
 class Followed(WatchedService):
     """A service with a folder that follows."""
 
-    def __init__(self, lynx, room, *words):
-        super().__init__(lynx, room, "--copy", room.copy, *words)
+    def __init__(self, program, room, *words):
+        super().__init__(program, room, "--copy", room.copy, *words)
 
     def command(self, path, method="POST", **fields):
         """The status and the body of what is answered to a command."""
@@ -80,7 +74,7 @@ def figures_of(follows, behind):
     return found | {f'lynx_copy_behind_entries{{server="{server}"}}': behind for server in SERVERS}
 
 
-def listed(lynx, path):
+def listed(program, path):
     """The lines of entries and cells of a store, read of a copy of its files, or none where there is no store."""
     with tempfile.TemporaryDirectory() as folder:
         for end in ("", "-wal"):
@@ -88,7 +82,7 @@ def listed(lynx, path):
                 shutil.copy(path + end, os.path.join(folder, "store" + end))
         if not os.path.exists(os.path.join(folder, "store")):
             return []
-        out, fault, status = end_of([lynx, "show", os.path.join(folder, "store")])
+        out, fault, status = end_of([program, "show", os.path.join(folder, "store")])
         if status != 0:
             raise ValueError(f"{path}: {fault}")
         return out.splitlines()[2:]
@@ -96,15 +90,6 @@ def listed(lynx, path):
 
 def entries(lines):
     return [line for line in lines if not line.startswith("cell ")]
-
-
-def files(folder):
-    """The bytes of each file of a folder."""
-    found = {}
-    for name in sorted(os.listdir(folder)):
-        with open(os.path.join(folder, name), "rb") as file:
-            found[name] = file.read()
-    return found
 
 
 def logs(folder):
@@ -122,18 +107,18 @@ def fitting(first, second):
     return [len(first), len(second)]
 
 
-def restored(tally, lynx, room, name, copies):
+def restored(tally, program, room, name, copies):
     """Restores copies, audits what is made, and compares it with what fits together of them."""
     shutil.rmtree(room.new, ignore_errors=True)
     os.mkdir(room.new)
-    found = [entries(listed(lynx, os.path.join(copies, f"server-{server}.lynx"))) for server in SERVERS]
+    found = [entries(listed(program, os.path.join(copies, f"server-{server}.lynx"))) for server in SERVERS]
     counts = fitting(*found)
     told = "".join(f"restored {server} {counts[server]} of {len(found[server])}\n" for server in SERVERS)
-    tally.is_same(f"{name}: restored", end_of([lynx, "restore", copies, room.new]), (told, "", 0))
+    tally.is_same(f"{name}: restored", end_of([program, "restore", copies, room.new]), (told, "", 0))
     for server in SERVERS:
-        tally.is_same(f"{name}: entries of {server}", entries(listed(lynx, os.path.join(room.new, f"server-{server}.lynx"))),
+        tally.is_same(f"{name}: entries of {server}", entries(listed(program, os.path.join(room.new, f"server-{server}.lynx"))),
                       found[server][:counts[server]])
-    out, fault, status = end_of([lynx, "audit", room.new])
+    out, fault, status = end_of([program, "audit", room.new])
     tally.is_same(f"{name}: the audit", (out.split()[:2], fault, status), (["closed", "order"], "", 0))
     return counts
 
@@ -175,11 +160,11 @@ def shut(tally, room, service):
     tally.is_same("its end", (out[:13], fault, status), ("closed\norder ", "", 0))
 
 
-def follows(tally, lynx):
+def test_follows(tally, program):
     """What is paid is soon in the folder that follows, and all of it in the end; a service goes on with the folder."""
     with CopyRoom() as room:
         for turn in range(2):
-            with Followed(lynx, room) as service:
+            with Followed(program, room) as service:
                 seed(room)
                 payers = [Payer(room, number) for number in (3 * turn + 1, 3 * turn + 2, 3 * turn + 3)]
                 time.sleep(1)
@@ -188,45 +173,45 @@ def follows(tally, lynx):
                 tally.holds("soon nothing lacks", wait_until(service.is_whole, 20))
                 shut(tally, room, service)
             for server in SERVERS:
-                tally.is_same(f"the store of {server}", listed(lynx, room.copied(server)), listed(lynx, room.store(server)))
+                tally.is_same(f"the store of {server}", listed(program, room.copied(server)), listed(program, room.store(server)))
             tally.holds("the logs of closed stores are no more than heads", all(size <= 41 for size in logs(room.copy)))
-        whole = [len(entries(listed(lynx, room.store(server)))) for server in SERVERS]
-        tally.is_same("all is restored", restored(tally, lynx, room, "in the end", room.copy), whole)
+        whole = [len(entries(listed(program, room.store(server)))) for server in SERVERS]
+        tally.is_same("all is restored", restored(tally, program, room, "in the end", room.copy), whole)
 
 
-def fill(tally, lynx, room, payments):
+def fill(tally, program, room, payments):
     """Makes stores in which so many payments are done, by scripts of 1,200 each."""
     script = "begin 0 1 1 seed 100000\n"
     for first in range(2, payments + 2, 1_200):
         for number in range(first, first + 1_200):
             script += f"begin 0 1 {number} pay 1\ndeliver 0:{number - 1} 1\n"
-        ran = end_of([lynx, "run", "--stores", room.stores, room.set, room.file("script", script)])
+        ran = end_of([program, "run", "--stores", room.stores, room.set, room.file("script", script)])
         tally.is_same("entries are there", ran[1:], ("", 0))
         script = ""
 
 
-def behind(tally, lynx):
+def test_behind(tally, program):
     """A folder that is empty, or older, beside stores with thousands of entries gets them a thousand at a time."""
     with CopyRoom() as room:
-        fill(tally, lynx, room, 1_200)
+        fill(tally, program, room, 1_200)
         for turn in range(3):
-            with Followed(lynx, room) as service:
+            with Followed(program, room) as service:
                 tally.holds("soon nothing lacks", wait_until(service.is_whole, 20))
                 shut(tally, room, service)
             for server in SERVERS:
-                tally.is_same(f"the store of {server}", listed(lynx, room.copied(server)), listed(lynx, room.store(server)))
+                tally.is_same(f"the store of {server}", listed(program, room.copied(server)), listed(program, room.store(server)))
             if turn == 1:
                 for end in ("", "-wal"):
                     os.remove(room.copied(1) + end)
 
 
-def refused(tally, lynx):
+def test_refused(tally, program):
     """Folders that can't follow: they stay as they are, and nobody is listened to."""
     with CopyRoom() as room, CopyRoom(PAYMENT.replace("999", "998").replace("shard 1000", "shard 999")) as other:
         run = "begin 0 1 1 seed 100\nbegin 0 1 2 pay 30\ndeliver 0:1 1\n"
-        end_of([lynx, "run", "--stores", room.stores, room.set, room.file("script", run)])
-        end_of([lynx, "run", "--stores", other.stores, other.set, other.file("script", run)])
-        serve = [lynx, "serve", room.set, room.stores, "1", "--copy"]
+        end_of([program, "run", "--stores", room.stores, room.set, room.file("script", run)])
+        end_of([program, "run", "--stores", other.stores, other.set, other.file("script", run)])
+        serve = [program, "serve", room.set, room.stores, "1", "--copy"]
         serve[4] = str(7_000 + os.getpid() % 20_000)
         tally.is_same("the same folder", end_of(serve + [room.stores]), ("", "lynx: copy: same folder\n", 4))
         os.symlink(room.stores, os.path.join(room.path, "link"))
@@ -236,29 +221,29 @@ def refused(tally, lynx):
         longer, parted = os.path.join(room.path, "longer"), os.path.join(room.path, "parted")
         for folder, more in ((longer, "begin 0 1 3 pay 5\n"), (parted, "")):
             shutil.copytree(room.stores, folder)
-            end_of([lynx, "run", "--stores", folder, room.set, room.file("script", more)])
+            end_of([program, "run", "--stores", folder, room.set, room.file("script", more)])
         shutil.rmtree(parted)
         os.mkdir(parted)
-        end_of([lynx, "run", "--stores", parted, room.set, room.file("script", run.replace("seed 100", "seed 101"))])
+        end_of([program, "run", "--stores", parted, room.set, room.file("script", run.replace("seed 100", "seed 101"))])
         for folder in (longer, parted):
-            before = [listed(lynx, os.path.join(folder, f"server-{server}.lynx")) for server in SERVERS]
+            before = [listed(program, os.path.join(folder, f"server-{server}.lynx")) for server in SERVERS]
             tally.is_same(os.path.basename(folder), end_of(serve + [folder]), ("", "lynx: copy 0: other-history\n", 4))
-            tally.is_same("as it was", [listed(lynx, os.path.join(folder, f"server-{server}.lynx")) for server in SERVERS], before)
+            tally.is_same("as it was", [listed(program, os.path.join(folder, f"server-{server}.lynx")) for server in SERVERS], before)
         out, fault, status = end_of(serve + [longer, "--hints"])
         tally.is_same("with hints", (out, fault.splitlines()[0], status), ("", "lynx: copy 0: other-history", 4))
         tally.holds("what to do", "keeps what server 0 didn't do" in fault)
         with open(room.copied(1), "w", encoding="ascii") as file:
             file.write("no database, and long enough for its head to be looked at\n" * 4)
         tally.is_same("no database", end_of(serve + [room.copy]), ("", "lynx: copy 1: damaged\n", 4))
-        with Followed(lynx, other) as service:
+        with Followed(program, other) as service:
             tally.is_same("another service follows", end_of(serve + [other.copy]), ("", "lynx: copy 0: store\n", 4))
             shut(tally, other, service)
 
 
-def paused(tally, lynx):
+def test_paused(tally, program):
     """While it is paused the files of the folder are closed, and can be taken away; behind it, it goes on."""
     with CopyRoom() as room:
-        with Followed(lynx, room) as service:
+        with Followed(program, room) as service:
             seed(room)
             payer = Payer(room, 1, 0.005)
             for turn in range(3):
@@ -277,7 +262,7 @@ def paused(tally, lynx):
             tally.is_same("a client", payer.end().failed, None)
             tally.holds("soon nothing lacks", wait_until(service.is_whole, 20))
             for turn in range(3):
-                restored(tally, lynx, room, f"pause {turn}", f"{room.taken}-{turn}")
+                restored(tally, program, room, f"pause {turn}", f"{room.taken}-{turn}")
             for path, method, fields, wanted in (
                     ("/copy/pause", "POST", {"Origin": "http://127.0.0.1"}, (403, "other origin\n")),
                     ("/copy/resume", "POST", {"Origin": "null"}, (403, "other origin\n")),
@@ -301,7 +286,7 @@ def paused(tally, lynx):
             out, fault, status = service.end()
             told = "lynx: copy 1: other-set\n" * 2 + "lynx: copy 1: behind\n"
             tally.is_same("its end", (out[:7], fault, status), ("closed\n", told, 4))
-        with WatchedService(lynx, room) as plain:
+        with WatchedService(program, room) as plain:
             answer = Followed.command(plain, "/copy/pause")
             tally.is_same("where no folder follows", answer, (404, "not found\n"))
             metrics = Followed.command(plain, "/metrics", "GET")[1]
@@ -309,11 +294,11 @@ def paused(tally, lynx):
             shut(tally, room, plain)
 
 
-def moments(tally, lynx):
+def test_moments(tally, program):
     """Files that are taken at random moments of a service under load, by pauses of it."""
     chance, lost = random.Random(3), 0
     with CopyRoom() as room:
-        with Followed(lynx, room) as service:
+        with Followed(program, room) as service:
             seed(room)
             payers = [Payer(room, number, 0.01) for number in (1, 2, 3, 4)]
             for moment in range(MOMENTS):
@@ -324,86 +309,86 @@ def moments(tally, lynx):
             for payer in payers:
                 tally.is_same("a client", payer.end().failed, None)
             shut(tally, room, service)
-        did = [entries(listed(lynx, room.store(server))) for server in SERVERS]
+        did = [entries(listed(program, room.store(server))) for server in SERVERS]
         for moment in range(MOMENTS):
             taken = f"{room.taken}-{moment}"
-            kept = [entries(listed(lynx, os.path.join(taken, f"server-{server}.lynx"))) for server in SERVERS]
+            kept = [entries(listed(program, os.path.join(taken, f"server-{server}.lynx"))) for server in SERVERS]
             for server in SERVERS:
                 tally.is_same(f"moment {moment}: a front of {server}", kept[server], did[server][:len(kept[server])])
-            lost += restored(tally, lynx, room, f"moment {moment}", taken)[1] < len(kept[1])
+            lost += restored(tally, program, room, f"moment {moment}", taken)[1] < len(kept[1])
     print(f"something was cut off in {lost} of {MOMENTS} moments")
 
 
-def killed(tally, lynx):
+def test_killed(tally, program):
     """Kills at random moments: each time the folder has a front, and the next service goes on with it."""
     chance, short = random.Random(9), 0
     with CopyRoom() as room:
-        service = Followed(lynx, room)
+        service = Followed(program, room)
         seed(room)
         payers = [Payer(room, number, 0.005) for number in (1, 2)]
         for kill in range(KILLS):
             time.sleep(0.02 + chance.random() * 0.3)
             service.kill()
             for server in SERVERS:
-                kept, did = (entries(listed(lynx, path)) for path in (room.copied(server), room.store(server)))
+                kept, did = (entries(listed(program, path)) for path in (room.copied(server), room.store(server)))
                 tally.is_same(f"kill {kill}: a front of {server}", kept, did[:len(kept)])
                 short += len(kept) < len(did)
             if kill % 10 == 0:
-                restored(tally, lynx, room, f"kill {kill}", room.copy)
-            service = Followed(lynx, room)
+                restored(tally, program, room, f"kill {kill}", room.copy)
+            service = Followed(program, room)
         time.sleep(0.5)
         for payer in payers:
             tally.is_same("a client", payer.end().failed, None)
         shut(tally, room, service)
         for server in SERVERS:
-            tally.is_same(f"the store of {server}", listed(lynx, room.copied(server)), listed(lynx, room.store(server)))
+            tally.is_same(f"the store of {server}", listed(program, room.copied(server)), listed(program, room.store(server)))
     print(f"({KILLS} kills, the folder lacked something at {short} of {2 * KILLS} stores)")
 
 
-def caught(tally, lynx):
+def test_caught(tally, program):
     """Kills at random moments while a folder that was empty comes up, a thousand entries at a time: each time it has a front, and
     the next service goes on with it."""
     chance, short = random.Random(5), 0
     with CopyRoom() as room:
-        fill(tally, lynx, room, 9_600)
-        did = [entries(listed(lynx, room.store(server))) for server in SERVERS]
+        fill(tally, program, room, 9_600)
+        did = [entries(listed(program, room.store(server))) for server in SERVERS]
         for kill in range(KILLS):
-            with Followed(lynx, room):
+            with Followed(program, room):
                 time.sleep(chance.random() * 0.4)
-            kept = [entries(listed(lynx, room.copied(server))) for server in SERVERS]
+            kept = [entries(listed(program, room.copied(server))) for server in SERVERS]
             for server in SERVERS:
                 tally.is_same(f"kill {kill}: a front of {server}", kept[server], did[server][:len(kept[server])])
             if kill % 25 == 0:
-                restored(tally, lynx, room, f"kill {kill}", room.copy)
+                restored(tally, program, room, f"kill {kill}", room.copy)
             short += kept != did
             if kept == did:
                 shutil.rmtree(room.copy)
                 os.mkdir(room.copy)
-        with Followed(lynx, room) as service:
+        with Followed(program, room) as service:
             tally.holds("soon nothing lacks", wait_until(service.is_whole, 20))
             shut(tally, room, service)
-        tally.is_same("all of it", [entries(listed(lynx, room.copied(server))) for server in SERVERS], did)
+        tally.is_same("all of it", [entries(listed(program, room.copied(server))) for server in SERVERS], did)
     print(f"({KILLS} kills, the folder lacked something after {short})")
 
 
-def resumed(tally, lynx):
+def test_resumed(tally, program):
     """A copy that is resumed just before the end has all in the end; one that is paused stays as it is."""
     for turn in range(7):
-        with CopyRoom() as room, Followed(lynx, room) as service:
+        with CopyRoom() as room, Followed(program, room) as service:
             seed(room)
             tally.is_same("paused", service.command("/copy/pause"), (200, "paused\n"))
-            before = [entries(listed(lynx, room.copied(server))) for server in SERVERS]
+            before = [entries(listed(program, room.copied(server))) for server in SERVERS]
             with client.Client(room.stores, client=5) as bank:
                 bank.begin("pay", 1).wait(5)
             if turn:
                 service.command("/copy/resume")
             shut(tally, room, service)
             for server in SERVERS:
-                kept, did = (entries(listed(lynx, path)) for path in (room.copied(server), room.store(server)))
+                kept, did = (entries(listed(program, path)) for path in (room.copied(server), room.store(server)))
                 tally.is_same(f"server {server} after {turn}", kept, did if turn else before[server])
 
 
-def full(tally, lynx):
+def test_full(tally, program):
     """A folder on a disk of a megabyte: where it is full the service goes on, and says so."""
     with CopyRoom() as room:
         mounted = subprocess.run(["mount", "-t", "tmpfs", "-o", "size=1m", "lynx", room.copy], capture_output=True, text=True)
@@ -411,7 +396,7 @@ def full(tally, lynx):
             tally.is_same("a disk of a megabyte is mounted", mounted.stderr, "")
             return
         try:
-            with Followed(lynx, room, "--log") as service:
+            with Followed(program, room, "--log") as service:
                 seed(room)
                 payers = [Payer(room, number) for number in (1, 2, 3, 4)]
                 tally.holds("it fills", wait_until(lambda: 0 in [value for name, value in service.figures().items() if "follows" in name], 60))
@@ -426,9 +411,9 @@ def full(tally, lynx):
                 tally.holds("the log says so", "event=copy-failed server=" in log and "fault=store" in log)
                 tally.holds("the last line says so", re.fullmatch(r"lynx: copy [01]: behind", log.splitlines()[-1]))
             for server in SERVERS:
-                kept, did = (entries(listed(lynx, path)) for path in (room.copied(server), room.store(server)))
+                kept, did = (entries(listed(program, path)) for path in (room.copied(server), room.store(server)))
                 tally.is_same(f"a front of {server}", kept, did[:len(kept)])
-            restored(tally, lynx, room, "what it has", room.copy)
+            restored(tally, program, room, "what it has", room.copy)
         finally:
             subprocess.run(["umount", room.copy], check=True)
 
@@ -459,17 +444,18 @@ int fdatasync(int handle) {
 """
 
 
-def hanging(tally, lynx):
+@pytest.mark.alone
+def test_hanging(tally, program):
     """A folder on a disk each of whose syncs takes two seconds: no begin waits for it."""
     with CopyRoom() as room:
         library = os.path.join(room.path, "hanging.so")
         subprocess.run(["gcc", "-shared", "-fPIC", "-o", library, room.file("hanging.c", HANGING), "-ldl"], check=True)
-        with Followed(lynx, room) as service:
+        with Followed(program, room) as service:
             seed(room)
             shut(tally, room, service)
         os.environ["LD_PRELOAD"] = library
         try:
-            service = Followed(lynx, room)
+            service = Followed(program, room)
         finally:
             del os.environ["LD_PRELOAD"]
         with service:
@@ -483,19 +469,3 @@ def hanging(tally, lynx):
             tally.holds("the folder is behind", sum(value for name, value in lacks.items() if "behind" in name) > 0)
             tally.holds("and comes up", wait_until(service.is_whole, 60))
             shut(tally, room, service)
-
-
-PARTS = (follows, behind, refused, paused, resumed, moments, killed, caught, full, hanging)
-
-
-def main(words):
-    lynx = program(words[:1])
-    tally = Tally()
-    for part in PARTS:
-        if not words[1:] or part.__name__ in words[1:]:
-            part(tally, lynx)
-    return tally.end()
-
-
-if __name__ == "__main__":
-    sys.exit(main(sys.argv[1:]))

@@ -9,7 +9,8 @@ import socket
 import subprocess
 import time
 
-from serving import TOP, Room, Service, bound_by_modes, free_port
+import pytest
+from serving import PAYMENT, TOP, Room, Service, bound_by_modes, free_port
 import lynx
 
 # The part of a program's start that is the system's: less address space than this, and the loader says so in words of its own.
@@ -26,7 +27,6 @@ def text(path):
         return file.read()
 
 
-PAYMENT = text("examples/payment.set")
 SCRIPT = text("examples/payment.script")
 LINES = "begun 0:0 stamp 1 results -\nbegun 0:1 stamp 2 results 100\ndone 0:1 1 stamp 3 results - end\ncell acct 0 70\ncell acct 1000 30\norder 0:0 0:1\n"
 
@@ -78,45 +78,50 @@ def test_memory(tally, program):
             tally.holds(f"{name} is done where memory is ample ({refused} refused, {whole} done)", whole >= 2)
 
 
-def test_memory_of_service(tally, program):
+def is_shut(port, room):
+    """Whether a service answers a client that asks for its end."""
+    try:
+        lynx.Client(port, room.set, tries=1, timeout=10).shut()
+        return True
+    except lynx.LynxError:
+        time.sleep(0.05)
+        return False
+
+
+def begins_lost(port, room):
+    """How many of three clients are not answered."""
+    lost = 0
+    for client in range(1, 4):
+        with lynx.Client(port, room.set, client=client, tries=1, timeout=10) as bank:
+            try:
+                bank.begin("seed", 5)
+            except lynx.LynxError:
+                lost += 1
+    return lost
+
+
+@pytest.mark.parametrize("space", [8 << 20, 12 << 20, 24 << 20, 48 << 20, 96 << 20, 1 << 30])
+def test_memory_of_service(tally, program, room, space):
     """A service in little memory: it doesn't begin, with a line that says why, or it serves."""
-    for space in (8 << 20, 12 << 20, 24 << 20, 48 << 20, 96 << 20, 1 << 30):
-        with Room(PAYMENT) as room:
-            port = free_port()
-
-            def limit(space=space):
-                resource.setrlimit(resource.RLIMIT_AS, (space, space))
-
-            ran = subprocess.Popen([program, "serve", room.set, room.stores, str(port)], stdin=subprocess.DEVNULL,
-                                   stdout=subprocess.PIPE, stderr=subprocess.PIPE, text=True, preexec_fn=limit)
-            if ran.stdout.readline() == f"listening 127.0.0.1:{port}\n":
-                lost = 0
-                for client in range(1, 4):
-                    bank = lynx.Client(port, room.set, client=client, tries=1, timeout=10)
-                    try:
-                        bank.begin("seed", 5)
-                    except lynx.LynxError:
-                        lost += 1
-                    bank.close()
-                for _ in range(50):
-                    try:
-                        lynx.Client(port, room.set, tries=1, timeout=10).shut()
-                        break
-                    except lynx.LynxError:
-                        time.sleep(0.05)
-                try:
-                    out, err = ran.communicate(timeout=60)
-                    tally.holds(f"a service in {space} bytes ends ({lost} lost)", ran.returncode in (0, 3, 4) and
-                                (err == "" or (err.startswith("lynx: ") and err.count("\n") == 1)))
-                except subprocess.TimeoutExpired:
-                    # No thread could be made for the client that asks for the end.
-                    ran.kill()
-                    ran.communicate()
-                    tally.holds(f"a service in {space} bytes has room for a client", space < (96 << 20))
-            else:
-                out, err = ran.communicate(timeout=60)
-                tally.holds(f"a service in {space} bytes doesn't begin: {err!r}", space < (1 << 30) and (
-                    (ran.returncode in (3, 4) and err.startswith("lynx: ") and err.count("\n") == 1) or ran.returncode == LOADER_STATUS))
+    port = free_port()
+    ran = subprocess.Popen([program, "serve", room.set, room.stores, str(port)], stdin=subprocess.DEVNULL, stdout=subprocess.PIPE,
+                           stderr=subprocess.PIPE, text=True, preexec_fn=lambda: resource.setrlimit(resource.RLIMIT_AS, (space, space)))
+    if ran.stdout.readline() != f"listening 127.0.0.1:{port}\n":
+        err = ran.communicate(timeout=60)[1]
+        tally.holds(f"a service in {space} bytes doesn't begin: {err!r}", space < (1 << 30) and (
+            (ran.returncode in (3, 4) and err.startswith("lynx: ") and err.count("\n") == 1) or ran.returncode == LOADER_STATUS))
+        return
+    lost = begins_lost(port, room)
+    is_heard = any(is_shut(port, room) for _ in range(50))
+    try:
+        err = ran.communicate(timeout=60 if is_heard else 15)[1]
+        tally.holds(f"a service in {space} bytes ends ({lost} lost)", ran.returncode in (0, 3, 4) and
+                    (err == "" or (err.startswith("lynx: ") and err.count("\n") == 1)))
+    except subprocess.TimeoutExpired:
+        # No thread could be made for the client that asks for the end.
+        ran.kill()
+        ran.communicate()
+        tally.holds(f"a service in {space} bytes has room for a client", space < (96 << 20))
 
 
 def test_stack(tally, program):

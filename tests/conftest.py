@@ -1,7 +1,9 @@
 """What the tests share as fixtures: the built program, a tally of checks, rooms with a set, and services over them. And what is
 counted: each check of a tally, each test without one, and a test that is skipped as a failure."""
 import collections
+import contextlib
 import fcntl
+import itertools
 import os
 import shutil
 
@@ -11,6 +13,9 @@ from serving import PAYMENT, TOP, Room, Service, Tally
 
 # The options of built programs, each with its crate.
 PROGRAMS = {"program": "lynx", "bench": "lynx_bench", "growths": "lynx_growths"}
+
+# A module of so many tests has short ones.
+MANY = 100
 
 
 def pytest_addoption(parser):
@@ -24,6 +29,18 @@ def pytest_generate_tests(metafunc):
     """A test of a `seed` is run for as many seeds as SEEDS of its module says, --times as many."""
     if "seed" in metafunc.fixturenames:
         metafunc.parametrize("seed", range(metafunc.module.SEEDS[metafunc.function.__name__] * metafunc.config.getoption("--times")))
+
+
+def pytest_collection_modifyitems(items):
+    """Spreads long tests over the processors: xdist hands out tests in runs, long runs first. So modules of MANY tests come first,
+    then one test of each of the others in turn, and in the end those that run alone, which wait for no other then."""
+    counts, places = collections.Counter(item.module for item in items), collections.defaultdict(itertools.count)
+
+    def place(item):
+        at = next(places[item.module])
+        return item.get_closest_marker("alone") is not None, at if counts[item.module] < MANY else -1
+
+    items.sort(key=place)
 
 
 def pytest_configure(config):
@@ -69,18 +86,36 @@ def chromium():
     return found
 
 
+class Turn:
+    """Tests run beside each other, and what measures time runs while no other test does."""
+
+    def __init__(self, queue, running):
+        self.queue, self.running = queue, running
+
+    def begin(self, is_alone):
+        """Waits until no other test runs, or only until none that is alone does. Meanwhile no other begins."""
+        fcntl.flock(self.queue, fcntl.LOCK_EX)
+        fcntl.flock(self.running, fcntl.LOCK_EX if is_alone else fcntl.LOCK_SH)
+        fcntl.flock(self.queue, fcntl.LOCK_UN)
+
+    @contextlib.contextmanager
+    def alone(self):
+        """For a part of a test that measures time."""
+        fcntl.flock(self.running, fcntl.LOCK_UN)
+        self.begin(True)
+        yield
+        fcntl.flock(self.running, fcntl.LOCK_SH)
+
+
 @pytest.fixture(autouse=True)
 def turn(request, tmp_path_factory):
-    """Tests run beside each other; one that is marked as `alone`, since it measures time, waits until no other runs, and no other
-    begins before it ends."""
+    """Begins a test beside others, or where none runs if it is marked as `alone`, since it measures time."""
     base = tmp_path_factory.getbasetemp()
     folder = base.parent if "PYTEST_XDIST_WORKER" in os.environ else base
-    is_alone = request.node.get_closest_marker("alone")
     with open(folder / "next", "w", encoding="ascii") as queue, open(folder / "running", "w", encoding="ascii") as running:
-        fcntl.flock(queue, fcntl.LOCK_EX)
-        fcntl.flock(running, fcntl.LOCK_EX if is_alone else fcntl.LOCK_SH)
-        fcntl.flock(queue, fcntl.LOCK_UN)
-        yield
+        made = Turn(queue, running)
+        made.begin(request.node.get_closest_marker("alone") is not None)
+        yield made
 
 
 @pytest.fixture

@@ -12,7 +12,6 @@ import tempfile
 import threading
 import time
 
-import pytest
 from serving import PAYMENT, Room, WatchedService, end_of, files, wait_until
 import lynx as client
 
@@ -444,8 +443,7 @@ int fdatasync(int handle) {
 """
 
 
-@pytest.mark.alone
-def test_hanging(tally, program):
+def test_hanging(tally, program, turn):
     """A folder on a disk each of whose syncs takes two seconds: no begin waits for it."""
     with CopyRoom() as room:
         library = os.path.join(room.path, "hanging.so")
@@ -459,11 +457,12 @@ def test_hanging(tally, program):
         finally:
             del os.environ["LD_PRELOAD"]
         with service:
-            payers = [Payer(room, number, 0.01) for number in (1, 2)]
-            time.sleep(6)
-            lacks = service.figures()
-            for payer in payers:
-                payer.end()
+            with turn.alone():
+                payers = [Payer(room, number, 0.01) for number in (1, 2)]
+                time.sleep(6)
+                lacks = service.figures()
+                for payer in payers:
+                    payer.end()
             tally.is_same("clients", [payer.failed for payer in payers], [None, None])
             tally.holds(f"no begin waits ({max(payer.worst for payer in payers):.3f} s at most)", max(payer.worst for payer in payers) < 1.5)
             tally.holds("the folder is behind", sum(value for name, value in lacks.items() if "behind" in name) > 0)

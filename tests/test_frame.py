@@ -81,6 +81,13 @@ def test_beside(number):
 @pytest.mark.parametrize("number", range(2))
 def test_alone(number):
     spans("alone")
+
+@pytest.mark.parametrize("number", range(2))
+def test_partly_alone(turn, number):
+    spans("beside")
+    with turn.alone():
+        spans("alone")
+    spans("beside")
 '''
 
 
@@ -110,9 +117,9 @@ def test_counts_of_a_file_that_cannot_be_read(tmp_path, processes):
 
 
 def test_alone(tmp_path):
-    """A test that has to be alone runs beside no other."""
+    """A test that has to be alone, or a part of one, runs beside no other."""
     lines, status = ran(tmp_path, ALONE, "-n", "4")
-    assert (lines[-1], status) == ("14 passed, 0 failed", 0)
+    assert (lines[-1], status) == ("16 passed, 0 failed", 0)
     beside, alone = ([tuple(map(float, line.split())) for line in (tmp_path / name).read_text().splitlines()]
                      for name in ("beside", "alone"))
     assert any(one[0] < other[1] and other[0] < one[1] for at, one in enumerate(beside) for other in beside[:at])

@@ -1,6 +1,7 @@
 """The clients in JavaScript and in Go, by the bytes of connections that are played to them, and over a `lynx serve` that runs, is
 killed, or serves another set. Each client is asked by a small program of its language in tests/languages.d, which takes lines
 and answers each with one. The bytes that are wanted are those of docs/CLIENTS.md, which are asked of the service too."""
+import functools
 import os
 import random
 import re
@@ -206,24 +207,30 @@ class Go:
         return [os.path.join(self.folder, "five", "five")]
 
 
-@pytest.fixture(scope="module", params=[JavaScript, Go], ids=lambda it: it.name)
-def language(request, tmp_path_factory):
-    """A client's language, with its driver built."""
-    return made_in(request.param, tmp_path_factory)
+@pytest.fixture(scope="session")
+def made(tmp_path_factory):
+    """Makes the client of a language, with its driver built, once each."""
+
+    def make(kind):
+        if not shutil.which(kind.tool):
+            pytest.fail(f"{kind.tool} isn't installed: tests/setup installs it", pytrace=False)
+        return kind(str(tmp_path_factory.mktemp(kind.name)))
+
+    return functools.cache(make)
 
 
-def made_in(kind, tmp_path_factory):
-    if not shutil.which(kind.tool):
-        pytest.fail(f"{kind.tool} isn't installed: tests/setup installs it", pytrace=False)
-    return kind(str(tmp_path_factory.mktemp(kind.name)))
+@pytest.fixture(params=[JavaScript, Go], ids=lambda it: it.name)
+def language(request, made):
+    """A client's language."""
+    return made(request.param)
 
 
-def test_go_tools(tally, tmp_path_factory):
+def test_go_tools(tally, made):
     """The client in Go and its driver are built without a word, and are as its tools want them."""
-    made = made_in(Go, tmp_path_factory)
-    tally.is_same("go build", made.built, ("", "", 0))
-    tally.is_same("go vet", made.go("vet", ".", "lynx"), ("", "", 0))
-    tally.is_same("gofmt", end_of(["gofmt", "-l", made.source, made.folder]), ("", "", 0))
+    go = made(Go)
+    tally.is_same("go build", go.built, ("", "", 0))
+    tally.is_same("go vet", go.go("vet", ".", "lynx"), ("", "", 0))
+    tally.is_same("gofmt", end_of(["gofmt", "-l", go.source, os.path.join(go.folder, "driver.go")]), ("", "", 0))
 
 
 def test_worked(tally, language, program):
@@ -405,9 +412,9 @@ def test_left_over(tally, language, program):
 
 
 @pytest.mark.parametrize("kind", [Python, JavaScript, Go], ids=lambda it: it.name)
-def test_documented(tally, program, kind, tmp_path_factory):
+def test_documented(tally, program, kind, made):
     """The five lines of docs/CLIENTS.md, as they stand there; of the client in Python these alone are tried here."""
-    language = made_in(kind, tmp_path_factory)
+    language = made(kind)
     with open(os.path.join(TOP, "docs", "CLIENTS.md"), encoding="utf-8") as page:
         lines = textwrap.dedent(re.search(rf"In {language.name}[^\n]*:\n\n((?:    .*\n)+)", page.read())[1])
     with Room(PAYMENT) as room, Service(program, room) as service:

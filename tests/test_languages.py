@@ -230,7 +230,8 @@ def test_go_tools(tally, made):
     go = made(Go)
     tally.is_same("go build", go.built, ("", "", 0))
     tally.is_same("go vet", go.go("vet", ".", "lynx"), ("", "", 0))
-    tally.is_same("gofmt", end_of(["gofmt", "-l", go.source, os.path.join(go.folder, "driver.go")]), ("", "", 0))
+    if tally.finds("gofmt"):
+        tally.is_same("gofmt", end_of(["gofmt", "-l", go.source, os.path.join(go.folder, "driver.go")]), ("", "", 0))
 
 
 def test_worked(tally, language, program):

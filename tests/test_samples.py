@@ -1,23 +1,18 @@
-#!/usr/bin/env python3
-"""tests/samples [PROGRAM] [COUNT]: random scripts that the built program makes (`lynx sample`), of the sets under examples and
-tests/cases/verdicts and of COUNT random ones (60 if left out), judged by the plain reading in tests/reference.py: each begin is
-begun or finds its server busy, no more begin than were asked for, and in the end no chain owes a hop; the same words give
-the same script, other seeds give others; what `lynx run` prints of it is what the plain reading prints; and with --cycle its run
-ends with a cycle, which no accepted set has. Of the sets for which random runs by the plain reading come to a cycle, --cycle finds
-one for 98 of 100, each within some seconds of processor time. The last line is 'N passed, M failed'."""
+"""Random scripts that the program makes (`lynx sample`), of the sets under examples and tests/cases/verdicts and of random ones,
+judged by the plain reading in tests/reference.py: each begin is begun or finds its server busy, no more begin than were asked
+for, and in the end no chain owes a hop; the same words give the same script, other seeds give others; what `lynx run` prints of
+it is what the plain reading prints; and with --cycle its run ends with a cycle, which no accepted set has. Of the sets for which
+random runs by the plain reading come to a cycle, --cycle finds one for 98 of 100, each within some seconds of processor time."""
 import os
 import random
 import resource
 import subprocess
-import sys
-import tempfile
 
-HERE = os.path.dirname(os.path.abspath(__file__))
-sys.path.insert(0, HERE)
-sys.dont_write_bytecode = True
 import reference
 from random_sets import script, set_text
-from serving import TOP, Tally, program  # noqa: E402
+from serving import TOP
+
+RANDOM_SETS = 60
 
 NO_CYCLE = ("", "lynx: no run was found that ends with a cycle\n", 1)
 
@@ -27,11 +22,6 @@ SECONDS = 4
 
 # Random runs by the plain reading that look for a cycle of a set, and the lines of each.
 RUNS, LINES = 60, 24
-
-
-def random_sets(count):
-    """Sets as tests/random takes them."""
-    return [(f"random set {seed}", set_text(random.Random(seed))[0]) for seed in range(count)]
 
 
 def meets_a_cycle(text):
@@ -135,21 +125,14 @@ class Sampler:
         return True
 
 
-def main(words):
-    count = int(words[1]) if len(words) > 1 else 60
-    tally = Tally()
-    with tempfile.TemporaryDirectory(prefix="lynx-samples-") as room:
-        sampler = Sampler(program(words[:1]), room, tally)
-        for name, text in stored_sets() + random_sets(count):
-            if sampler.ends("check", sampler.write("set", text))[1]:
-                continue
-            sampler.sample(name, text)
-            sampler.seek_cycle(name, text)
-        tally.holds("cycles are found", sampler.missed * 50 <= sampler.met and sampler.met > 0)
-        print(f"cycles were found of {sampler.found} of {sampler.sought} sets that offend, and of all but {sampler.missed} "
-              f"of the {sampler.met} for which random runs met one")
-    return tally.end()
-
-
-if __name__ == "__main__":
-    sys.exit(main(sys.argv[1:]))
+def test_samples(tally, program, tmp_path, pytestconfig):
+    sampler = Sampler(program, tmp_path, tally)
+    count = RANDOM_SETS * pytestconfig.getoption("--times")
+    for name, text in stored_sets() + [(f"random set {seed}", set_text(random.Random(seed))[0]) for seed in range(count)]:
+        if sampler.ends("check", sampler.write("set", text))[1]:
+            continue
+        sampler.sample(name, text)
+        sampler.seek_cycle(name, text)
+    tally.holds("cycles are found", sampler.missed * 50 <= sampler.met and sampler.met > 0)
+    print(f"cycles were found of {sampler.found} of {sampler.sought} sets that offend, and of all but {sampler.missed} "
+          f"of the {sampler.met} for which random runs met one")

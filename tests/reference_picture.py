@@ -2,7 +2,7 @@
 """tests/reference_picture.py [--walk | --late] SET: the picture of the set text in a file, or of the programs of its walk alone,
 or of those that stand in its way and what they meet, by a plain reading of docs/FORMATS.md that was written apart from the
 program; the verdict on the set is that of tests/reference.py. What it prints for a set is what a case of `lynx draw` expects,
-and tests/random compares the program with it."""
+and tests/test_random.py compares the program with it."""
 import os
 import sys
 

@@ -1,7 +1,7 @@
 #!/usr/bin/env python3
 """tests/reference_why.py SET: the verdict on the set text in a file and why it is so, by a plain reading of docs/FORMATS.md
 that was written apart from the program; the verdict is that of tests/reference.py, and hops that may conflict are found as
-for tests/reference_picture.py. What it prints for a set is what a case of `lynx check SET --why` expects, and tests/random
+for tests/reference_picture.py. What it prints for a set is what a case of `lynx check SET --why` expects, and tests/test_random.py
 compares the program with it."""
 import itertools
 import os

@@ -124,3 +124,10 @@ def test_alone(tmp_path):
                      for name in ("beside", "alone"))
     assert any(one[0] < other[1] and other[0] < one[1] for at, one in enumerate(beside) for other in beside[:at])
     assert not any(one[0] < other[1] and other[0] < one[1] for one in alone for other in [*beside, *(it for it in alone if it != one)])
+
+
+def test_program_elsewhere():
+    """Tests are looked for here, wherever the program is that they are to run."""
+    words = [os.path.join(TESTS, "pytest"), "-n", "0", "--program", sys.executable, "-k", "test_due_by_name"]
+    done = subprocess.run(words, stdin=subprocess.DEVNULL, capture_output=True, text=True, check=False)
+    assert done.stdout.splitlines()[-1] == "1 passed, 0 failed"

@@ -1,7 +1,7 @@
 //! Tests of stores that stop, with ample memory: at each call of a turn that is settled at once, of
 //! an upgrade and of what gives a store to another set; and again and again, in random runs over
 //! three servers, whose stores gather to one world in the end. What stores keep and tell where
-//! nothing stops them is tried by the program, in tests/stores and tests/extend.
+//! nothing stops them is tried by the program, in tests/test_stores.py and tests/test_extend.py.
 #![tactic(auto)]
 
 #[cfg(test)]

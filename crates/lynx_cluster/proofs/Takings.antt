@@ -1,13 +1,18 @@
--- States that are taken back one after another.
-use Rattle.std.proofs.Common.{◌≡◌, ◌∙◌, ℕ, ◌+◌, ◌<◌, length, List, [], ◌∷◌, ◌++◌, slice_get, Some, inl, inr, refl, sym, ap, subst, arith}
+-- States that are taken back one after another, and sessions that are spent so.
+use Rattle.std.proofs.Common.{◌≡◌, ◌∙◌, ℕ, ◌+◌, ◌<◌, length, List, [], ◌∷◌, ◌++◌, slice_get, Some, Result, Ok, Err, IfOk, IsOkAnd, inl, inr, refl, sym, ap, subst, arith}
 use Rattle.std.proofs.lemmas.Bool.{cases_lt}
-use Rattle.std.proofs.lemmas.List.{length-append}
+use Rattle.std.proofs.lemmas.List.{append-nil, append_assoc, length-append, map-append}
 use Rattle.std.proofs.lemmas.Option.{slice_get_within}
+use Rattle.std.specs.Global.{Vec}
 use Rattle.lynx_entry.specs.Entry.{History}
 use Rattle.lynx_keep.specs.Kept.{Terms}
+use Rattle.lynx_names.specs.declared.memory.Memory.{Memory}
 use Rattle.lynx_server.proofs.Chains.{get_before, get_last}
 use Rattle.lynx_set.specs.Set.{Set}
-use Rattle.lynx_cluster.specs.Closing.{AreTakenBack, IsTakenBack}
+use Rattle.lynx_weave.specs.Rebuilt.{told_in}
+use Rattle.lynx_weave.specs.declared.told.ToldItem.{ToldItem}
+use Rattle.lynx_cluster.specs.Closing.{AreTakenBack, IsTakenBack, told_to}
+use Rattle.lynx_cluster.specs.Sessions.{SessionState}
 
 -- the states of the servers below this number were taken back
 pub record AreTakenBelow {K : Type 0} (terms : Terms K) (set : Set) (number : ℕ) (histories : List History) (keepers : List K) : Type 0 where
@@ -51,3 +56,24 @@ taken_all terms set number histories keepers all below = record {
   one_keeper = below.as_many ∙ all;
   each = below.each;
 }
+
+-- what is told is that of all sessions but those that are left, where there was memory for it
+abbrev pub AreSpent : Result (Vec (Vec ToldItem)) Memory → List SessionState → List SessionState → Type 0
+AreSpent told left all = IfOk told (λ (lists : Vec (Vec ToldItem)). told_in lists.items ++ told_to left ≡ told_to all)
+
+pub spent_more : (told longer : Result (Vec (Vec ToldItem)) Memory) (items : Vec ToldItem) (session : SessionState) (old left all : List SessionState) →
+    IfOk longer (λ (after : Vec (Vec ToldItem)). IsOkAnd told (λ (before : Vec (Vec ToldItem)). after.items ≡ before.items ++ items ∷ [])) →
+    items.items ≡ session.told → old ≡ session ∷ left → AreSpent told old all → AreSpent longer left all
+spent_more (Ok before) (Ok after) items session old left all more items_are old_is spent =
+    let lists = ap told_in more ∙ map-append (λ (it : Vec ToldItem). it.items) before.items (items ∷ []) in
+    ap (λ (l : List (List ToldItem)). l ++ told_to left) lists ∙ append_assoc (told_in before.items) (items.items ∷ []) (told_to left)
+    ∙ ap (λ (it : List ToldItem). told_in before.items ++ it ∷ told_to left) items_are
+    ∙ ap (λ (l : List SessionState). told_in before.items ++ told_to l) (sym old_is) ∙ spent
+spent_more (Err none) (Ok after) items session old left all more items_are old_is spent = absurd more
+spent_more told (Err none) items session old left all more items_are old_is spent = tt
+
+pub spent_all : (told : Result (Vec (Vec ToldItem)) Memory) (left all : List SessionState) → left ≡ [] → AreSpent told left all →
+    IfOk told (λ (lists : Vec (Vec ToldItem)). told_in lists.items ≡ told_to all)
+spent_all (Ok lists) left all none spent =
+    sym (append-nil (told_in lists.items)) ∙ ap (λ (l : List SessionState). told_in lists.items ++ told_to l) (sym none) ∙ spent
+spent_all (Err fault) left all none spent = tt

@@ -90,10 +90,13 @@ impl<K: BatchKeeper + Drop, G: Gate + Drop> Front<K, G> {
             bells: _,
             sessions: made,
         } = self;
-        if let Some(session) = first_absent(alloc, made.into_inner(), sessions.as_slice())? {
+        let absent = first_absent(alloc, made.into_inner(), sessions.as_slice());
+        // The sessions are spent before any fault is told.
+        let told = told_of(alloc, sessions);
+        if let Some(session) = absent? {
             return Err(CloseFault::Absent { session });
         }
-        let told = told_of(alloc, sessions)?;
+        let told = told?;
         let taken = take_all(alloc, &set, posts)?;
         let woven = weave_since(
             alloc,

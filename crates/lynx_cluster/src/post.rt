@@ -20,7 +20,7 @@ const MOST_BEHIND: u64 = 512;
 
 /// Milliseconds for which a begin waits until less is owed, at most. For a message that is owed
 /// still then, since its server stopped, say, no begin waits again.
-const PATIENCE_MILLIS: u64 = 100;
+const PATIENCE_MILLIS: u64 = 1_000;
 
 /// How often a begin waits until less is owed, at most.
 const MOST_WAITS: u32 = 16;

@@ -6,10 +6,10 @@ use lynx_weave::ToldItem;
 use std::alloc::Global;
 use std::marker::Model;
 
-/// One client of a cluster, which keeps all that it was told. It is handed in again at the close of
-/// its cluster; what another cluster told it would not stand there. An answer takes a copy of its
-/// request and room for 16 results, a look a copy of what was found.
-#[derive(Drop)]
+/// One client of a cluster, which keeps all that it was told. It must be spent: by
+/// [`Cluster::close`](crate::Cluster::close), to which it is handed in again, or by
+/// [`Session::abandon`]. What another cluster told it would not stand at the close. An answer takes
+/// a copy of its request and room for 16 results, a look a copy of what was found.
 pub struct Session {
     number: u64,
     pub(crate) greatest: Stamp,
@@ -60,6 +60,18 @@ impl Session {
     pub(crate) fn into_told(self) -> Vec<ToldItem>
         ensures { result.items ≡ self.told }
     {
-        self.told
+        let Session {
+            number: _,
+            greatest: _,
+            told,
+        } = self;
+        told
+    }
+
+    /// Lets the session go, with all that it was told. Its number is absent at the close of its
+    /// cluster then, which answers [`CloseFault::Absent`](crate::CloseFault::Absent) with the least
+    /// number that is.
+    pub fn abandon(self) {
+        let _ = self.into_told();
     }
 }

@@ -1,5 +1,5 @@
 //! The states of a closed cluster, out of their locks, and what its sessions were told.
-ghost use Rattle.std.specs.Prelude.{◌≡◌, ◌++◌, ◌∷◌, [], IfErr, IfOk, IfSome, OnOk, length, map};
+ghost use Rattle.std.specs.Prelude.{◌≡◌, ◌++◌, ◌∷◌, [], IfErr, IfOk, IfSome, IsOkAnd, OnOk, length, map};
 ghost use Rattle.lynx_weave.specs.Rebuilt.{histories_in, told_in};
 ghost use Rattle.lynx_cluster.specs.Closing.{AreTakenBack, IsTakenBack};
 ghost use Rattle.lynx_cluster.specs.inner.Closing.{IsTakeFault};
@@ -85,14 +85,29 @@ pub(crate) fn take_all<K: BatchKeeper + Drop>(
     Ok(taken)
 }
 
-/// What each session was told, in order.
+/// The list with one more at its end. None for want of memory, before or now.
+fn with_told(
+    told: Result<Vec<Vec<ToldItem>>, Memory>,
+    items: Vec<ToldItem>,
+) -> Result<Vec<Vec<ToldItem>>, Memory>
+    ensures { IfOk result (λ longer. IsOkAnd told (λ before. longer.items
+        ≡ before.items ++ items ∷ [])) }
+{
+    let mut told = told?;
+    told.push(items)?;
+    Ok(told)
+}
+
+/// What each session was told, in order. The sessions are spent, also where memory is wanting.
 pub(crate) fn told_of(alloc: Global, sessions: Vec<Session>) -> Result<Vec<Vec<ToldItem>>, Memory>
     ensures { IfOk result
         (λ told. told_in told.items ≡ map (λ session. session.told) sessions.items) }
 {
-    let mut told = Vec::new(alloc);
-    for session in sessions {
-        told.push(session.into_told())?;
+    let mut told = Ok(Vec::new(alloc));
+    let mut sessions = sessions.into_iter();
+    while let Some(session) = sessions.next() {
+        told = with_told(told, session.into_told());
     }
-    Ok(told)
+    sessions.destroy_empty();
+    told
 }

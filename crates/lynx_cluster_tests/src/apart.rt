@@ -1,6 +1,7 @@
 //! A server that stands still, and those that don't wait for it.
 use crate::barrier::make_barrier;
 use crate::keepers::empty;
+use crate::talk::hand_in;
 use crate::texts::FAN;
 use crate::trouble::Trouble;
 use lynx_cluster::{Cluster, Front, Gate, Session};
@@ -88,15 +89,14 @@ fn are_apart<
     K: BatchKeeper + Send + Drop + 'static,
 >(rt: R, alloc: Global, keepers: Vec<K>) -> Result<bool, Trouble> {
     let set = set_of(alloc, FAN)?;
-    let mut sessions = Vec::new(alloc);
-    sessions.reserve(1).map_err(|_| Trouble::Memory)?;
     let (gate, is_open) = make_barrier(rt, alloc)?;
     let cluster = Cluster::start(rt, alloc, &set, keepers, gate)?;
+    let mut sessions = Vec::new(alloc);
     let mut are_done_all = false;
     if let Some(mut session) = cluster.session(&rt, alloc) {
         let done = are_done(&rt, alloc, cluster.front(), &mut session, &is_open);
         are_done_all = done == Ok(true);
-        sessions.push_reserved(session);
+        hand_in(&mut sessions, session);
     }
     let closed = cluster.close(&rt, alloc, sessions)?;
     match explain(alloc, &closed.world)? {

@@ -1,13 +1,12 @@
 //! A chain that is still to return to its origin.
 use crate::barrier::make_barrier;
 use crate::keepers::empty;
-use crate::talk::{Asked, is_explained, talk};
+use crate::talk::{Asked, hand_in, is_explained, talk};
 use crate::trouble::Trouble;
 use lynx_cluster::{Cluster, Front, Gate, Session};
 use lynx_fixtures::parts::{AnswerParts, RequestParts};
 use lynx_fixtures::texts::{TRIP, set_of};
 use lynx_keep::BatchKeeper;
-use lynx_names::Memory;
 use std::alloc::Global;
 use std::sync::Wait;
 use std::sync::atomic::{AtomicBool, Ordering};
@@ -69,14 +68,16 @@ fn talked<R: Wait + Clock, K: BatchKeeper, G: Gate>(
     alloc: Global,
     front: &Front<K, G>,
     is_open: &AtomicBool,
-) -> Result<(Vec<Session>, bool), Memory> {
+) -> (Vec<Session>, bool) {
     let mut sessions = Vec::new(alloc);
-    let mut session = front.session(rt, alloc).ok_or(Memory)?;
+    let Some(mut session) = front.session(rt, alloc) else {
+        return (sessions, false);
+    };
     let is_busy = talk(rt, alloc, front, &mut session, WHILE_AWAY);
     is_open.store(true, Ordering::SeqCst);
     let is_back = talk(rt, alloc, front, &mut session, BACK);
-    sessions.push(session)?;
-    Ok((sessions, is_busy && is_back))
+    hand_in(&mut sessions, session);
+    (sessions, is_busy && is_back)
 }
 
 /// Whether the second trip is busy while the first is away.
@@ -87,10 +88,7 @@ fn is_busy<
     let set = set_of(alloc, TRIP)?;
     let (gate, is_open) = make_barrier(rt, alloc)?;
     let cluster = Cluster::start(rt, alloc, &set, keepers, gate)?;
-    let (sessions, is_right) = match talked(&rt, alloc, cluster.front(), &is_open) {
-        Ok(told) => told,
-        Err(Memory) => (Vec::new(alloc), false),
-    };
+    let (sessions, is_right) = talked(&rt, alloc, cluster.front(), &is_open);
     let closed = cluster.close(&rt, alloc, sessions)?;
     Ok(is_right && is_explained(alloc, &closed.world, &[(0, 0), (0, 1)])?)
 }

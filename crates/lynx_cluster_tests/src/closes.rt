@@ -1,6 +1,6 @@
 //! Why a cluster doesn't close well.
 use crate::keepers::{empty, failing};
-use crate::talk::{Asked, talked};
+use crate::talk::{Asked, hand_in, talked};
 use crate::texts::PUTS;
 use crate::trouble::Trouble;
 use lynx_cluster::{CloseFault, Cluster, Front, Gate, OpenGate, Session};
@@ -9,7 +9,7 @@ use lynx_fixtures::parts::{AnswerParts, RequestParts};
 use lynx_fixtures::payments::SENT;
 use lynx_fixtures::texts::{PAYMENT, set_of};
 use lynx_keep::{BatchKeeper, MemoryKeeper, Planned};
-use lynx_names::{Memory, ServerId};
+use lynx_names::ServerId;
 use lynx_server::Server;
 use std::alloc::Global;
 use std::sync::Wait;
@@ -68,10 +68,7 @@ fn fault_after<
 ) -> Result<(bool, Option<CloseFault>), Trouble> {
     let set = set_of(alloc, text)?;
     let cluster = Cluster::start(rt, alloc, &set, keepers, OpenGate)?;
-    let (sessions, is_right) = match talked(&rt, alloc, cluster.front(), asked) {
-        Ok(told) => told,
-        Err(Memory) => (Vec::new(alloc), false),
-    };
+    let (sessions, is_right) = talked(&rt, alloc, cluster.front(), asked);
     let fault = cluster.close(&rt, alloc, sessions).err();
     Ok((is_right, fault))
 }
@@ -116,17 +113,24 @@ fn a_hop_that_nobody_sent_is_a_mismatch(rt: HostRuntime) -> Result<(), Fail> {
     Ok(())
 }
 
-/// The first of three sessions, and the third. The second is let go.
+/// The first of three sessions, and the third. The second is abandoned.
 fn two_of_three<R: Wait, K: BatchKeeper, G: Gate>(
     rt: &R,
     alloc: Global,
     front: &Front<K, G>,
-) -> Result<Vec<Session>, Memory> {
+) -> Vec<Session> {
     let mut sessions = Vec::new(alloc);
-    sessions.push(front.session(rt, alloc).ok_or(Memory)?)?;
-    let _ = front.session(rt, alloc);
-    sessions.push(front.session(rt, alloc).ok_or(Memory)?)?;
-    Ok(sessions)
+    for _ in 0..3 {
+        let Some(session) = front.session(rt, alloc) else {
+            continue;
+        };
+        if session.number() == 1 {
+            session.abandon();
+        } else {
+            hand_in(&mut sessions, session);
+        }
+    }
+    sessions
 }
 
 /// Why a cluster over these keepers doesn't close without its second session.
@@ -136,35 +140,42 @@ fn fault_without_second<
 >(rt: R, alloc: Global, keepers: Vec<K>) -> Result<Option<CloseFault>, Trouble> {
     let set = set_of(alloc, PUTS)?;
     let cluster = Cluster::start(rt, alloc, &set, keepers, OpenGate)?;
-    let sessions = match two_of_three(&rt, alloc, cluster.front()) {
-        Ok(sessions) => sessions,
-        Err(Memory) => Vec::new(alloc),
-    };
+    let sessions = two_of_three(&rt, alloc, cluster.front());
     Ok(cluster.close(&rt, alloc, sessions).err())
 }
 
 #[test]
-fn a_session_that_is_kept_back_is_absent(rt: HostRuntime) -> Result<(), Fail> {
+fn a_session_that_is_abandoned_is_absent(rt: HostRuntime) -> Result<(), Fail> {
     let keepers = empty(rt.alloc(), 2)?;
     let absent = CloseFault::Absent { session: 1 };
     assert!(rt; fault_without_second(rt, rt.alloc(), keepers) == Ok(Some(absent)));
     Ok(())
 }
 
-/// A session of another cluster, which was told a begin, is handed in at one whose servers began
-/// nothing.
+/// The session of another cluster of the set, over these keepers, which was told a begin and isn't
+/// handed in there.
+fn stranger<
+    R: Threads + Wait + Clock + Copy + Send + 'static,
+    K: BatchKeeper + Send + Drop + 'static,
+>(rt: R, alloc: Global, front: &Front<K, OpenGate>, keepers: Vec<K>) -> Vec<Session> {
+    let Ok(cluster) = Cluster::start(rt, alloc, front.set(), keepers, OpenGate) else {
+        return Vec::new(alloc);
+    };
+    let asked = PUTS_AT_A_STOP.split_at(1).0;
+    let (sessions, _) = talked(&rt, alloc, cluster.front(), asked);
+    let _ = cluster.close(&rt, alloc, Vec::new(alloc));
+    sessions
+}
+
+/// Why a cluster whose servers began nothing doesn't close with a session of another.
 fn fault_of_stranger<
     R: Threads + Wait + Clock + Copy + Send + 'static,
     K: BatchKeeper + Send + Drop + 'static,
 >(rt: R, alloc: Global, one: Vec<K>, other: Vec<K>) -> Result<Option<CloseFault>, Trouble> {
     let set = set_of(alloc, PUTS)?;
-    let first = Cluster::start(rt, alloc, &set, one, OpenGate)?;
-    let asked = PUTS_AT_A_STOP.split_at(1).0;
-    let told = talked(&rt, alloc, first.front(), asked);
-    let _ = first.close(&rt, alloc, Vec::new(alloc));
-    let (strangers, _) = told?;
-    let second = Cluster::start(rt, alloc, &set, other, OpenGate)?;
-    Ok(second.close(&rt, alloc, strangers).err())
+    let cluster = Cluster::start(rt, alloc, &set, one, OpenGate)?;
+    let strangers = stranger(rt, alloc, cluster.front(), other);
+    Ok(cluster.close(&rt, alloc, strangers).err())
 }
 
 #[test]

@@ -2,7 +2,7 @@
 //! pairs; the worked sessions, two threads inside two servers at once, begins that are asked
 //! together, a store that fails in a settling, why a cluster doesn't start or close, and a worker
 //! over a server that stands in. Many begins by many clients are tried at a service, in
-//! tests/loads.
+//! tests/test_loads.py.
 #![tactic(auto)]
 
 #[cfg(test)]

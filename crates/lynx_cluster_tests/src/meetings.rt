@@ -1,7 +1,7 @@
 //! Two threads inside two servers at once.
 use crate::crossing::make_crossing;
 use crate::keepers::{began, empty};
-use crate::talk::{Asked, is_explained, talk, talked};
+use crate::talk::{Asked, hand_in, is_explained, talk, talked, two_sessions};
 use crate::texts::{GO_AND_COME, PUTS};
 use crate::trouble::Trouble;
 use lynx_cluster::{Closed, Cluster, Front, Gate, Passage, Session};
@@ -10,7 +10,6 @@ use lynx_fixtures::made::server;
 use lynx_fixtures::parts::{AnswerParts, RequestParts};
 use lynx_fixtures::texts::set_of;
 use lynx_keep::{BatchKeeper, MemoryKeeper};
-use lynx_names::Memory;
 use std::alloc::Global;
 use std::sync::Wait;
 use std::test::Fail;
@@ -74,19 +73,20 @@ fn both_begin<
     R: Threads + Wait + Clock + Sync,
     K: BatchKeeper + Send + Drop,
     G: Gate + Send + Sync + Drop,
->(rt: &R, alloc: Global, front: &Front<K, G>) -> Result<(Vec<Session>, bool), Memory> {
+>(rt: &R, alloc: Global, front: &Front<K, G>) -> (Vec<Session>, bool) {
     let mut sessions = Vec::new(alloc);
-    let mut first = front.session(rt, alloc).ok_or(Memory)?;
-    let mut second = front.session(rt, alloc).ok_or(Memory)?;
+    let Some((mut first, mut second)) = two_sessions(rt, alloc, front) else {
+        return (sessions, false);
+    };
     let (left, right) = thread::join(
         rt,
         || talk(rt, alloc, front, &mut first, AT_FIRST),
         || talk(rt, alloc, front, &mut second, AT_SECOND),
     );
     let is_right = left && right && talk(rt, alloc, front, &mut first, AFTERWARDS);
-    sessions.push(first)?;
-    sessions.push(second)?;
-    Ok((sessions, is_right))
+    hand_in(&mut sessions, first);
+    hand_in(&mut sessions, second);
+    (sessions, is_right)
 }
 
 /// Whether two begins are inside two servers at once, all is told rightly, and the cluster closes
@@ -98,10 +98,7 @@ fn begins_meet<
     let set = set_of(alloc, PUTS)?;
     let (gate, marks) = make_crossing(rt, alloc, Passage::Begin)?;
     let cluster = Cluster::start(rt, alloc, &set, keepers, gate)?;
-    let (sessions, is_right) = match both_begin(&rt, alloc, cluster.front()) {
-        Ok(begun) => begun,
-        Err(Memory) => (Vec::new(alloc), false),
-    };
+    let (sessions, is_right) = both_begin(&rt, alloc, cluster.front());
     let closed = cluster.close(&rt, alloc, sessions)?;
     let order = &[(0, 0), (1, 0), (0, 1)];
     Ok(is_right && marks.have_met() && is_explained(alloc, &closed.world, order)?)
@@ -165,10 +162,7 @@ fn deliveries_meet<
     let set = set_of(alloc, GO_AND_COME)?;
     let (gate, marks) = make_crossing(rt, alloc, Passage::Deliver)?;
     let cluster = Cluster::start(rt, alloc, &set, keepers, gate)?;
-    let (sessions, is_right) = match talked(&rt, alloc, cluster.front(), ARRIVALS) {
-        Ok(told) => told,
-        Err(Memory) => (Vec::new(alloc), false),
-    };
+    let (sessions, is_right) = talked(&rt, alloc, cluster.front(), ARRIVALS);
     let closed = cluster.close(&rt, alloc, sessions)?;
     Ok(is_right && marks.have_met() && have_crossed(alloc, &closed)?)
 }

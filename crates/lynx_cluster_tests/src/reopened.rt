@@ -39,10 +39,7 @@ fn keepers_after_trip<R: Threads + Wait + Clock + Copy + Send + 'static>(
     let set = set_of(alloc, TRIPS.set)?;
     let keepers = empty(alloc, set.servers())?;
     let cluster = Cluster::start(rt, alloc, &set, keepers, OpenGate)?;
-    let (sessions, _) = match talked(&rt, alloc, cluster.front(), &TRIPS.asked[..2]) {
-        Ok(told) => told,
-        Err(Memory) => (Vec::new(alloc), false),
-    };
+    let (sessions, _) = talked(&rt, alloc, cluster.front(), &TRIPS.asked[..2]);
     Ok(cluster.close(&rt, alloc, sessions)?.keepers)
 }
 

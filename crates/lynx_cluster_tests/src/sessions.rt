@@ -7,7 +7,6 @@ use lynx_cluster::{Cluster, OpenGate};
 use lynx_fixtures::parts::{AnswerParts, RequestParts};
 use lynx_fixtures::texts::{TRIP, set_of};
 use lynx_keep::BatchKeeper;
-use lynx_names::Memory;
 use std::alloc::Global;
 use std::sync::Wait;
 use std::test::Fail;
@@ -144,10 +143,7 @@ fn is_met<
 >(rt: R, alloc: Global, row: Row, keepers: Vec<K>) -> Result<bool, Trouble> {
     let set = set_of(alloc, row.set)?;
     let cluster = Cluster::start(rt, alloc, &set, keepers, OpenGate)?;
-    let (sessions, is_right) = match talked(&rt, alloc, cluster.front(), row.asked) {
-        Ok(told) => told,
-        Err(Memory) => (Vec::new(alloc), false),
-    };
+    let (sessions, is_right) = talked(&rt, alloc, cluster.front(), row.asked);
     let closed = cluster.close(&rt, alloc, sessions)?;
     Ok(is_right && is_explained(alloc, &closed.world, row.order)?)
 }

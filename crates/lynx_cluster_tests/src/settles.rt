@@ -1,5 +1,6 @@
 //! A store that fails in a settling, with clients that wait for it.
 use crate::keepers::failing;
+use crate::talk::{hand_in, two_sessions};
 use crate::texts::PUTS;
 use crate::trouble::Trouble;
 use lynx_cluster::{CloseFault, Cluster, Front, Gate, OpenGate, Session};
@@ -94,6 +95,30 @@ fn shows<R: Wait, K: BatchKeeper, G: Gate>(
     )
 }
 
+/// The sessions of two clients that begin at once until the store fails, and whether all that was
+/// told is seen, and no more, and the server stops or doesn't.
+fn both_told<
+    R: Threads + Wait + Clock + Sync,
+    K: BatchKeeper + Send + Drop,
+    G: Gate + Send + Sync + Drop,
+>(rt: &R, alloc: Global, front: &Front<K, G>, stops: bool) -> (Vec<Session>, bool) {
+    let mut sessions = Vec::new(alloc);
+    let Some((mut one, mut other)) = two_sessions(rt, alloc, front) else {
+        return (sessions, false);
+    };
+    let is_right = match begin_both(rt, alloc, front, &mut one, &mut other) {
+        Ok((told, first, second)) => {
+            first == stops
+                && second == stops
+                && shows(rt, alloc, front, &mut one, told, stops) == Ok(true)
+        }
+        Err(Memory) => false,
+    };
+    hand_in(&mut sessions, one);
+    hand_in(&mut sessions, other);
+    (sessions, is_right)
+}
+
 /// Whether all that was told is seen, and no more, where the store fails so in a settling, and
 /// whether the server stops by it.
 fn is_kept<R: Threads + Wait + Clock + Copy + Send + Sync + 'static>(
@@ -105,24 +130,7 @@ fn is_kept<R: Threads + Wait + Clock + Copy + Send + Sync + 'static>(
     let set = set_of(alloc, PUTS)?;
     let keepers = failing(alloc, 2, 0, SETTLINGS, planned)?;
     let cluster = Cluster::start(rt, alloc, &set, keepers, OpenGate)?;
-    let mut sessions = Vec::new(alloc);
-    let mut is_right = false;
-    if let (Some(mut one), Some(mut other)) = (
-        cluster.session(&rt, alloc),
-        cluster.session(&rt, alloc),
-    ) {
-        let front = cluster.front();
-        let told = begin_both(&rt, alloc, front, &mut one, &mut other);
-        is_right = match told {
-            Ok((told, first, second)) => {
-                first == stops
-                    && second == stops
-                    && shows(&rt, alloc, front, &mut one, told, stops) == Ok(true)
-            }
-            Err(Memory) => false,
-        };
-        is_right = is_right && sessions.push(one).is_ok() && sessions.push(other).is_ok();
-    }
+    let (sessions, is_right) = both_told(&rt, alloc, cluster.front(), stops);
     let fault = cluster.close(&rt, alloc, sessions).err();
     let stopped = CloseFault::Stopped {
         server: ServerId::first(),

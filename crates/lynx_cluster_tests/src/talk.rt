@@ -8,7 +8,7 @@ use lynx_keep::BatchKeeper;
 use lynx_names::{ChainId, Memory};
 use lynx_order::{Explained, explain};
 use lynx_world::World;
-use std::alloc::Global;
+use std::alloc::{AllocFailed, Global};
 use std::sync::Wait;
 use std::thread;
 use std::time::{Clock, Duration};
@@ -106,18 +106,42 @@ pub fn talk<R: Wait + Clock, K: BatchKeeper, G: Gate>(
     true
 }
 
+/// Puts the session in the list of those that are handed in. For want of memory it is abandoned,
+/// and the close tells of it.
+pub fn hand_in(sessions: &mut Vec<Session>, session: Session) {
+    if let Err(AllocFailed { value }) = sessions.push(session) {
+        value.abandon();
+    }
+}
+
+/// Two sessions of the cluster. One alone is abandoned.
+pub fn two_sessions<R: Wait, K: BatchKeeper, G: Gate>(
+    rt: &R,
+    alloc: Global,
+    front: &Front<K, G>,
+) -> Option<(Session, Session)> {
+    let first = front.session(rt, alloc)?;
+    let Some(second) = front.session(rt, alloc) else {
+        first.abandon();
+        return None;
+    };
+    Some((first, second))
+}
+
 /// A session that asked all this, alone in a list, and whether it was told rightly.
 pub fn talked<R: Wait + Clock, K: BatchKeeper, G: Gate>(
     rt: &R,
     alloc: Global,
     front: &Front<K, G>,
     asked: &[Asked],
-) -> Result<(Vec<Session>, bool), Memory> {
+) -> (Vec<Session>, bool) {
     let mut sessions = Vec::new(alloc);
-    let mut session = front.session(rt, alloc).ok_or(Memory)?;
+    let Some(mut session) = front.session(rt, alloc) else {
+        return (sessions, false);
+    };
     let is_right = talk(rt, alloc, front, &mut session, asked);
-    sessions.push(session)?;
-    Ok((sessions, is_right))
+    hand_in(&mut sessions, session);
+    (sessions, is_right)
 }
 
 /// The chains are these.

@@ -1,5 +1,6 @@
 //! Begins that are asked together, with and without a store that fails.
 use crate::keepers::failing;
+use crate::talk::hand_in;
 use crate::texts::PUTS;
 use crate::trouble::Trouble;
 use lynx_cluster::{CloseFault, Cluster, Front, Gate, OpenGate, Opened, Pace, Session};
@@ -247,7 +248,8 @@ fn is_met<R: Threads + Wait + Clock + Copy + Send + Sync + 'static>(
     let mut is_right = false;
     if let Some(mut session) = cluster.session(&rt, alloc) {
         let told = is_told(&rt, alloc, cluster.front(), &mut session, row);
-        is_right = told == Ok(true) && sessions.push(session).is_ok();
+        is_right = told == Ok(true);
+        hand_in(&mut sessions, session);
     }
     let stopped = CloseFault::Stopped {
         server: ServerId::first(),

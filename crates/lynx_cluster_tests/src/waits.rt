@@ -1,6 +1,7 @@
 //! How long a begin waits for the worker of its server.
 use crate::barrier::make_barrier;
 use crate::slow::{SlowKeeper, slow_keeper};
+use crate::talk::hand_in;
 use crate::texts::PURSES;
 use crate::trouble::Trouble;
 use lynx_cluster::{Cluster, Front, Gate, Session};
@@ -165,10 +166,10 @@ fn take_turns<R: Threads + Wait + Clock + Copy + Drop + Send + Sync + 'static>(
     alloc: Global,
 ) -> Result<bool, Trouble> {
     let set = set_of(alloc, PURSES)?;
-    let mut sessions = Vec::new(alloc);
     let (keepers, commits) = keepers(rt, alloc)?;
     let (gate, is_open) = make_barrier(rt, alloc)?;
     let cluster = Cluster::start(rt, alloc, &set, keepers, gate)?;
+    let mut sessions = Vec::new(alloc);
     let mut are_short = false;
     if let Some(mut session) = cluster.session(&rt, alloc) {
         let short = is_short(
@@ -179,7 +180,8 @@ fn take_turns<R: Threads + Wait + Clock + Copy + Drop + Send + Sync + 'static>(
             &is_open,
             &commits,
         );
-        are_short = sessions.push(session).is_ok() && short == Ok(true);
+        are_short = short == Ok(true);
+        hand_in(&mut sessions, session);
     }
     cluster.close(&rt, alloc, sessions)?;
     Ok(are_short)

@@ -8,10 +8,13 @@ use sqlite::{Connection, File, FileStore};
 
 /// Where servers have the databases of their stores, whatever sets these are of.
 pub trait Databases<C> {
-    ghost use Rattle.std.specs.Prelude.{ℕ, List, IfOk, IfSome};
+    ghost use Rattle.std.specs.Prelude.{ℕ, Bool, List, IfOk, IfSome, is_ok};
 
     // The database is that of this server's store in the folder, as it was opened.
     ghost opened_at: { List ℕ → ℕ → C → Type 0 };
+
+    // The database was let go, well or not.
+    ghost database_closed: { C → Bool → Type 0 };
 
     /// The database of that server's store in the folder. None where there is nothing of a store,
     /// or no more than what a stop within its making leaves, a database without tables. It is
@@ -21,7 +24,8 @@ pub trait Databases<C> {
 
     /// Closes the database of a store: its log is copied into the file. After a fault all that was
     /// kept stands, the log beside the file.
-    fn close_database(&self, database: C) -> Result<(), StoreFault>;
+    fn close_database(&self, database: C) -> Result<(), StoreFault>
+        ensures told { database_closed database (is_ok result) };
 }
 
 // Damaged where the file is no database's, or was emptied beside its log; Store where the folder
@@ -29,6 +33,8 @@ pub trait Databases<C> {
 // that could.
 impl Databases<Connection<FileStore<File>>> for Files {
     ghost opened_at = { λ folder server opened. Unit {0} };
+
+    ghost database_closed = { λ database is_well. Unit {0} };
 
     fn open_database(
         &self,

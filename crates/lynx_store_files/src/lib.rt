@@ -5,14 +5,17 @@
 pub use closing::close_all;
 pub use copies::{Copies, CopyFault, StoreCopy};
 pub use databases::Databases;
-pub use files::{Files, open_store, store_path};
+pub use files::{Files, open_made, open_store, store_path};
+pub use folder::{FolderFault, lost_store, make_lacking, open_folder};
 pub use keeper::{FileKeeper, StoreKeeper};
+pub use presence::restoring_path;
 pub use stores::Stores;
 
 pub mod closing;
 pub mod copies;
 pub mod databases;
 pub mod files;
+pub mod folder;
 pub mod heads;
 pub mod keeper;
 mod presence;

@@ -1,7 +1,12 @@
 //! What stands where a store would be, before anything is opened as a database.
+ghost use Rattle.std.specs.Prelude.{◌≡◌, ◌++◌, codes, IfOk};
+ghost use Rattle.std.specs.String.{string_bytes};
+
 use crate::copies::head_of;
 use crate::heads::{FILE_HEAD, LOG_HEAD, may_open};
+use lynx_names::Memory;
 use lynx_store::StoreFault;
+use std::alloc::Global;
 use std::io::ErrorKind;
 use std::rt::Files;
 use std::{fs, io};
@@ -41,6 +46,30 @@ pub(crate) fn check_folder<R: Files>(rt: &R, folder: &str) -> Result<(), StoreFa
     match fs::metadata(rt, folder) {
         Ok(found) if found.is_dir() => Ok(()),
         Ok(_) => Err(StoreFault::Store),
+        Err(error) => Err(fault_of(error)),
+    }
+}
+
+/// The path of the folder in which `lynx restore` makes the stores of this one until all are whole.
+pub fn restoring_path(alloc: Global, folder: &str) -> Result<String, Memory>
+    ensures { IfOk result (λ path. string_bytes path ≡ folder.now ++ codes "/restore.new") }
+{
+    match format!(in alloc; "{folder}/restore.new") {
+        Ok(path) => Ok(path),
+        Err(_) => Err(Memory),
+    }
+}
+
+/// Whether stores may be made in the folder: Damaged where a restore to it was stopped before its
+/// stores were moved here.
+pub(crate) fn check_restored<R: Files + AllocGlobal>(
+    rt: &R,
+    folder: &str,
+) -> Result<(), StoreFault> {
+    let path = restoring_path(rt.alloc(), folder)?;
+    match fs::metadata(rt, path.as_str()) {
+        Ok(_) => Err(StoreFault::Damaged),
+        Err(error) if error.kind() == ErrorKind::NotFound => Ok(()),
         Err(error) => Err(fault_of(error)),
     }
 }

@@ -2,9 +2,10 @@
 ghost use Rattle.std.specs.Prelude.{◌≡◌, ◌++◌, codes, IfOk};
 ghost use Rattle.std.specs.String.{string_bytes};
 
-use crate::notice::{Notice, notice_text};
+use crate::notice::{Notice, notice_in, notice_text};
 use lynx_names::Memory;
 use std::alloc::Global;
+use std::fs::OpenOptions;
 use std::io::{ErrorKind, Write};
 use std::net::SocketAddr;
 use std::rt::HostRuntime;
@@ -36,8 +37,8 @@ fn no_memory() -> io::Error {
 
 impl<'a> Board<'a> {
     /// Tells clients that the service listens there, and where it tells its status, if it does:
-    /// the file is made under another name, and renamed when it is whole. One that is there is
-    /// written over: a service that was killed left it.
+    /// the file is made under another name, and renamed when it is whole. What is there under
+    /// either name is taken away, and no link is followed: a service that was killed left it.
     pub fn put_up(&self, address: SocketAddr, status: Option<SocketAddr>) -> io::Result<()> {
         let alloc = self.rt.alloc();
         let folder = self.folder;
@@ -55,15 +56,35 @@ impl<'a> Board<'a> {
         let Ok(path) = service_path(alloc, folder) else {
             return Err(no_memory());
         };
-        let mut file = fs::create(self.rt, new.as_str())?;
+        let _ = fs::remove_file(self.rt, new.as_str());
+        let mut options = OpenOptions::new();
+        options.write(true).create_new(true);
+        let mut file = options.open(self.rt, new.as_str())?;
         file.write_all(text.as_slice())?;
         drop(file);
         fs::rename(self.rt, new.as_str(), path.as_str())
     }
 
-    /// Tells clients no more of the service. Where the file can't be taken away it stays.
-    pub fn take_down(&self) {
-        if let Ok(path) = service_path(self.rt.alloc(), self.folder) {
+    /// Whether the file at that path tells of a service that listens there.
+    fn tells(&self, path: &str, address: SocketAddr) -> bool {
+        if !fs::metadata(self.rt, path).is_ok_and(|found| found.is_file()) {
+            return false;
+        }
+        let Ok(text) = fs::read(self.rt, path) else {
+            return false;
+        };
+        match notice_in(text.as_slice()) {
+            Some(notice) => notice.port == address.port(),
+            None => false,
+        }
+    }
+
+    /// Tells clients no more of the service that listens there. The file stays where it tells of
+    /// another service, whose folder came to this path since, and where it can't be taken away.
+    pub fn take_down(&self, address: SocketAddr) {
+        if let Ok(path) = service_path(self.rt.alloc(), self.folder)
+            && self.tells(path.as_str(), address)
+        {
             let _ = fs::remove_file(self.rt, path.as_str());
         }
     }

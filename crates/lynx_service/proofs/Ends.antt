@@ -15,13 +15,14 @@ use Rattle.lynx_server.specs.Serving.{Serving}
 use Rattle.lynx_set.specs.Home.{AreLiteralsHome}
 use Rattle.lynx_set.specs.Set.{Set}
 use Rattle.lynx_set.proofs.Literals.{literals_home}
+use Rattle.lynx_store_files.specs.Closed.{AreClosed}
+use Rattle.lynx_store_files.specs.Folders.{StandIn}
+use Rattle.lynx_store_files.specs.Terms.{StoreTerms}
 use Rattle.lynx_weave.specs.Senders.{AreAllSent}
 use Rattle.lynx_weave.specs.Servers.{histories_of}
 use Rattle.lynx_world.specs.Legal.{IsLegal}
 use Rattle.lynx_world.specs.Worlds.{WorldState}
-use Rattle.lynx_store.specs.Stored.{Owner}
 use Rattle.lynx_service.specs.declared.fault.ServeFault.{ServeFault}
-use Rattle.lynx_service.specs.Places.{AreOwned}
 use Rattle.lynx_service.specs.Services.{AppendsSome, HasServed, IsEnded, last_lines}
 
 -- what holds where a result is Ok
@@ -29,18 +30,18 @@ pub of_ok : {T : Type 0} {E : Type 0} (result : Result T E) (value : T) (fact : 
 of_ok result value fact same given = subst (λ r. OnOk r fact) same given
 
 -- a cluster of opened servers that was halted as it was and closed, and the end over its world, behind what was written before
-pub ends_well : {K : Type 0} (terms : Terms K) (owner_of : K → Owner) (set opened_set : Set) (before : List K) (servers : List (Serving K)) (cluster halted : ClusterState) (sessions : List SessionState) (keepers : List K)
+pub ends_well : {K : Type 0} (terms : Terms K) (stores : StoreTerms K) (folder : List ℕ) (set opened_set : Set) (before : List K) (servers : List (Serving K)) (cluster halted : ClusterState) (sessions : List SessionState) (keepers : List K)
     (old middle new : Option (List ℕ)) (world : WorldState) (result : Result Explained ServeFault) →
-    opened_set ≡ set → AreOpened terms set before servers → AreOwned owner_of set before → AreAllSent opened_set (histories_of servers) → Starts opened_set servers cluster → halted ≡ cluster → IsClosed terms halted sessions world keepers →
-    AppendsSome old middle → IfOk result (IsEnded world middle new) → IfOk result (HasServed terms owner_of set old new)
-ends_well terms owner_of set opened_set before servers cluster halted sessions keepers old middle new world (Ok explained) same opened owned sent began still ended_so first ended =
+    opened_set ≡ set → AreOpened terms set before servers → StandIn stores folder set before → AreAllSent opened_set (histories_of servers) → Starts opened_set servers cluster → halted ≡ cluster → IsClosed terms halted sessions world keepers →
+    AppendsSome old middle → IfOk result (IsEnded world middle new) → OnOk result (AreClosed stores.closed keepers) → IfOk result (HasServed terms stores folder set old new)
+ends_well terms stores folder set opened_set before servers cluster halted sessions keepers old middle new world (Ok explained) same opened stood sent began still ended_so first ended let_go =
     let closed : IsClosed terms cluster sessions world keepers = subst (λ state. IsClosed terms state sessions world keepers) still ended_so in
     let started : Starts set servers cluster = subst (λ s. Starts s servers cluster) same began in
     let of_set : world.set ≡ set = closed.woven.set_is ∙ started.set_is in
     let legal = subst (λ s. IsLegal s world.list) started.set_is closed.woven.list_is.legal in
     record {
       before = before;
-      owned = owned;
+      stood = stood;
       servers = servers;
       opened = opened;
       sent = subst (λ s. AreAllSent s (histories_of servers)) same sent;
@@ -50,10 +51,11 @@ ends_well terms owner_of set opened_set before servers cluster halted sessions k
       keepers = keepers;
       world = world;
       closed = closed;
+      let_go = let_go;
       promises = λ is. promised set world.list is legal;
       right = ended.right;
       ordered = λ is accepted. ended.right.accepted (subst AreLiteralsHome (sym of_set) (literals_home set is)) (subst IsAccepted (sym of_set) accepted);
       first = first.0;
       written = Appends-trans old middle new first.0 (last_lines explained) first.1 ended.written;
     }
-ends_well terms owner_of set opened_set before servers cluster halted sessions keepers old middle new world (Err fault) same opened owned sent began still ended_so first ended = tt
+ends_well terms stores folder set opened_set before servers cluster halted sessions keepers old middle new world (Err fault) same opened stood sent began still ended_so first ended let_go = tt

@@ -15,6 +15,8 @@ use Rattle.lynx_service.specs.declared.fault.ServeFault.TheVariants.{Close, Copy
 use Rattle.lynx_service.specs.declared.fault.StoreWord.TheVariants as words
 use Rattle.lynx_store.specs.declared.fault.StoreFault.{StoreFault}
 use Rattle.lynx_store.specs.declared.fault.StoreFault.TheVariants as store
+use Rattle.lynx_store_files.specs.declared.folder.FolderFault.{FolderFault}
+use Rattle.lynx_store_files.specs.declared.folder.FolderFault.TheVariants as folder
 use Rattle.lynx_weave.specs.declared.fault.WeaveFault.{WeaveFault}
 use Rattle.lynx_weave.specs.declared.fault.WeaveFault.TheVariants as weave
 
@@ -29,6 +31,12 @@ store_fault server store.Memory = Memory
 -- there is no store of that server, where others have entries
 abbrev pub missing_fault : ℕ → ServeFault
 missing_fault server = Store server (words.Damaged Missing)
+
+-- what is wrong with the stores of a folder
+abbrev pub folder_fault : FolderFault → ServeFault
+folder_fault (folder.Store server fault) = store_fault server fault
+folder_fault (folder.Missing server) = missing_fault server
+folder_fault folder.Memory = Memory
 
 -- what is wrong with what the store of that server holds
 abbrev pub contents_fault : ℕ → OpenFault → ServeFault

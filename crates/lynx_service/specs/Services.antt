@@ -16,12 +16,13 @@ use Rattle.lynx_promises.specs.Promises.{KeepsPromises}
 use Rattle.lynx_server.specs.Serving.{Serving}
 use Rattle.lynx_set.specs.Rules.{IsSet}
 use Rattle.lynx_set.specs.Set.{Set}
-use Rattle.lynx_store.specs.Stored.{Owner}
+use Rattle.lynx_store_files.specs.Closed.{AreClosed}
+use Rattle.lynx_store_files.specs.Folders.{StandIn}
+use Rattle.lynx_store_files.specs.Terms.{StoreTerms}
 use Rattle.lynx_weave.specs.Senders.{AreAllSent}
 use Rattle.lynx_weave.specs.Servers.{histories_of}
 use Rattle.lynx_lex.specs.Lines.{with_feed}
 use Rattle.lynx_world.specs.Worlds.{WorldState}
-use Rattle.lynx_service.specs.Places.{AreOwned}
 
 -- the last lines of a service: that it is closed, and the order of all chains, or a cycle
 abbrev pub last_lines : Explained → List ℕ
@@ -45,14 +46,15 @@ pub record IsEnded (world : WorldState) (old new : Option (List ℕ)) (explained
 abbrev pub AppendsSome : Option (List ℕ) → Option (List ℕ) → Type 0
 AppendsSome old new = (some : List ℕ) × Appends old new some
 
--- A service over that set. Its servers were opened over the keepers of their stores, each with a
--- lawful history, and all that ran there was sent; a cluster of them was started, and closed: its
--- world is just what the keepers keep then, and all that the sessions were told stands in it. That
--- world has all promises, and what explains it is written last, behind whatever was written before.
-pub record HasServed {K : Type 0} (terms : Terms K) (owner_of : K → Owner) (set : Set)
-    (old new : Option (List ℕ)) (explained : Explained) : Type 0 where
+-- A service over that set. Its servers were opened over the keepers of their stores in that folder,
+-- of which none was lost, each with a lawful history, and all that ran there was sent; a cluster of
+-- them was started, and closed: its world is just what the keepers keep then, and all that the
+-- sessions were told stands in it. The keepers were let go, each well. That world has all promises,
+-- and what explains it is written last, behind whatever was written before.
+pub record HasServed {K : Type 0} (terms : Terms K) (stores : StoreTerms K) (folder : List ℕ)
+    (set : Set) (old new : Option (List ℕ)) (explained : Explained) : Type 0 where
   pub before : List K
-  pub owned : AreOwned owner_of set before
+  pub stood : StandIn stores folder set before
   pub servers : List (Serving K)
   pub opened : AreOpened terms set before servers
   pub sent : AreAllSent set (histories_of servers)
@@ -62,6 +64,7 @@ pub record HasServed {K : Type 0} (terms : Terms K) (owner_of : K → Owner) (se
   pub keepers : List K
   pub world : WorldState
   pub closed : IsClosed terms cluster sessions world keepers
+  pub let_go : AreClosed stores.closed keepers
   pub promises : IsSet set → KeepsPromises set world.list
   pub right : IsExplainedBy world explained
   pub ordered : IsSet set → IsAccepted set → GivesOrder explained

@@ -70,9 +70,10 @@ fn close_doors<R: Wait + Clock + Net<Listener = TcpListener, Stream = TcpStream>
     rt: &R,
     hall: &Hall,
     board: &Board<'_>,
+    address: SocketAddr,
     watched_at: Option<SocketAddr>,
 ) {
-    board.take_down();
+    board.take_down(address);
     hall.door().close();
     if let Some(address) = watched_at {
         knock(rt, hall.watch_door(), address);
@@ -135,7 +136,7 @@ where
                     hall.leave(rt, None);
                 }
             }
-            close_doors(rt, hall, board, watched_at);
+            close_doors(rt, hall, board, port, watched_at);
         },
     );
     shared.into_sessions()

@@ -1,5 +1,6 @@
 //! The end of a service.
-ghost use Rattle.std.specs.Prelude.{◌≡◌, IfOk};
+ghost use Rattle.std.specs.Prelude.{◌≡◌, IfOk, OnOk};
+ghost use Rattle.lynx_store_files.specs.Closed.{AreClosed};
 ghost use Rattle.lynx_service.specs.Services.{IsEnded, IsExplainedBy, last_lines};
 
 use crate::fault::ServeFault;
@@ -16,7 +17,9 @@ use std::io::Write;
 fn close_keepers<K: BatchKeeper + Drop, S: Stores<K>>(
     stores: &S,
     keepers: Vec<K>,
-) -> Result<(), ServeFault> {
+) -> Result<(), ServeFault>
+    ensures { OnOk result (AreClosed S.store_terms.closed keepers.items) }
+{
     match close_all(stores, keepers) {
         Ok(()) => Ok(()),
         Err((server, fault)) => Err(ServeFault::of_store(server, fault)),
@@ -71,7 +74,9 @@ pub(crate) fn end<K: BatchKeeper + Drop, S: Stores<K>, W: Write>(
     closed: Closed<K>,
     writer: &mut W,
 ) -> Result<Explained, ServeFault>
-    ensures { IfOk result (IsEnded closed.world (W.contents writer.old) (W.contents writer.new)) }
+    ensures ended { IfOk result
+        (IsEnded closed.world (W.contents writer.old) (W.contents writer.new)) }
+    ensures let_go { OnOk result (AreClosed S.store_terms.closed closed.keepers.items) }
 {
     let Closed { world, keepers } = closed;
     let words = last_words(alloc, &world);

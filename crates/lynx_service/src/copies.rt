@@ -34,6 +34,8 @@ pub(crate) struct Copy<K> {
     follower: Option<Follower<K>>,
     /// When it failed last, or was last tried in vain.
     failed: Option<Instant>,
+    /// It couldn't be closed as it ought to be: its log may lie beside its file.
+    is_unclosed: bool,
 }
 
 /// What is told of a store that failed.
@@ -104,6 +106,7 @@ impl<K: BatchKeeper + Drop> Copy<K> {
             server: number,
             follower: None,
             failed: None,
+            is_unclosed: false,
         };
         copy.begin(folder, opened.follower);
         Ok(copy)
@@ -115,6 +118,7 @@ impl<K: BatchKeeper + Drop> Copy<K> {
         folder.log.copying(self.server, follower.count());
         self.follower = Some(follower);
         self.failed = None;
+        self.is_unclosed = false;
     }
 
     /// Opens the store again where it doesn't follow, unless it failed a short while ago.
@@ -203,15 +207,31 @@ impl<K: BatchKeeper + Drop> Copy<K> {
         }
     }
 
-    /// Closes the store. One that can't be closed as it ought to be is told; what it keeps stands.
-    pub(crate) fn close<S: Stores<K>>(&mut self, folder: &CopyFolder<'_, S>) {
+    /// The keeper of the store, where it is open, or couldn't be closed.
+    fn keeper_to_close<S: Stores<K>>(&mut self, folder: &CopyFolder<'_, S>) -> Option<K> {
+        match self.follower.take() {
+            Some(follower) => Some(follower.into_keeper()),
+            None if self.is_unclosed => folder
+                .stores
+                .open(folder.folder, folder.set, self.server)
+                .ok(),
+            None => None,
+        }
+    }
+
+    /// Closes the store. Whether its file has all that it keeps, without a log beside it. One that
+    /// can't be closed so is told; what it keeps stands.
+    pub(crate) fn close<S: Stores<K>>(&mut self, folder: &CopyFolder<'_, S>) -> bool {
         self.failed = None;
         folder.room.leave(self.server);
-        if let Some(follower) = self.follower.take()
-            && let Err(fault) = folder.stores.close(follower.into_keeper())
-        {
-            let word = CopyWord::from(fault);
-            folder.log.copy_failed(self.server, word, None);
+        if let Some(keeper) = self.keeper_to_close(folder) {
+            let closed = folder.stores.close(keeper);
+            self.is_unclosed = closed.is_err();
+            if let Err(fault) = closed {
+                let word = CopyWord::from(fault);
+                folder.log.copy_failed(self.server, word, None);
+            }
         }
+        !self.is_unclosed
     }
 }

@@ -25,6 +25,8 @@ pub(crate) struct CopyRoom {
     pauses: AtomicU64,
     /// The last of those pauses behind which all stores were closed.
     paused: AtomicU64,
+    /// The last of those at which one couldn't be closed.
+    unclosed: AtomicU64,
 }
 
 impl CopyRoom {
@@ -42,6 +44,7 @@ impl CopyRoom {
             is_to_pause: AtomicBool::new(false),
             pauses: AtomicU64::new(0),
             paused: AtomicU64::new(0),
+            unclosed: AtomicU64::new(0),
         })
     }
 
@@ -91,6 +94,16 @@ impl CopyRoom {
         self.paused.store(number, Ordering::SeqCst);
     }
 
+    /// Whether a store couldn't be closed since the pause of that number was asked for, ..
+    pub(crate) fn is_unclosed(&self, number: u64) -> bool {
+        self.unclosed.load(Ordering::SeqCst) >= number
+    }
+
+    /// .. and couldn't be now.
+    pub(crate) fn note_unclosed(&self, number: u64) {
+        self.unclosed.store(number, Ordering::SeqCst);
+    }
+
     /// What is told of the store of a server that has so many entries.
     pub(crate) fn figures(&self, server: ServerId, entries: u64) -> Option<CopyFigures> {
         let place = self.places.as_slice().get(server.index())?;
@@ -116,12 +129,15 @@ impl CopyRoom {
         }
     }
 
-    /// Waits until all stores are closed behind the pause of that number,
+    /// Waits until all stores are closed behind the pause of that number, or one couldn't be,
     /// for ten seconds or so at most.
     fn wait_for_pause<R: Wait + Clock>(&self, rt: &R, number: u64) -> CopyDone {
         for _ in 0..MOST_PAUSE_LOOKS {
             if self.is_paused(number) {
                 return CopyDone::Done;
+            }
+            if self.is_unclosed(number) {
+                break;
             }
             thread::sleep(rt, Duration::from_millis(PAUSE_LOOK_MILLIS));
         }

@@ -63,12 +63,17 @@ impl<'a, K: BatchKeeper + Drop, S: Stores<K>> Copier<'a, K, S> {
         is_more
     }
 
-    /// Closes the stores, if that wasn't done since the pause of that number was asked for.
+    /// Closes the stores, if that wasn't tried since the pause of that number was asked for.
     fn pause<R: Wait>(&self, rt: &R, number: u64) {
-        if !self.folder.room.is_paused(number) {
-            self.close(rt);
-            self.folder.room.note_pause(number);
+        let room = self.folder.room;
+        if room.is_paused(number) || room.is_unclosed(number) {
+            return;
+        }
+        if self.close(rt) {
+            room.note_pause(number);
             self.folder.log.copy_paused();
+        } else {
+            room.note_unclosed(number);
         }
     }
 
@@ -95,11 +100,13 @@ impl<'a, K: BatchKeeper + Drop, S: Stores<K>> Copier<'a, K, S> {
         }
     }
 
-    /// Closes the stores.
-    fn close<R: Wait>(&self, rt: &R) {
+    /// Closes the stores. Whether that went well with all of them.
+    fn close<R: Wait>(&self, rt: &R) -> bool {
+        let mut are_closed = true;
         let mut copies = self.copies.lock(rt);
         for copy in copies.iter_mut() {
-            copy.close(&self.folder);
+            are_closed &= copy.close(&self.folder);
         }
+        are_closed
     }
 }

@@ -10,8 +10,8 @@ use std::alloc::Global;
 use std::sync::Wait;
 use std::time::Clock;
 
-/// A client's session, the cluster that it asks, and the ending that it may ask for.
-#[derive(Drop)]
+/// A client's session, the cluster that it asks, and the ending that it may ask for. It must be
+/// taken apart, since the session must be spent.
 pub struct ClientDesk<'a, R: Wait + Clock, K: BatchKeeper, G: Gate> {
     pub rt: &'a R,
     pub alloc: Global,

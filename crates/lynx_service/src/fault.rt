@@ -1,12 +1,13 @@
 //! Why a service didn't begin, or didn't end well.
 ghost use Rattle.std.specs.Prelude.{◌≡◌};
-ghost use Rattle.lynx_service.specs.Faults.{contents_fault, copy_fault, missing_fault, store_fault};
+ghost use Rattle.lynx_service.specs.Faults.{contents_fault, copy_fault, folder_fault, missing_fault, store_fault};
 
 use lynx_cluster::{CloseFault, StartFault};
 use lynx_lines::WriteFailed;
 use lynx_names::{Memory, ServerId};
 use lynx_server::OpenFault;
 use lynx_store::StoreFault;
+use lynx_store_files::FolderFault;
 use lynx_weave::WeaveFault;
 use std::alloc::{AllocError, AllocFailed};
 use thiserror::Error;
@@ -187,6 +188,17 @@ impl ServeFault {
         let server = server.number();
         let word = StoreWord::Damaged(Damage::Missing);
         ServeFault::Store { server, word }
+    }
+
+    /// The fault of the stores of a folder.
+    pub(crate) fn of_folder(fault: FolderFault) -> ServeFault
+        ensures { result ≡ folder_fault fault }
+    {
+        match fault {
+            FolderFault::Store { server, fault } => ServeFault::of_store(server, fault),
+            FolderFault::Missing { server } => ServeFault::of_missing(server),
+            FolderFault::Memory => ServeFault::Memory,
+        }
     }
 
     /// The fault of what that server's store holds.

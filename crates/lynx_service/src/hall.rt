@@ -4,12 +4,11 @@ use crate::ending::Ending;
 use crate::limits::{MAX_CLIENTS, MAX_WATCHERS};
 use lynx_cluster::{Front, Gate, Session};
 use lynx_keep::BatchKeeper;
-use std::alloc::Global;
+use std::alloc::{AllocFailed, Global};
 use std::sync::atomic::{AtomicBool, AtomicU64, Ordering};
 use std::sync::{Mutex, Wait};
 
-/// The clients of a service.
-#[derive(Drop)]
+/// The clients of a service. They must be spent, as their sessions must.
 struct Clients {
     /// How many connections are open.
     count: u64,
@@ -44,8 +43,7 @@ impl Door {
 
 /// What the threads of a service share. A connection that ends leaves its session to the next one,
 /// with all that it was told, so that a service makes no more of them than it has clients at a
-/// time.
-#[derive(Drop)]
+/// time. It must be spent, by [`Hall::into_sessions`].
 pub(crate) struct Hall {
     clients: Mutex<Clients>,
     ending: Ending,
@@ -128,12 +126,15 @@ impl Hall {
         }
     }
 
-    /// A client goes, and leaves its session, if it was given one. Entering made the room for it.
+    /// A client goes, and leaves its session, if it was given one. Entering made the room for it;
+    /// without room it would be abandoned.
     pub(crate) fn leave<R: Wait>(&self, rt: &R, session: Option<Session>) {
         let mut clients = self.clients.lock(rt);
         clients.count = clients.count.saturating_sub(1);
-        if let Some(session) = session {
-            let _ = clients.sessions.push(session);
+        if let Some(session) = session
+            && let Err(AllocFailed { value }) = clients.sessions.push(session)
+        {
+            value.abandon();
         }
     }
 
@@ -178,6 +179,17 @@ impl Hall {
 
     /// The sessions of all that were in.
     pub(crate) fn into_sessions(self) -> Vec<Session> {
-        self.clients.into_inner().sessions
+        let Hall {
+            clients,
+            ending: _,
+            door: _,
+            watch_door: _,
+            made: _,
+            told: _,
+            shown: _,
+            watchers: _,
+        } = self;
+        let Clients { count: _, sessions } = clients.into_inner();
+        sessions
     }
 }

@@ -1,7 +1,8 @@
 //! Opening the stores and the port.
-ghost use Rattle.std.specs.Prelude.{◌≡◌, ℕ, IfOk};
-ghost use Rattle.lynx_store.specs.Stored.{owner_for};
-ghost use Rattle.lynx_service.specs.Places.{AreOwned, ArePlaces, IsOwn, OpensAt};
+ghost use Rattle.std.specs.Prelude.{◌≡◌, ℕ, All, None, Some, IfErr, IfOk, IsSome, OnOk, length};
+ghost use Rattle.lynx_service.specs.Faults.{missing_fault};
+ghost use Rattle.lynx_service.specs.Places.{AreFoundAt, AreLooked, ArePlaces, FindsAt, LooksAt};
+ghost use Rattle.lynx_store_files.specs.Folders.{AreFound, StandIn, lost_store};
 
 use crate::accepting::Ports;
 use crate::fault::ServeFault;
@@ -9,10 +10,10 @@ use crate::progress::Progress;
 use crate::service::{Service, StatusPort};
 use crate::watching::WatchPort;
 use lynx_keep::Keeper;
-use lynx_names::ServerId;
+use lynx_names::{Memory, ServerId};
 use lynx_set::ChainSet;
 use lynx_store::StoreFault;
-use lynx_store_files::Stores;
+use lynx_store_files::{Stores, lost_store, make_lacking};
 use std::alloc::Global;
 use std::net::{Ipv4Addr, Net, SocketAddr, TcpListener, TcpStream};
 use std::sync::Wait;
@@ -22,41 +23,29 @@ use std::{io, thread};
 /// Threads that open stores, at most: as many as a set has servers.
 const OPENERS: usize = 16;
 
-/// The store of a server: whether there is one, and its keeper once it is open.
+/// The store of a server: what was found of it, once it was looked for.
 #[derive(Drop)]
 pub(crate) struct Place<K> {
     server: ServerId,
-    is_there: bool,
-    opened: Option<Result<K, StoreFault>>,
+    found: Option<Result<Option<K>, StoreFault>>,
 }
 
-/// What there is of the stores of a folder.
-pub(crate) fn places<K: Drop, S: Stores<K>>(
-    alloc: Global,
-    set: &ChainSet,
-    stores: &S,
-    folder: &str,
-) -> Result<Vec<Place<K>>, ServeFault>
-    ensures { IfOk result (λ places.
-        ArePlaces S.owner_of set.now set.now.servers places.items) }
+/// A place for the store of each server of the set.
+fn places<K: Drop>(alloc: Global, set: &ChainSet) -> Result<Vec<Place<K>>, Memory>
+    ensures { IfOk result (λ places. ArePlaces set.now places.items) }
 {
     let mut places = Vec::new(alloc);
     for number in 0..set.servers() {
-        let server = ServerId::at(number);
-        match stores.has(folder, server) {
-            Ok(is_there) => places.push(Place {
-                server,
-                is_there,
-                opened: None,
-            })?,
-            Err(fault) => return Err(ServeFault::of_store(server, fault)),
-        }
+        places.push(Place {
+            server: ServerId::at(number),
+            found: None,
+        })?;
     }
     Ok(places)
 }
 
-/// Opens the store at a place, if there is one.
-fn open_at<R: Wait, K: Keeper + Drop, S: Stores<K>>(
+/// Opens the store of a place, if there is one.
+fn look_at<R: Wait, K: Keeper + Drop, S: Stores<K>>(
     rt: &R,
     set: &ChainSet,
     stores: &S,
@@ -65,20 +54,18 @@ fn open_at<R: Wait, K: Keeper + Drop, S: Stores<K>>(
     progress: &Progress<'_>,
     all: u64,
 )
-    ensures { OpensAt S.owner_of set.now place.old place.new }
+    ensures { LooksAt S.store_terms folder.now set.now place.old place.new }
 {
-    if place.is_there {
-        let opened = stores.open(folder, set, place.server);
-        if let Ok(keeper) = &opened {
-            progress.opened(rt, all, stores.entries(keeper));
-        }
-        place.opened = Some(opened);
+    let found = stores.open_there(folder, set, place.server);
+    if let Ok(Some(keeper)) = &found {
+        progress.opened(rt, all, stores.entries(keeper));
     }
+    place.found = Some(found);
 }
 
 /// Opens the stores that are there, side by side: reading one takes some seconds where it is large.
 /// Nothing is made.
-pub(crate) fn open_there<R: Threads + Wait + Sync, K: Keeper + Send + Drop, S: Stores<K> + Sync>(
+fn look_at_all<R: Threads + Wait + Sync, K: Keeper + Send + Drop, S: Stores<K> + Sync>(
     rt: &R,
     set: &ChainSet,
     stores: &S,
@@ -86,86 +73,104 @@ pub(crate) fn open_there<R: Threads + Wait + Sync, K: Keeper + Send + Drop, S: S
     places: &mut [Place<K>],
     progress: &Progress<'_>,
 )
-    ensures { (count : ℕ) → ArePlaces S.owner_of set.now count places.old
-        → ArePlaces S.owner_of set.now count places.new }
+    ensures { ArePlaces set.now places.old
+        → AreLooked S.store_terms folder.now set.now places.new }
 {
-    let all = places.iter().filter(|place| place.is_there).count() as u64;
+    let all = places.len() as u64;
     progress.opens(all);
     thread::for_each_mut(
         rt,
         places,
         OPENERS,
         &|_: usize, place: &mut Place<K>|
-            ensures { OpensAt S.owner_of set.entry.now place.old place.new }
+            ensures { LooksAt S.store_terms folder.entry.now set.entry.now place.old place.new }
         {
-            open_at(rt, set, stores, folder, place, progress, all);
+            look_at(rt, set, stores, folder, place, progress, all);
         },
     );
 }
 
-/// The first fault, by number, of the stores that are there; or the first store that isn't there,
-/// where another has entries. A folder is new as a whole, or has the stores of all servers.
-pub(crate) fn judge<K, S: Stores<K>>(stores: &S, places: &[Place<K>]) -> Result<(), ServeFault> {
-    let mut missing = None;
-    let mut has_entries = false;
-    for place in places {
-        match &place.opened {
-            Some(Ok(keeper)) => has_entries |= stores.entries(keeper) > 0,
-            Some(Err(fault)) => return Err(ServeFault::of_store(place.server, *fault)),
-            None => {
-                if missing.is_none() {
-                    missing = Some(place.server);
-                }
-            }
-        }
-    }
-    match missing {
-        Some(server) if has_entries => Err(ServeFault::of_missing(server)),
-        _ => Ok(()),
+/// What was found at a place.
+fn found_at<K: Drop>(place: Place<K>) -> Result<Option<K>, ServeFault>
+    requires { IsSome place.found }
+    ensures { FindsAt place result }
+{
+    let Place { server, found } = place;
+    match found {
+        Some(Ok(one)) => Ok(one),
+        Some(Err(fault)) => Err(ServeFault::of_store(server, fault)),
+        None => unreachable!(),
     }
 }
 
-/// The keeper of one server: that which is open, or a new one, which is made now.
-fn keeper_of<K: Drop, S: Stores<K>>(
+/// What was found of each server, or the first fault, by number, of a store that is there.
+fn found_at_all<K: Drop>(alloc: Global, places: Vec<Place<K>>) -> Result<Vec<Option<K>>, ServeFault>
+    requires { All (λ place. IsSome place.found) places.items }
+    ensures { IfOk result (λ found. AreFoundAt places.items found.items) }
+{
+    let mut found = Vec::new(alloc);
+    for place in places {
+        found.push(found_at(place)?)?;
+    }
+    Ok(found)
+}
+
+/// What is found of the store of each server in the folder, or the first fault, by number. Those
+/// that are there are opened side by side.
+pub(crate) fn find_all<R: Threads + Wait + Sync, K: Keeper + Send + Drop, S: Stores<K> + Sync>(
+    rt: &R,
+    alloc: Global,
     set: &ChainSet,
     stores: &S,
     folder: &str,
-    place: Place<K>,
-) -> Result<K, ServeFault>
-    requires { IsOwn S.owner_of set.now place }
-    ensures { IfOk result (λ keeper. S.owner_of keeper ≡ owner_for place.server set.now) }
+    progress: &Progress<'_>,
+) -> Result<Vec<Option<K>>, ServeFault>
+    ensures { IfOk result (λ found. AreFound S.store_terms folder.now set.now found.items) }
 {
-    let Place {
-        server,
-        is_there: _,
-        opened,
-    } = place;
-    match opened {
-        Some(Ok(keeper)) => Ok(keeper),
-        Some(Err(fault)) => Err(ServeFault::of_store(server, fault)),
-        None => match stores.open(folder, set, server) {
-            Ok(keeper) => Ok(keeper),
-            Err(fault) => Err(ServeFault::of_store(server, fault)),
-        },
-    }
+    let mut places = places(alloc, set)?;
+    look_at_all(rt, set, stores, folder, places.as_mut_slice(), progress);
+    found_at_all(alloc, places)
 }
 
-/// The keepers of all servers, in order.
+/// The first store that isn't there, where another has entries. A folder is new as a whole, or has
+/// the stores of all servers.
+pub(crate) fn judge<K, S: Stores<K>>(
+    stores: &S,
+    set: &ChainSet,
+    found: &[Option<K>],
+) -> Result<(), ServeFault>
+    requires { length found.now ≡ set.now.servers }
+    ensures none_lost { OnOk result (lost_store S.store_terms.count_of found.now ≡ None) }
+    ensures lost { IfErr result (λ fault. (server : ℕ)
+        × (lost_store S.store_terms.count_of found.now ≡ Some server)
+        × (fault ≡ missing_fault server)) }
+{
+    let Some(place) = lost_store(stores, found) else {
+        return Ok(());
+    };
+    let Some(server) = ServerId::among(set.servers(), place as u64) else {
+        unreachable!()
+    };
+    Err(ServeFault::of_missing(server))
+}
+
+/// The keepers of all servers, in order, where nothing was lost: those that were found, and those
+/// of stores that are made now.
 pub(crate) fn keepers<K: Drop, S: Stores<K>>(
     alloc: Global,
     set: &ChainSet,
     stores: &S,
     folder: &str,
-    places: Vec<Place<K>>,
+    found: Vec<Option<K>>,
 ) -> Result<Vec<K>, ServeFault>
-    requires { ArePlaces S.owner_of set.now set.now.servers places.items }
-    ensures { IfOk result (λ keepers. AreOwned S.owner_of set.now keepers.items) }
+    requires { AreFound S.store_terms folder.now set.now found.items
+        × (lost_store S.store_terms.count_of found.items ≡ None) }
+    ensures { IfOk result (λ keepers. StandIn S.store_terms folder.now set.now keepers.items) }
 {
-    let mut keepers = Vec::new(alloc);
-    for place in places {
-        keepers.push(keeper_of(set, stores, folder, place)?)?;
+    match make_lacking(alloc, stores, folder, set, found) {
+        Ok(keepers) => Ok(keepers),
+        Err(fault) => Err(ServeFault::of_folder(fault)),
     }
-    Ok(keepers)
 }
 
 /// Listens to clients, and to those who watch where the service is to be watched.

@@ -1,9 +1,9 @@
 //! A service, from its stores to its audit.
 ghost use Rattle.std.specs.Prelude.{◌≡◌, List, IfOk, OnOk};
 ghost use Rattle.lynx_cluster.specs.Starting.{AreOpened};
+ghost use Rattle.lynx_store_files.specs.Folders.{StandIn};
 ghost use Rattle.lynx_weave.specs.Senders.{AreAllSent};
 ghost use Rattle.lynx_weave.specs.Servers.{AreServersOf, histories_of};
-ghost use Rattle.lynx_service.specs.Places.{AreOwned};
 ghost use Rattle.lynx_service.specs.Services.{AppendsSome, HasServed};
 
 use crate::accepting::{Ports, serve_clients};
@@ -13,7 +13,7 @@ use crate::copy_room::CopyRoom;
 use crate::copying::Copier;
 use crate::fault::ServeFault;
 use crate::log::Log;
-use crate::opening::{judge, keepers, listen_at_all, open_there, places};
+use crate::opening::{find_all, judge, keepers, listen_at_all};
 use crate::progress::Progress;
 use crate::tally::Tally;
 use lynx_cluster::{Cluster, Host, Opened, Pace, Session};
@@ -114,7 +114,7 @@ fn serve_when_told<
             sessions
         }
         Err(_) => {
-            board.take_down();
+            board.take_down(ports.address);
             Vec::new(alloc)
         }
     };
@@ -139,21 +139,14 @@ fn open_all<
     ensures servers { IfOk result (λ all. AreServersOf all.0.set all.0.servers.items) }
     ensures opened { IfOk result (λ all. (keepers : List K)
         × AreOpened K.terms set.now keepers all.0.servers.items
-        × AreOwned S.owner_of set.now keepers) }
+        × StandIn S.store_terms service.entry.folder.now set.now keepers) }
     ensures sent { IfOk result (λ all. AreAllSent all.0.set (histories_of all.0.servers.items)) }
 {
-    let mut places = places(alloc, set, stores, service.folder)?;
-    open_there(
-        rt,
-        set,
-        stores,
-        service.folder,
-        places.as_mut_slice(),
-        progress,
-    );
-    judge(stores, places.as_slice())?;
+    let folder = service.folder;
+    let found = find_all(rt, alloc, set, stores, folder, progress)?;
+    judge(stores, set, found.as_slice())?;
     let ports = listen_at_all(rt, service)?;
-    let keepers = keepers(alloc, set, stores, service.folder, places)?;
+    let keepers = keepers(alloc, set, stores, folder, found)?;
     progress.starts(rt);
     let opened = Opened::open(alloc, set, keepers)?;
     progress.compares();
@@ -247,7 +240,7 @@ pub fn serve_stores<
     board: &Board<'_>,
     log: Log,
 ) -> Result<Explained, ServeFault>
-    ensures { IfOk result (HasServed K.terms S.owner_of set.now
+    ensures { IfOk result (HasServed K.terms S.store_terms service.entry.folder.now set.now
         (W.contents writer.old) (W.contents writer.new)) }
 {
     let opened = open_all(&rt, alloc, set, stores, service, progress);

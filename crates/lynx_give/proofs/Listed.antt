@@ -1,7 +1,9 @@
 -- Lists that grow at their ends, as what stands for one server after another is found or made.
-use Rattle.std.proofs.Common.{◌≡◌, ◌+◌, ◌<◌, ◌∙◌, ℕ, suc, List, [], ◌∷◌, ◌++◌, length, map, take, Option, None, Some, refl, sym, ap, subst, append_assoc, arith}
+use Rattle.std.proofs.Common.{◌≡◌, ◌+◌, ◌<◌, ◌∙◌, ℕ, suc, List, [], ◌∷◌, ◌++◌, length, map, take, Option, None, Some, Result, Ok, Err, refl, sym, ap, subst, append_assoc, arith}
 use Rattle.std.proofs.lemmas.List.{append-nil, length-append, length-take, map-append}
 use Rattle.std.proofs.lemmas.List.Quantifiers.{position-Some}
+use Rattle.std.specs.Prelude.{OnOk}
+use Rattle.std.specs.List.{AllByRecursion}
 use Rattle.std.specs.Io.KnownBytes.{Appends}
 use Rattle.lynx_extend.specs.Places.{first_lost, is_empty, were_there}
 use Rattle.lynx_extend.specs.declared.places.Place.{Place}
@@ -136,3 +138,9 @@ lost_within places place lost =
     let inside = (position-Some is_empty (take (were_there places) places) place Empty lost).0 in
     let front = length-take (were_there places) places in
     omega (arith, inside, front)
+
+-- what holds of all once it holds of those that are left, of which there are none
+pub all_closed : {X E : Type 0} (P : X → Type 0) (all rest : List X) (done : Result (Unit {0}) E) → rest ≡ [] → OnOk done (AllByRecursion P rest → AllByRecursion P all) →
+    OnOk done (AllByRecursion P all)
+all_closed P all rest (Ok value) none is = is (subst (AllByRecursion P) (sym none) tt)
+all_closed P all rest (Err fault) none is = tt

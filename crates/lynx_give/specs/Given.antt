@@ -1,7 +1,8 @@
 -- The stores of a folder that are given to a set which extends theirs. What stands for the servers
 -- of the set is listed in their order, from server 0 on.
-use Rattle.std.specs.Prelude.{◌≡◌, ◌≢◌, ℕ, suc, List, [], ◌∷◌, ◌++◌, length, map, Option, None, Some}
+use Rattle.std.specs.Prelude.{◌≡◌, ◌≢◌, ℕ, suc, Bool, true, List, [], ◌∷◌, ◌++◌, length, map, Option, None, Some}
 use Rattle.std.specs.Io.KnownBytes.{Appends}
+use Rattle.std.specs.List.{AllByRecursion}
 use Rattle.sqlite.specs.State.{State}
 use Rattle.lynx_keep.specs.Kept.{KeptState}
 use Rattle.lynx_set.specs.Set.{Set}
@@ -11,7 +12,7 @@ use Rattle.lynx_extend.specs.declared.places.Place.TheVariants.{Empty, New, Old}
 use Rattle.lynx_store.specs.declared.extending.Extended.{Extended}
 use Rattle.lynx_store.specs.Extensions.{ExtendsStore, IsExtendable, IsOfSet, KeepsFor, TellsOld}
 use Rattle.lynx_store.specs.Premise.{IsUndisturbed}
-use Rattle.lynx_store.specs.Stored.{Owner, owner_for}
+use Rattle.lynx_store_files.specs.Terms.{StoreTerms}
 use Rattle.lynx_give.specs.Lines.{given_line, made_line}
 use Rattle.lynx_give.specs.declared.store.Store.{Store}
 use Rattle.lynx_give.specs.declared.store.Store.TheVariants.{Held, Made}
@@ -51,11 +52,19 @@ IsFound state_of OpenedAt set server None place = place ≡ Empty
 IsFound state_of OpenedAt set server (Some held) place =
     IsRead state_of OpenedAt set server held place
 
--- a store is made for the server where there is none, and only there
-abbrev pub IsMade : {K C : Type 0} → (K → Owner) → Set → ℕ → Option C → Store K C → Type 0
-IsMade owner_of set server None (Made keeper) = owner_of keeper ≡ owner_for server set
-IsMade owner_of set server (Some found) (Held held) = held ≡ found
-IsMade owner_of set server found store = ⊥
+-- a store is made for the server where there is none, and only there: it keeps nothing
+abbrev pub IsMade : {K C : Type 0} → StoreTerms K → List ℕ → Set → ℕ → Option C → Store K C
+    → Type 0
+IsMade stores folder set server None (Made keeper) =
+    stores.store_in folder set server keeper × (stores.count_of keeper ≡ 0)
+IsMade stores folder set server (Some found) (Held held) = held ≡ found
+IsMade stores folder set server found store = ⊥
+
+-- the store was let go, well or not
+abbrev pub IsLetGo : {K C : Type 0} → (K → Bool → Type 0) → (C → Bool → Type 0) → Bool
+    → Store K C → Type 0
+IsLetGo Closed DatabaseClosed is_well (Made keeper) = Closed keeper is_well
+IsLetGo Closed DatabaseClosed is_well (Held database) = DatabaseClosed database is_well
 
 -- what is told of it: nothing where it was found
 abbrev pub made_text : {K C : Type 0} → ℕ → Store K C → List ℕ
@@ -93,15 +102,18 @@ pub record AreFound {C : Type 0} (state_of : C → State) (OpenedAt : ℕ → C 
   pub each : Each (IsFound state_of OpenedAt set) 0 found places
 
 -- No store is lost, those of new servers are made, and then each that was there is given to the
--- set; so it is told, line by line.
-pub record HasGiven {K C : Type 0} (owner_of : K → Owner) (state_of : C → State)
-    (OpenedAt : ℕ → C → Type 0) (set : Set) (old new : Option (List ℕ)) : Type 0 where
+-- set; so it is told, line by line. All are let go, each well.
+pub record HasGiven {K C : Type 0} (stores : StoreTerms K) (folder : List ℕ) (state_of : C → State)
+    (OpenedAt : ℕ → C → Type 0) (DatabaseClosed : C → Bool → Type 0) (set : Set)
+    (old new : Option (List ℕ)) : Type 0 where
   pub found : List (Option C)
   pub places : List Place
   pub finds : AreFound state_of OpenedAt set found places
   pub none_lost : first_lost places ≡ None
   pub made : List (Store K C)
-  pub makes : Each (IsMade owner_of set) 0 found made
+  pub makes : Each (IsMade stores folder set) 0 found made
   pub given : List (Store K C × Option Extended)
   pub gives : Each (IsGiven state_of set) 0 made given
+  pub let_go : AllByRecursion (IsLetGo stores.closed DatabaseClosed true)
+      (map (λ one. one.0) given)
   pub written : Appends old new (told_of made_text 0 made ++ told_of given_text 0 given)

@@ -27,8 +27,9 @@ pub fn give_stores<
     S: Stores<K> + Databases<Connection<D>>,
     W: Write,
 >(alloc: Global, stores: &S, folder: &str, set: &ChainSet, writer: &mut W) -> Result<(), GiveFault>
-    ensures { OnOk result (HasGiven S.owner_of (λ conn. state D.Store conn)
-        (S.opened_at folder.now) set.now (W.contents writer.old) (W.contents writer.new)) }
+    ensures { OnOk result (HasGiven S.store_terms folder.now (λ conn. state D.Store conn)
+        (S.opened_at folder.now) S.database_closed set.now (W.contents writer.old)
+        (W.contents writer.new)) }
 {
     let found = look_at_all(alloc, stores, folder, set)?;
     let made = make_all(alloc, stores, folder, set, found, writer)?;

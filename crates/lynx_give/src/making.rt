@@ -9,6 +9,7 @@ use crate::store::{Store, add};
 use lynx_keep::Keeper;
 use lynx_names::ServerId;
 use lynx_set::ChainSet;
+use lynx_store::StoreFault;
 use lynx_store_files::Stores;
 use std::alloc::Global;
 use std::io::Write;
@@ -22,7 +23,7 @@ fn make_at<K: Keeper + Drop, C: Drop, S: Stores<K>, W: Write>(
     found: Option<C>,
     writer: &mut W,
 ) -> Result<Store<K, C>, GiveFault>
-    ensures made { IfOk result (IsMade S.owner_of set.now server found) }
+    ensures made { IfOk result (IsMade S.store_terms folder.now set.now server found) }
     ensures told { IfOk result (λ store.
         Appends (W.contents writer.old) (W.contents writer.new) (made_text server store)) }
 {
@@ -33,6 +34,10 @@ fn make_at<K: Keeper + Drop, C: Drop, S: Stores<K>, W: Write>(
         Ok(keeper) => keeper,
         Err(fault) => return Err(GiveFault::of_store(server, fault)),
     };
+    // None was there a moment ago: what somebody else put there since is left to them.
+    if stores.entries(&keeper) > 0 {
+        return Err(GiveFault::of_store(server, StoreFault::Store));
+    }
     write_made(server, writer)?;
     Ok(Store::Made(keeper))
 }
@@ -47,7 +52,8 @@ pub(crate) fn make_all<K: Keeper + Drop, C: Drop, S: Stores<K>, W: Write>(
     writer: &mut W,
 ) -> Result<Vec<Store<K, C>>, GiveFault>
     requires { length found.items ≡ set.now.servers }
-    ensures made { IfOk result (λ made. Each (IsMade S.owner_of set.now) 0 found.items made.items) }
+    ensures made { IfOk result (λ made.
+        Each (IsMade S.store_terms folder.now set.now) 0 found.items made.items) }
     ensures told { IfOk result (λ made.
         Appends (W.contents writer.old) (W.contents writer.new) (told_of made_text 0 made.items)) }
 {

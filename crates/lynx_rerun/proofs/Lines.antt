@@ -18,7 +18,7 @@ use Rattle.lynx_rerun.specs.Events.{CallsAt, ComeTo, ComesTo, DeliversSent, sent
 use Rattle.std.specs.Prelude.{IfOk, IsOk, OnOk}
 use Rattle.lynx_lines.specs.Scripts.{IsScript, script_of}
 use Rattle.lynx_report.specs.declared.run.Ending.{Ending}
-use Rattle.lynx_store.specs.Stored.{Owner}
+use Rattle.lynx_store_files.specs.Terms.{StoreTerms}
 use Rattle.lynx_rerun.specs.Reruns.{AreOpened, EndsAs, Reruns, keepers_of, lines_of}
 
 pub come_push : {K : Type 0} (terms : Terms K) (set : Set) (events : List Event) (event : Event) (outcomes : List Outcome) (outcome : Outcome) (old mid new : List (Serving K)) →
@@ -123,13 +123,13 @@ run_closed {K} (Ok done) terms set events opened last owed ending first second t
 )
 
 -- a whole run over stores
-pub reruns : {K E : Type 0} (r : Result Ending E) (terms : Terms K) (owner_of : K → Owner) (set : Set) (script : List ℕ) (owed : Bool) (events : List Event) (opened : List (Serving K)) (first third : Option (List ℕ)) →
-    IsScript set events × (script ≡ script_of set events) → AreOpened terms owner_of set opened →
+pub reruns : {K E : Type 0} (r : Result Ending E) (terms : Terms K) (stores : StoreTerms K) (folder : List ℕ) (set : Set) (script : List ℕ) (owed : Bool) (events : List Event) (opened : List (Serving K)) (first third : Option (List ℕ)) →
+    IsScript set events × (script ≡ script_of set events) → AreOpened terms stores folder set opened →
     IfOk r (λ ending. (outcomes : List Outcome) × (last : List (Serving K)) × (end_lines : List ℕ) × ComeTo terms set events outcomes opened last × EndsAs terms set owed (keepers_of last) ending end_lines
     × Appends first third (lines_of outcomes ++ end_lines)) →
-    IfOk r (λ ending. (printed : List ℕ) × Reruns terms owner_of set script owed ending printed × Appends first third printed)
-reruns (Err fault) terms owner_of set script owed events opened first third is_script are_opened ran = tt
-reruns (Ok ending) terms owner_of set script owed events opened first third is_script are_opened ran = (
+    IfOk r (λ ending. (printed : List ℕ) × Reruns terms stores folder set script owed ending printed × Appends first third printed)
+reruns (Err fault) terms stores folder set script owed events opened first third is_script are_opened ran = tt
+reruns (Ok ending) terms stores folder set script owed events opened first third is_script are_opened ran = (
   lines_of ran.0 ++ ran.2,
   record {
     events = events;

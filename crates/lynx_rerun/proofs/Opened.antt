@@ -1,5 +1,5 @@
 -- Servers that are opened one after another, and one that is opened again among others.
-use Rattle.std.proofs.Common.{◌≡◌, ℕ, zero, suc, ◌+◌, ◌<◌, List, [], ◌∷◌, ◌++◌, length, slice_get, slice_index_or, slice_set, Some, inl, inr, refl, sym, ap, ◌∙◌, subst, arith}
+use Rattle.std.proofs.Common.{◌≡◌, ℕ, zero, suc, ◌+◌, ◌<◌, List, [], ◌∷◌, ◌++◌, length, slice_get, slice_index_or, slice_set, Some, inl, inr, refl, sym, ap, ◌∙◌, subst, arith, append_assoc}
 use Rattle.std.specs.List.{insert, remove}
 use Rattle.std.proofs.lemmas.Bool.{cases_lt}
 use Rattle.std.proofs.lemmas.List.{length-append}
@@ -9,43 +9,67 @@ use Rattle.lynx_set.specs.Set.{Set}
 use Rattle.lynx_server.specs.Opening.{IsOpened}
 use Rattle.lynx_server.specs.Serving.{Serving}
 use Rattle.lynx_entry.specs.declared.event.Outcome.TheVariants.{Restarted}
-use Rattle.lynx_store.specs.Stored.{Owner}
 use Rattle.lynx_rerun.specs.Events.{CallsAt, IsRestarted}
-use Rattle.lynx_rerun.specs.Reruns.{IsOpenedOver}
+use Rattle.lynx_rerun.specs.Reruns.{AreOver, IsOver}
 use Rattle.lynx_server.proofs.Chains.{get_before, get_last}
 
--- the first servers, each opened over its own store
-pub record AreOpenedBelow {K : Type 0} (terms : Terms K) (owner_of : K → Owner) (set : Set) (number : ℕ) (servers : List (Serving K)) : Type 0 where
+-- the first servers, each opened over its keeper; the keepers of the others are left
+pub record AreOpenedBelow {K : Type 0} (terms : Terms K) (set : Set) (keepers rest : List K) (number : ℕ) (servers : List (Serving K)) : Type 0 where
+  pub done : List K
+  pub split : keepers ≡ done ++ rest
+  pub counted : length done ≡ number
   pub many : length servers ≡ number
-  pub each : (server : ℕ) (here : Serving K) → slice_get servers server ≡ Some here → IsOpenedOver terms owner_of set server here
+  pub each : (server : ℕ) (here : Serving K) → slice_get servers server ≡ Some here → IsOver terms set keepers server here
 
-pub opened_none : {K : Type 0} (terms : Terms K) (owner_of : K → Owner) (set : Set) → AreOpenedBelow terms owner_of set 0 []
-opened_none terms owner_of set = record { many = refl; each = λ server here is. cc }
+pub opened_none : {K : Type 0} (terms : Terms K) (set : Set) (keepers rest : List K) → rest ≡ keepers → AreOpenedBelow terms set keepers rest 0 []
+opened_none terms set keepers rest whole = record { done = []; split = sym whole; counted = refl; many = refl; each = λ server here is. cc }
 
-opened_one_more : {K : Type 0} (terms : Terms K) (owner_of : K → Owner) (set : Set) (number : ℕ) (servers : List (Serving K)) (here : Serving K) →
-    IsOpenedOver terms owner_of set number here → AreOpenedBelow terms owner_of set number servers → AreOpenedBelow terms owner_of set (number + 1) (servers ++ here ∷ [])
-opened_one_more {K} terms owner_of set number servers here is below = record {
-  many = let many = below.many in let more = length-append servers (here ∷ []) in omega (arith, more);
-  each = λ server one at. elim (cases_lt server (length servers)) [
-    | inl within ↦ below.each server one (sym (get_before servers here server within) ∙ at)
+-- what stands behind the first ones is the next
+next_at : {X : Type 0} (xs : List X) (x : X) (ys : List X) → slice_get (xs ++ x ∷ ys) (length xs) ≡ Some x
+next_at [] x ys = refl
+next_at (y ∷ xs) x ys = next_at xs x ys
+
+pub opened_more : {K : Type 0} (terms : Terms K) (set : Set) (keepers rest left : List K) (number at : ℕ) (servers more : List (Serving K)) (keeper : K) (here : Serving K) →
+    rest ≡ keeper ∷ left → at ≡ number → IsOpened terms set at keeper here → more ≡ servers ++ here ∷ [] → AreOpenedBelow terms set keepers rest number servers →
+    AreOpenedBelow terms set keepers left (number + 1) more
+opened_more {K} terms set keepers rest left number at servers more keeper here next at_is opened more_is below = record {
+  done = below.done ++ keeper ∷ [];
+  split = split ∙ sym (append_assoc below.done (keeper ∷ []) left);
+  counted = let counted = below.counted in let longer = length-append below.done (keeper ∷ []) in omega (arith, longer);
+  many = let many = below.many in let longer = ap length more_is ∙ length-append servers (here ∷ []) in omega (arith, longer);
+  each = λ server one there. elim (cases_lt server (length servers)) [
+    | inl within ↦ below.each server one (sym (get_before servers here server within) ∙ ap (λ xs. slice_get xs server) (sym more_is) ∙ there)
     | inr past ↦
-        let bound = slice_get_within (servers ++ here ∷ []) server one at in
-        let more = length-append servers (here ∷ []) in
-        let last : server ≡ length servers = omega (arith, more) in
-        let entries : Some here ≡ Some one = sym (ap (slice_get (servers ++ here ∷ [])) last ∙ get_last servers here) ∙ at in
+        let moved : slice_get (servers ++ here ∷ []) server ≡ Some one = ap (λ xs. slice_get xs server) (sym more_is) ∙ there in
+        let bound = slice_get_within (servers ++ here ∷ []) server one moved in
+        let longer = length-append servers (here ∷ []) in
+        let last : server ≡ length servers = omega (arith, longer) in
+        let entries : Some here ≡ Some one = sym (ap (slice_get (servers ++ here ∷ [])) last ∙ get_last servers here) ∙ moved in
         let alike : here ≡ one = cc in
-        let server_is : server ≡ number = last ∙ below.many in
-        subst (IsOpenedOver terms owner_of set server) alike
-        (subst (λ n. IsOpenedOver terms owner_of set n here) (sym server_is) is)
+        let server_is : number ≡ server = sym below.many ∙ sym last in
+        subst (IsOver terms set keepers server) alike (keeper, subst (λ n. slice_get keepers n ≡ Some keeper) server_is standing, subst (λ n. IsOpened terms set n keeper here) (at_is ∙ server_is) opened)
   ];
 }
+  where
+    split : keepers ≡ below.done ++ keeper ∷ left
+    split = below.split ∙ ap (λ xs. below.done ++ xs) next
 
-pub opened_more : {K : Type 0} (terms : Terms K) (owner_of : K → Owner) (set : Set) (number at : ℕ) (servers more : List (Serving K)) (here : Serving K) →
-    at ≡ number → IsOpenedOver terms owner_of set at here → more ≡ servers ++ here ∷ [] → AreOpenedBelow terms owner_of set number servers →
-    AreOpenedBelow terms owner_of set (number + 1) more
-opened_more {K} terms owner_of set number at servers more here at_is is more_is below =
-    subst (AreOpenedBelow terms owner_of set (number + 1)) (sym more_is)
-    (opened_one_more terms owner_of set number servers here (subst (λ n. IsOpenedOver terms owner_of set n here) at_is is) below)
+    standing : slice_get keepers number ≡ Some keeper
+    standing = ap (λ all. slice_get all number) split ∙ ap (slice_get (below.done ++ keeper ∷ left)) (sym below.counted) ∙ next_at below.done keeper left
+
+-- all are opened
+pub all_opened : {K : Type 0} (terms : Terms K) (set : Set) (keepers rest : List K) (number : ℕ) (servers : List (Serving K)) → number ≡ set.servers →
+    AreOpenedBelow terms set keepers rest number servers → AreOver terms set keepers servers
+all_opened terms set keepers rest number servers all below = record { many = below.many ∙ all; each = below.each }
+
+-- while servers are left, so are keepers
+pub some_left : {K : Type 0} (terms : Terms K) (set : Set) (keepers rest : List K) (number : ℕ) (servers : List (Serving K)) → number < length keepers → rest ≡ [] →
+    AreOpenedBelow terms set keepers rest number servers → ⊥
+some_left terms set keepers rest number servers within none below =
+    let lengths = ap length below.split ∙ length-append below.done rest in
+    let empty = ap length none in
+    let counted = below.counted in
+    omega (arith, within, lengths, empty, counted)
 
 -- what is taken out and put back changed is changed
 pub put_back : {X : Type 0} (xs : List X) (place : ℕ) (x : X) → place < length xs → insert (remove xs place) place x ≡ slice_set xs place x

@@ -7,6 +7,8 @@ use Rattle.lynx_server.specs.declared.fault.OpenFault.{OpenFault}
 use Rattle.lynx_server.specs.declared.fault.OpenFault.TheVariants as opening
 use Rattle.lynx_store.specs.declared.fault.StoreFault.{StoreFault}
 use Rattle.lynx_store.specs.declared.fault.StoreFault.TheVariants as store
+use Rattle.lynx_store_files.specs.declared.folder.FolderFault.{FolderFault}
+use Rattle.lynx_store_files.specs.declared.folder.FolderFault.TheVariants as folder
 use Rattle.lynx_weave.specs.declared.gather_fault.GatherFault.{GatherFault}
 use Rattle.lynx_weave.specs.declared.gather_fault.GatherFault.TheVariants as gather
 
@@ -18,6 +20,12 @@ no_memory = Run run.Memory
 abbrev pub store_fault : ℕ → StoreFault → RerunFault
 store_fault server store.Memory = no_memory
 store_fault server fault = Store server fault
+
+-- what is wrong with the stores of a folder: one that is lost is damaged
+abbrev pub folder_fault : FolderFault → RerunFault
+folder_fault (folder.Store server fault) = store_fault server fault
+folder_fault (folder.Missing server) = Store server store.Damaged
+folder_fault folder.Memory = no_memory
 
 -- what is wrong with what it holds
 abbrev pub contents_fault : ℕ → OpenFault → RerunFault

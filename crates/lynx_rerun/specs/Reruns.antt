@@ -12,22 +12,31 @@ use Rattle.lynx_report.specs.Options.{EndPrintsWith}
 use Rattle.lynx_report.specs.declared.run.Ending.{Ending}
 use Rattle.lynx_server.specs.Opening.{IsOpened}
 use Rattle.lynx_server.specs.Serving.{Serving}
-use Rattle.lynx_store.specs.Stored.{Owner, owner_for}
+use Rattle.lynx_store_files.specs.Folders.{StandIn}
+use Rattle.lynx_store_files.specs.Terms.{StoreTerms}
 use Rattle.lynx_weave.specs.Gathering.{IsGathered}
 use Rattle.lynx_world.specs.Worlds.{WorldState}
 use Rattle.lynx_rerun.specs.Events.{ComeTo}
 
--- a server of the set is opened over what a keeper of its own store kept
-abbrev pub IsOpenedOver : {K : Type 0} → Terms K → (K → Owner) → Set → ℕ → Serving K → Type 0
-IsOpenedOver {K} terms owner_of set server here =
-    (keeper : K) × (owner_of keeper ≡ owner_for server set) × IsOpened terms set server keeper here
+-- a server of the set is opened over what its keeper keeps
+abbrev pub IsOver : {K : Type 0} → Terms K → Set → List K → ℕ → Serving K → Type 0
+IsOver {K} terms set keepers server here =
+    (keeper : K) × (slice_get keepers server ≡ Some keeper)
+    × IsOpened terms set server keeper here
 
--- one server for each of the set, in order, each opened over its own store
-pub record AreOpened {K : Type 0} (terms : Terms K) (owner_of : K → Owner) (set : Set)
+-- one server for each of the set, in order, each opened over its keeper
+pub record AreOver {K : Type 0} (terms : Terms K) (set : Set) (keepers : List K)
     (servers : List (Serving K)) : Type 0 where
   pub many : length servers ≡ set.servers
   pub each : (server : ℕ) (here : Serving K) → slice_get servers server ≡ Some here
-      → IsOpenedOver terms owner_of set server here
+      → IsOver terms set keepers server here
+
+-- the servers of the set, each opened over its own store in the folder
+pub record AreOpened {K : Type 0} (terms : Terms K) (stores : StoreTerms K) (folder : List ℕ)
+    (set : Set) (servers : List (Serving K)) : Type 0 where
+  pub keepers : List K
+  pub stand : StandIn stores folder set keepers
+  pub over : AreOver terms set keepers servers
 
 -- the keepers of servers
 abbrev pub keepers_of : {K : Type 0} → List (Serving K) → List K
@@ -45,16 +54,17 @@ pub record EndsAs {K : Type 0} (terms : Terms K) (set : Set) (owed : Bool) (keep
   pub gathered : IsGathered terms set keepers read [] world
   pub end : EndPrintsWith owed world ending printed
 
--- What a run of a script prints at servers that were opened over their stores: a line for each
--- event, of what the server answered that it was for, and the lines of the world that the stores
--- keep then.
-pub record Reruns {K : Type 0} (terms : Terms K) (owner_of : K → Owner) (set : Set)
-    (script : List ℕ) (owed : Bool) (ending : Ending) (printed : List ℕ) : Type 0 where
+-- What a run of a script prints at servers that were opened over their stores in that folder: a
+-- line for each event, of what the server answered that it was for, and the lines of the world that
+-- the stores keep then.
+pub record Reruns {K : Type 0} (terms : Terms K) (stores : StoreTerms K) (folder : List ℕ)
+    (set : Set) (script : List ℕ) (owed : Bool) (ending : Ending)
+    (printed : List ℕ) : Type 0 where
   pub events : List Event
   pub is_script : IsScript set events
   pub spelled : script ≡ script_of set events
   pub opened : List (Serving K)
-  pub are_opened : AreOpened terms owner_of set opened
+  pub are_opened : AreOpened terms stores folder set opened
   pub outcomes : List Outcome
   pub last : List (Serving K)
   pub come : ComeTo terms set events outcomes opened last

@@ -1,5 +1,6 @@
 //! Letting go of servers and their stores.
 ghost use Rattle.std.specs.Prelude.{◌≡◌, ◌∷◌, ◌++◌, [], IfOk, OnOk};
+ghost use Rattle.lynx_store_files.specs.Closed.{AreClosed};
 ghost use Rattle.lynx_rerun.specs.Reruns.{keepers_of};
 
 use crate::fault::RerunFault;
@@ -36,7 +37,9 @@ pub(crate) fn keepers_of<K: Keeper + Drop>(
 pub(crate) fn close_stores<K: Keeper + Drop, S: Stores<K>>(
     stores: &S,
     keepers: Vec<K>,
-) -> Result<(), RerunFault> {
+) -> Result<(), RerunFault>
+    ensures { OnOk result (AreClosed S.store_terms.closed keepers.items) }
+{
     match close_all(stores, keepers) {
         Ok(()) => Ok(()),
         Err((server, fault)) => Err(RerunFault::of_store(server, fault)),

@@ -1,11 +1,12 @@
 //! Why a run over stores stops.
 ghost use Rattle.std.specs.Prelude.{◌≡◌};
-ghost use Rattle.lynx_rerun.specs.Faults.{contents_fault, store_fault};
+ghost use Rattle.lynx_rerun.specs.Faults.{contents_fault, folder_fault, store_fault};
 
 use lynx_names::{Memory, ServerId};
 use lynx_report::RunFault;
 use lynx_server::OpenFault;
 use lynx_store::StoreFault;
+use lynx_store_files::FolderFault;
 use lynx_weave::{GatherFault, WeaveFault};
 use std::alloc::{AllocError, AllocFailed};
 use thiserror::Error;
@@ -33,6 +34,17 @@ impl RerunFault {
         match fault {
             StoreFault::Memory => RerunFault::Run(RunFault::Memory),
             fault => RerunFault::Store { server, fault },
+        }
+    }
+
+    /// The fault of the stores of a folder. One that is lost is damaged.
+    pub(crate) fn of_folder(fault: FolderFault) -> RerunFault
+        ensures { result ≡ folder_fault fault }
+    {
+        match fault {
+            FolderFault::Store { server, fault } => RerunFault::of_store(server, fault),
+            FolderFault::Missing { server } => RerunFault::of_store(server, StoreFault::Damaged),
+            FolderFault::Memory => RerunFault::Run(RunFault::Memory),
         }
     }
 

@@ -1,29 +1,25 @@
 //! Opening servers over their stores.
-ghost use Rattle.std.specs.Prelude.{◌≡◌, ◌∷◌, ◌++◌, [], IfOk, OnOk};
-ghost use Rattle.lynx_rerun.specs.Reruns.{AreOpened, IsOpenedOver};
+ghost use Rattle.std.specs.Prelude.{◌≡◌, ◌∷◌, ◌++◌, [], IfOk, OnOk, length};
+ghost use Rattle.lynx_server.specs.Opening.{IsOpened};
+ghost use Rattle.lynx_rerun.specs.Reruns.{AreOpened, AreOver};
 
 use crate::fault::RerunFault;
 use lynx_keep::Keeper;
 use lynx_names::{Memory, ServerId};
 use lynx_server::Server;
 use lynx_set::ChainSet;
-use lynx_store_files::Stores;
+use lynx_store_files::{Stores, open_folder};
 use std::alloc::Global;
 
-/// The server over its store in the folder, which is made where there is none.
-fn open<K: Keeper + Drop, S: Stores<K>>(
+/// The server over what its store keeps.
+fn open<K: Keeper + Drop>(
     alloc: Global,
-    stores: &S,
     set: &ChainSet,
-    folder: &str,
     server: ServerId,
+    keeper: K,
 ) -> Result<Server<K>, RerunFault>
-    ensures { IfOk result (IsOpenedOver K.terms S.owner_of set.now server) }
+    ensures { IfOk result (IsOpened K.terms set.now server keeper) }
 {
-    let keeper = match stores.open(folder, set, server) {
-        Ok(keeper) => keeper,
-        Err(fault) => return Err(RerunFault::of_store(server, fault)),
-    };
     match Server::open(alloc, set, server, keeper) {
         Ok(opened) => Ok(opened),
         Err(fault) => Err(RerunFault::of_contents(server, fault)),
@@ -38,19 +34,39 @@ fn add<K: Keeper + Drop>(servers: &mut Vec<Server<K>>, opened: Server<K>) -> Res
     Ok(())
 }
 
-/// Each server of the set, in order.
+/// The servers of the set, each over its keeper.
+fn open_servers<K: Keeper + Drop>(
+    alloc: Global,
+    set: &ChainSet,
+    keepers: Vec<K>,
+) -> Result<Vec<Server<K>>, RerunFault>
+    requires { length keepers.items ≡ set.now.servers }
+    ensures { IfOk result (λ servers. AreOver K.terms set.now keepers.items servers.items) }
+{
+    let mut servers = Vec::new(alloc);
+    let mut keepers = keepers.into_iter();
+    for number in 0..set.servers() {
+        let Some(keeper) = keepers.next() else {
+            unreachable!()
+        };
+        let opened = open(alloc, set, ServerId::at(number), keeper)?;
+        add(&mut servers, opened)?;
+    }
+    Ok(servers)
+}
+
+/// Each server of the set, in order, over its store in the folder.
 pub(crate) fn open_all<K: Keeper + Drop, S: Stores<K>>(
     alloc: Global,
     stores: &S,
     set: &ChainSet,
     folder: &str,
 ) -> Result<Vec<Server<K>>, RerunFault>
-    ensures { IfOk result (λ servers. AreOpened K.terms S.owner_of set.now servers.items) }
+    ensures { IfOk result (λ servers.
+        AreOpened K.terms S.store_terms folder.now set.now servers.items) }
 {
-    let mut servers = Vec::new(alloc);
-    for number in 0..set.servers() {
-        let opened = open(alloc, stores, set, folder, ServerId::at(number))?;
-        add(&mut servers, opened)?;
+    match open_folder(alloc, stores, folder, set) {
+        Ok(keepers) => open_servers(alloc, set, keepers),
+        Err(fault) => Err(RerunFault::of_folder(fault)),
     }
-    Ok(servers)
 }

@@ -4,7 +4,7 @@ ghost use Rattle.std.specs.Io.KnownBytes.{Appends};
 ghost use Rattle.lynx_entry.specs.declared.event.Outcome.{Outcome};
 ghost use Rattle.lynx_server.specs.Serving.{Serving};
 ghost use Rattle.lynx_rerun.specs.Events.{ComeTo};
-ghost use Rattle.lynx_rerun.specs.Reruns.{AreOpened, EndsAs, Reruns, keepers_of, lines_of};
+ghost use Rattle.lynx_rerun.specs.Reruns.{EndsAs, Reruns, keepers_of, lines_of};
 
 use crate::closing::{close_stores, keepers_of};
 use crate::ending::write_end;
@@ -50,7 +50,7 @@ fn run_and_close<K: Keeper + Drop, S: Stores<K>, W: Write>(
     options: RunOptions,
     writer: &mut W,
 ) -> Result<Ending, RerunFault>
-    requires { AreOpened K.terms S.owner_of set.now servers.items }
+    requires { length servers.items ≡ set.now.servers }
     ensures { IfOk result (λ ending. (outcomes : List Outcome) × (last : List (Serving K))
         × (end_lines : List ℕ) × ComeTo K.terms set.now events.items outcomes servers.items last
         × EndsAs K.terms set.now options.owed (keepers_of last) ending end_lines
@@ -81,7 +81,8 @@ pub fn rerun<K: Keeper + Drop, S: Stores<K>, W: Write>(
     writer: &mut W,
 ) -> Result<Ending, RerunFault>
     ensures { IfOk result (λ ending. (printed : List ℕ)
-        × Reruns K.terms S.owner_of set.now script.now options.owed ending printed
+        × Reruns K.terms S.store_terms folder.now set.now script.now options.owed ending
+        printed
         × Appends (W.contents writer.old) (W.contents writer.new) printed) }
 {
     let events = read_script(alloc, set, script)?;

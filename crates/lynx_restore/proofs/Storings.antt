@@ -5,28 +5,28 @@ use Rattle.std.proofs.lemmas.Option.{slice_get_within}
 use Rattle.lynx_entry.specs.Entry.{History}
 use Rattle.lynx_keep.specs.Kept.{Terms}
 use Rattle.lynx_set.specs.Set.{Set}
-use Rattle.lynx_store.specs.Stored.{Owner}
 use Rattle.lynx_weave.proofs.Fronts.{one_of}
+use Rattle.lynx_store_files.specs.Terms.{StoreTerms}
 use Rattle.lynx_restore.specs.Restored.{AreStored, IsStored}
 
 -- the servers below that number have their stores
-abbrev pub AreStoredBelow : {L : Type 0} → Terms L → (L → Owner) → Set → ℕ → List History → Type 0
-AreStoredBelow terms owner_of set number parts =
-    (server : ℕ) (front : History) → server < number → slice_get parts server ≡ Some front → IsStored terms owner_of set server front
+abbrev pub AreStoredBelow : {L : Type 0} → Terms L → StoreTerms L → List ℕ → Set → ℕ → List History → Type 0
+AreStoredBelow terms stores folder set number parts =
+    (server : ℕ) (front : History) → server < number → slice_get parts server ≡ Some front → IsStored terms stores folder set server front
 
-pub stored_more : {L : Type 0} (terms : Terms L) (owner_of : L → Owner) (set : Set) (number : ℕ) (parts : List History) (last : History) →
-    slice_get parts number ≡ Some last → IsStored terms owner_of set number last → AreStoredBelow terms owner_of set number parts →
-    AreStoredBelow terms owner_of set (number + 1) parts
-stored_more terms owner_of set number parts last there is below server front within at = elim (cases_lt server number) [
+pub stored_more : {L : Type 0} (terms : Terms L) (stores : StoreTerms L) (folder : List ℕ) (set : Set) (number : ℕ) (parts : List History) (last : History) →
+    slice_get parts number ≡ Some last → IsStored terms stores folder set number last → AreStoredBelow terms stores folder set number parts →
+    AreStoredBelow terms stores folder set (number + 1) parts
+stored_more terms stores folder set number parts last there is below server front within at = elim (cases_lt server number) [
   | inl before ↦ below server front before at
   | inr past ↦
       let same : number ≡ server = omega (arith, within, past) in
       let alike : last ≡ front = one_of last front (slice_get parts number) there (ap (slice_get parts) same ∙ at) in
-      subst (λ n. IsStored terms owner_of set n front) same (subst (IsStored terms owner_of set number) alike is)
+      subst (λ n. IsStored terms stores folder set n front) same (subst (IsStored terms stores folder set number) alike is)
 ]
 
-pub stored_all : {L : Type 0} (terms : Terms L) (owner_of : L → Owner) (set : Set) (number : ℕ) (parts : List History) →
-    length parts ≤ number → AreStoredBelow terms owner_of set number parts → AreStored terms owner_of set parts
-stored_all terms owner_of set number parts all below server front at =
+pub stored_all : {L : Type 0} (terms : Terms L) (stores : StoreTerms L) (folder : List ℕ) (set : Set) (number : ℕ) (parts : List History) →
+    length parts ≤ number → AreStoredBelow terms stores folder set number parts → AreStored terms stores folder set parts
+stored_all terms stores folder set number parts all below server front at =
     let inside = slice_get_within parts server front at in
     below server front (omega (arith, inside, all)) at

@@ -6,9 +6,9 @@ use Rattle.lynx_keep.specs.Kept.{KeptState, Terms}
 use Rattle.lynx_rules.specs.Lawful.{IsLawful}
 use Rattle.lynx_server.specs.History.{IsLawfulHistory}
 use Rattle.lynx_server.specs.Serving.{Serving}
+use Rattle.lynx_store_files.specs.Terms.{StoreTerms}
 use Rattle.lynx_weave.specs.Cuts.{IsCut, fronts}
 use Rattle.lynx_weave.specs.Servers.{histories_of}
-use Rattle.lynx_store.specs.Stored.{Owner}
 use Rattle.lynx_restore.specs.declared.restored.Restored.{Restored}
 use Rattle.lynx_restore.specs.declared.restored.RestoredServer.{RestoredServer}
 use Rattle.lynx_restore.specs.Restored.{AreStored, restored_of, undone_of}
@@ -48,12 +48,12 @@ of_found (history ∷ found) (here ∷ told) =
 
 -- What was found is restored: of each server the longest lawful front is taken, of these just so
 -- many entries are stored anew as fit together, and that is told.
-pub record IsRestoredLongest {L : Type 0} (terms : Terms L) (owner_of : L → Owner) (set : Set)
-    (found : List History) (restored : Restored) : Type 0 where
+pub record IsRestoredLongest {L : Type 0} (terms : Terms L) (stores : StoreTerms L)
+    (folder : List ℕ) (set : Set) (found : List History) (restored : Restored) : Type 0 where
   pub servers : List (Serving KeptState)
   pub longest : AreLongest set found servers
   pub counts : List ℕ
   pub cut : IsCut set (histories_of servers) counts
-  pub stored : AreStored terms owner_of set (fronts counts (histories_of servers))
+  pub stored : AreStored terms stores folder set (fronts counts (histories_of servers))
   pub told : restored.servers.items ≡ of_found found (restored_of counts servers)
   pub undone : restored.undone.items ≡ undone_of counts servers

@@ -1,13 +1,13 @@
 -- What is restored of copies.
-use Rattle.std.specs.Prelude.{◌≡◌, ◌≤◌, ℕ, List, [], ◌∷◌, ◌++◌, drop, length, slice_get, Some}
+use Rattle.std.specs.Prelude.{◌≡◌, ◌≤◌, ℕ, List, [], ◌∷◌, ◌++◌, drop, length, slice_get, Some, true}
 use Rattle.lynx_set.specs.Set.{Set}
 use Rattle.lynx_entry.specs.Entry.{History}
 use Rattle.lynx_keep.specs.Kept.{KeptState, Terms}
 use Rattle.lynx_server.specs.Keeping.{kept_of}
 use Rattle.lynx_server.specs.Serving.{Serving}
+use Rattle.lynx_store_files.specs.Terms.{StoreTerms}
 use Rattle.lynx_weave.specs.Cuts.{IsCut, fronts}
 use Rattle.lynx_weave.specs.Servers.{histories_of}
-use Rattle.lynx_store.specs.Stored.{Owner, owner_for}
 use Rattle.lynx_cluster.specs.Starting.{AreOpened}
 use Rattle.lynx_restore.specs.declared.restored.Restored.{Restored}
 use Rattle.lynx_restore.specs.declared.restored.RestoredServer.{RestoredServer}
@@ -48,27 +48,28 @@ pub record IsFilled {L : Type 0} (terms : Terms L) (set : Set) (opened : L)
   pub keeps : terms.sound filled → terms.keeps filled (kept_of set front)
 
 -- the store of that server of the set, filled so
-pub record IsStored {L : Type 0} (terms : Terms L) (owner_of : L → Owner) (set : Set) (server : ℕ)
-    (front : History) : Type 0 where
+pub record IsStored {L : Type 0} (terms : Terms L) (stores : StoreTerms L) (folder : List ℕ)
+    (set : Set) (server : ℕ) (front : History) : Type 0 where
   pub opened : L
-  pub owner_is : owner_of opened ≡ owner_for server set
+  pub is_store : stores.store_in folder set server opened
   pub filled : L
   pub fills : IsFilled terms set opened front filled
+  pub let_go : stores.closed filled true
 
 -- one for each of these, by number
-abbrev pub AreStored : {L : Type 0} → Terms L → (L → Owner) → Set → List History → Type 0
-AreStored terms owner_of set fronts =
+abbrev pub AreStored : {L : Type 0} → Terms L → StoreTerms L → List ℕ → Set → List History → Type 0
+AreStored terms stores folder set fronts =
     (server : ℕ) (front : History) → slice_get fronts server ≡ Some front
-    → IsStored terms owner_of set server front
+    → IsStored terms stores folder set server front
 
 -- The copies are restored: each server of the set opens over its copy, of their histories just so
 -- many entries are stored anew as fit together, and that is told.
-pub record IsRestored {K L : Type 0} (copied : Terms K) (terms : Terms L) (owner_of : L → Owner)
-    (set : Set) (copies : List K) (restored : Restored) : Type 0 where
+pub record IsRestored {K L : Type 0} (copied : Terms K) (terms : Terms L) (stores : StoreTerms L)
+    (folder : List ℕ) (set : Set) (copies : List K) (restored : Restored) : Type 0 where
   pub servers : List (Serving K)
   pub opened : AreOpened copied set copies servers
   pub counts : List ℕ
   pub cut : IsCut set (histories_of servers) counts
-  pub stored : AreStored terms owner_of set (fronts counts (histories_of servers))
+  pub stored : AreStored terms stores folder set (fronts counts (histories_of servers))
   pub told : restored.servers.items ≡ restored_of counts servers
   pub undone : restored.undone.items ≡ undone_of counts servers

@@ -144,7 +144,7 @@ pub fn restore_longest<L: Keeper + Drop, S: Stores<L>>(
 ) -> Result<Restored, RestoreFault>
     requires { length found.items ≡ set.now.servers }
     ensures { IfOk result
-        (IsRestoredLongest L.terms S.owner_of set.now (histories_in found.items)) }
+        (IsRestoredLongest L.terms S.store_terms folder.now set.now (histories_in found.items)) }
 {
     let servers = rebuild_all(alloc, set, found.as_slice())?;
     let servers = servers.as_slice();

@@ -29,7 +29,8 @@ pub fn restore<K: Keeper + Drop, L: Keeper + Drop, S: Stores<L>>(
     folder: &str,
 ) -> Result<Restored, RestoreFault>
     requires { length copies.items ≡ set.now.servers }
-    ensures { IfOk result (IsRestored K.terms L.terms S.owner_of set.now copies.items) }
+    ensures { IfOk result
+        (IsRestored K.terms L.terms S.store_terms folder.now set.now copies.items) }
 {
     let opened = Opened::open(alloc, set, copies)?;
     let servers = opened.servers();

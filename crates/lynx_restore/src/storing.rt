@@ -46,7 +46,7 @@ fn store<L: Keeper + Drop, S: Stores<L>>(
     folder: &str,
     front: &[Entry],
 ) -> Result<(), RestoreFault>
-    ensures { OnOk result (IsStored L.terms S.owner_of set.now server front.now) }
+    ensures { OnOk result (IsStored L.terms S.store_terms folder.now set.now server front.now) }
 {
     let keeper = match stores.open(folder, set, server) {
         Ok(keeper) => keeper,
@@ -71,7 +71,7 @@ pub(crate) fn store_all<K: Keeper, L: Keeper + Drop, S: Stores<L>>(
     requires servers { length servers.now ≡ set.now.servers }
     requires many { length counts.now ≡ length servers.now }
     requires within { AreWithin counts.now (histories_of servers.now) }
-    ensures { OnOk result (AreStored L.terms S.owner_of set.now
+    ensures { OnOk result (AreStored L.terms S.store_terms folder.now set.now
         (fronts counts.now (histories_of servers.now))) }
 {
     for number in 0..set.servers() {

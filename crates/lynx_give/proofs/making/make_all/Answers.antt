@@ -6,7 +6,7 @@ use Rattle.lynx_give.proofs.making.make_all.Goals as goal
 pub loop-number-preserved : goal.loop-number-preserved
 loop-number-preserved g c =
     let is = c.loop-number.invariant in
-    let Goes = IsMade {C = g.row.C.Denot} g.S.Stores.owner_of c.args.set.now in
+    let Goes = IsMade {C = g.row.C.Denot} g.S.Stores.store_terms c.args.folder.now c.args.set.now in
     let store = c.in_ok-store.store in
     record {
       done = one_more Goes c.args.found.items c.loop-number.found.rest.items c.next.new.self.rest.items c.loop-number.number c.at.result c.in-Some.one store

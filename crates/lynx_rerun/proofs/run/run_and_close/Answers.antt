@@ -5,7 +5,7 @@ pub end_after-ended-requires : goal.end_after-ended-requires
 end_after-ended-requires g c =
     still_many c.run_events-ran.result g.K.Keeper.terms c.args.set.now c.args.events.items c.args.servers.items c.run_events-ran.new.servers.items
     (g.W.Write.contents c.args.writer.now) (g.W.Write.contents c.run_events-ran.new.writer) c.in_ok-keepers.keepers.items c.as_mut_slice.result.now
-    c.requires.many c.run_events-ran.ensures c.in_ok-keepers.ensures c.as_mut_slice.ensures.value
+    c.requires c.run_events-ran.ensures c.in_ok-keepers.ensures c.as_mut_slice.ensures.value
 
 pub returns : goal.returns
 returns g c =

@@ -18,7 +18,7 @@ returns g c =
       opened = subst (AreOpened g.K.Keeper.terms set c.args.copies.items) (sym c.servers-servers.ensures) c.in_ok-opened.ensures.opened;
       counts = c.in_ok-counts.counts.items;
       cut = c.in_ok-counts.ensures;
-      stored = subst (λ l. AreStored g.L.Keeper.terms g.S.Stores.owner_of set (fronts l (histories_of servers))) c.as_slice-2.ensures.value c.in_ok-store_all.ensures;
+      stored = subst (λ l. AreStored g.L.Keeper.terms g.S.Stores.store_terms c.args.folder.now set (fronts l (histories_of servers))) c.as_slice-2.ensures.value c.in_ok-store_all.ensures;
       told = subst (λ l. c.in_ok-restored.restored.servers.items ≡ restored_of l servers) c.as_slice.ensures.value c.in_ok-restored.ensures.servers;
       undone = subst (λ l. c.in_ok-restored.restored.undone.items ≡ undone_of l servers) c.as_slice.ensures.value c.in_ok-restored.ensures.undone;
     }

@@ -12,7 +12,8 @@ use Rattle.lynx_restore.proofs.storing.store_all.Goals as goal
 pub loop-number-preserved : goal.loop-number-preserved
 loop-number-preserved g c =
     let terms = g.L.Keeper.terms in
-    let owner_of = g.S.Stores.owner_of in
+    let stores = g.S.Stores.store_terms in
+    let folder = c.args.folder.now in
     let set = c.args.set.now in
     let servers = c.args.servers.now in
     let counts = c.args.counts.now in
@@ -30,10 +31,10 @@ loop-number-preserved g c =
     let count = get_or counts number 0 in
     let front = front_at counts (histories_of servers) number count here.history (slice_get-get_or counts number 0 within) (history_there servers number here there) in
     let is =
-    subst (λ n. IsStored terms owner_of set n (take count here.history)) c.at.ensures
-    (subst (λ h. IsStored terms owner_of set c.at.result (take count h)) c.history.ensures.value
-    (subst (λ p. IsStored terms owner_of set c.at.result (take (get_or counts p 0) c.history.result.now)) place_is c.in_ok-store.ensures)) in
-    stored_more terms owner_of set number (fronts counts (histories_of servers)) (take count here.history) front is c.loop-number.invariant
+    subst (λ n. IsStored terms stores folder set n (take count here.history)) c.at.ensures
+    (subst (λ h. IsStored terms stores folder set c.at.result (take count h)) c.history.ensures.value
+    (subst (λ p. IsStored terms stores folder set c.at.result (take (get_or counts p 0) c.history.result.now)) place_is c.in_ok-store.ensures)) in
+    stored_more terms stores folder set number (fronts counts (histories_of servers)) (take count here.history) front is c.loop-number.invariant
 
 pub returns : goal.returns
 returns g c =
@@ -45,5 +46,5 @@ returns g c =
     let long = length_fronts counts (histories_of servers) (omega (arith, histories, counted)) in
     let test = c.loop-number-test.false in
     let end = c.servers-number-end.ensures.value in
-    stored_all g.L.Keeper.terms g.S.Stores.owner_of c.args.set.now c.loop-number.number (fronts counts (histories_of servers))
+    stored_all g.L.Keeper.terms g.S.Stores.store_terms c.args.folder.now c.args.set.now c.loop-number.number (fronts counts (histories_of servers))
     (omega (arith, long, histories, many, test, end)) c.loop-number.invariant

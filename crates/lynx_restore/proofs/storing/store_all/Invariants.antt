@@ -5,4 +5,4 @@ use Rattle.lynx_restore.proofs.storing.store_all.Given as goal
 
 -- the servers so far have their stores
 abbrev pub invariant-loop-number : goal.invariant-loop-number
-invariant-loop-number g l = AreStoredBelow g.L.Keeper.terms g.S.Stores.owner_of l.set l.number (fronts l.counts (histories_of l.servers))
+invariant-loop-number g l = AreStoredBelow g.L.Keeper.terms g.S.Stores.store_terms l.folder l.set l.number (fronts l.counts (histories_of l.servers))

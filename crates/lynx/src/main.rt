@@ -9,8 +9,10 @@ use lynx_cluster::Host;
 use lynx_keep::BatchKeeper;
 use lynx_store_files::{Copies, Databases, Files, StoreCopy, Stores};
 use sqlite::{Connection, File, FileStore};
+use std::fs::{File as PlainFile, OpenOptions};
 use std::io::{self, IsTerminal};
 use std::net::{Net, TcpListener, TcpStream};
+use std::os::fd::AsRawFd;
 use std::process::ExitCode;
 use std::rt::Env;
 use std::{env, fs};
@@ -133,7 +135,29 @@ fn obey<
     }
 }
 
+/// The null device, opened so, where it gets a place of a standard stream that is closed.
+fn held(rt: &HostRuntime, options: &OpenOptions, last: i32) -> Option<PlainFile> {
+    match options.open(rt, "/dev/null") {
+        Ok(file) if file.as_raw_fd() <= last => Some(file),
+        _ => None,
+    }
+}
+
+/// Holds the places of the standard streams that are closed, so that no store and no socket gets
+/// one of them. What is read of such a stream, or written to it, fails as it would have.
+fn hold_closed_streams(rt: &HostRuntime) -> [Option<PlainFile>; 3] {
+    let mut to_write = OpenOptions::new();
+    to_write.write(true);
+    let mut to_read = OpenOptions::new();
+    to_read.read(true);
+    let input = held(rt, &to_write, 0);
+    let output = held(rt, &to_read, 2);
+    let error = held(rt, &to_read, 2);
+    [input, output, error]
+}
+
 fn main(rt: HostRuntime) -> ExitCode {
+    let _held = hold_closed_streams(&rt);
     let status = match command_line(&rt) {
         Ok(words) => obey(&rt, rt, &Files::new(rt), words.as_slice()),
         Err(fault) => report(&rt, &fault),

@@ -20,7 +20,7 @@ use Rattle.lynx_report.specs.Runs.{Prints, ending_of}
 use Rattle.lynx_report.specs.declared.run.Ending.{Ending}
 use Rattle.lynx_report.specs.declared.options.RunOptions.{RunOptions}
 use Rattle.lynx_rerun.specs.Reruns.{Reruns}
-use Rattle.lynx_store.specs.Stored.{Owner}
+use Rattle.lynx_store_files.specs.Terms.{StoreTerms}
 use Rattle.lynx_cli.specs.declared.fault.Fault.{Fault}
 use Rattle.lynx_cli.specs.Done.{HasExtended, HasGivenText, HasRerunJudged, HasRerunTexts, HasRunJudged, HasRunTexts, HasServedJudged, HasServedText}
 use Rattle.lynx_cli.specs.Statuses.{status_of_ending}
@@ -64,39 +64,39 @@ order_status (Order chains) given = refl
 order_status (Cycle chains) given = absurd given
 
 -- what the stores of an accepted set keep has an order
-rerun_ordered : {K : Type 0} (terms : Terms K) (owner_of : K → Owner) (set : Set) (script : List ℕ) (owed : Bool) (ending : Ending) (printed : List ℕ) → IsSet set → IsAcceptedSet set →
-    Reruns terms owner_of set script owed ending printed → status_of_ending ending ≡ 0
-rerun_ordered terms owner_of set script owed ending printed is accepted reruns =
+rerun_ordered : {K : Type 0} (terms : Terms K) (stores : StoreTerms K) (folder : List ℕ) (set : Set) (script : List ℕ) (owed : Bool) (ending : Ending) (printed : List ℕ) → IsSet set → IsAcceptedSet set →
+    Reruns terms stores folder set script owed ending printed → status_of_ending ending ≡ 0
+rerun_ordered terms stores folder set script owed ending printed is accepted reruns =
     let end = reruns.ends.end.end in
     let of_set : reruns.ends.world.set ≡ set = reruns.ends.gathered.woven.set_is in
     ap status_of_ending end.ending_is
     ∙ order_status end.explained (end.explains.accepted (subst AreLiteralsHome (sym of_set) (literals_home set is)) (subst IsAcceptedSet (sym of_set) accepted))
 
-pub rerun_done : {K : Type 0} (terms : Terms K) (owner_of : K → Owner) (options : RunOptions) (text script : List ℕ) (set : Set) (result : Result ℕ Fault) (old new : Option (List ℕ)) →
-    text ≡ text_of set → IfOk result (HasRerunTexts terms owner_of options (text_of set) script old new) → IfOk result (HasRerunTexts terms owner_of options text script old new)
-rerun_done terms owner_of options text script set (Err fault) old new same run = tt
-rerun_done terms owner_of options text script set (Ok status) old new same run = subst (λ bytes. HasRerunTexts terms owner_of options bytes script old new status) (sym same) run
+pub rerun_done : {K : Type 0} (terms : Terms K) (stores : StoreTerms K) (folder : List ℕ) (options : RunOptions) (text script : List ℕ) (set : Set) (result : Result ℕ Fault) (old new : Option (List ℕ)) →
+    text ≡ text_of set → IfOk result (HasRerunTexts terms stores folder options (text_of set) script old new) → IfOk result (HasRerunTexts terms stores folder options text script old new)
+rerun_done terms stores folder options text script set (Err fault) old new same run = tt
+rerun_done terms stores folder options text script set (Ok status) old new same run = subst (λ bytes. HasRerunTexts terms stores folder options bytes script old new status) (sym same) run
 
-pub rerun_judged_done : {K : Type 0} (terms : Terms K) (owner_of : K → Owner) (options : RunOptions) (text script : List ℕ) (set : Set) (result : Result ℕ Fault) (old mid new : Option (List ℕ)) →
-    Accepts text set → mid ≡ old → IfOk result (HasRerunTexts terms owner_of options (text_of set) script mid new) → IfOk result (HasRerunJudged terms owner_of options text script old new)
-rerun_judged_done terms owner_of options text script set (Err fault) old mid new accepts kept run = tt
-rerun_judged_done terms owner_of options text script set (Ok status) old mid new accepts kept run =
-    let ran = at_text (λ bytes before. HasRerunTexts terms owner_of options bytes script before new status) text (text_of set) old mid accepts.spelled kept run in
+pub rerun_judged_done : {K : Type 0} (terms : Terms K) (stores : StoreTerms K) (folder : List ℕ) (options : RunOptions) (text script : List ℕ) (set : Set) (result : Result ℕ Fault) (old mid new : Option (List ℕ)) →
+    Accepts text set → mid ≡ old → IfOk result (HasRerunTexts terms stores folder options (text_of set) script mid new) → IfOk result (HasRerunJudged terms stores folder options text script old new)
+rerun_judged_done terms stores folder options text script set (Err fault) old mid new accepts kept run = tt
+rerun_judged_done terms stores folder options text script set (Ok status) old mid new accepts kept run =
+    let ran = at_text (λ bytes before. HasRerunTexts terms stores folder options bytes script before new status) text (text_of set) old mid accepts.spelled kept run in
     let accepted = accepted_text text set ran.chains accepts ran.is_set ran.spelled in
-    inr ((set, accepts), ran, ran.status_is ∙ rerun_ordered terms owner_of ran.chains script options.owed ran.ending ran.printed ran.is_set accepted ran.reruns)
+    inr ((set, accepts), ran, ran.status_is ∙ rerun_ordered terms stores folder ran.chains script options.owed ran.ending ran.printed ran.is_set accepted ran.reruns)
 
 -- a folder's stores are given to the set of a text, which is accepted
-pub extended_so : {K C : Type 0} (owner_of : K → Owner) (state_of : C → State) (OpenedAt : ℕ → C → Type 0) (text : List ℕ) (result : Result ℕ Fault) (old mid new : Option (List ℕ)) →
-    mid ≡ old → IfOk result (HasGivenText owner_of state_of OpenedAt text mid new) →
-    IfOk result (λ status. (read : List ℕ) × HasExtended owner_of state_of OpenedAt read old new status)
-extended_so owner_of state_of OpenedAt text (Err fault) old mid new kept done = tt
-extended_so owner_of state_of OpenedAt text (Ok status) old mid new kept done =
-    (text, inr (subst (λ before. HasGivenText owner_of state_of OpenedAt text before new status) kept done))
+pub extended_so : {K C : Type 0} (stores : StoreTerms K) (folder : List ℕ) (state_of : C → State) (OpenedAt : ℕ → C → Type 0) (DatabaseClosed : C → Bool → Type 0) (text : List ℕ) (result : Result ℕ Fault) (old mid new : Option (List ℕ)) →
+    mid ≡ old → IfOk result (HasGivenText stores folder state_of OpenedAt DatabaseClosed text mid new) →
+    IfOk result (λ status. (read : List ℕ) × HasExtended stores folder state_of OpenedAt DatabaseClosed read old new status)
+extended_so stores folder state_of OpenedAt DatabaseClosed text (Err fault) old mid new kept done = tt
+extended_so stores folder state_of OpenedAt DatabaseClosed text (Ok status) old mid new kept done =
+    (text, inr (subst (λ before. HasGivenText stores folder state_of OpenedAt DatabaseClosed text before new status) kept done))
 
 -- clients are served over a text's set, which is accepted
-pub served_so : {K : Type 0} (terms : Terms K) (owner_of : K → Owner) (text : List ℕ) (result : Result ℕ Fault) (old mid new : Option (List ℕ)) →
-    mid ≡ old → IfOk result (HasServedText terms owner_of text mid new) →
-    IfOk result (λ status. (read : List ℕ) × HasServedJudged terms owner_of read old new status)
-served_so terms owner_of text (Err fault) old mid new kept done = tt
-served_so terms owner_of text (Ok status) old mid new kept done =
-    (text, inr (subst (λ before. HasServedText terms owner_of text before new status) kept done))
+pub served_so : {K : Type 0} (terms : Terms K) (stores : StoreTerms K) (folder : List ℕ) (text : List ℕ) (result : Result ℕ Fault) (old mid new : Option (List ℕ)) →
+    mid ≡ old → IfOk result (HasServedText terms stores folder text mid new) →
+    IfOk result (λ status. (read : List ℕ) × HasServedJudged terms stores folder read old new status)
+served_so terms stores folder text (Err fault) old mid new kept done = tt
+served_so terms stores folder text (Ok status) old mid new kept done =
+    (text, inr (subst (λ before. HasServedText terms stores folder text before new status) kept done))

@@ -26,7 +26,7 @@ use Rattle.lynx_report.specs.declared.options.RunOptions.{RunOptions}
 use Rattle.lynx_args.specs.declared.job.RunFlags.{RunFlags}
 use Rattle.lynx_sample.specs.Samples.{IsSample}
 use Rattle.lynx_service.specs.Services.{HasServed}
-use Rattle.lynx_store.specs.Stored.{Owner}
+use Rattle.lynx_store_files.specs.Terms.{StoreTerms}
 use Rattle.lynx_cli.specs.Statuses.{status_of_finding, status_of_ending}
 
 -- the verdict on the text's set is written, with what the options ask for, and the status is the
@@ -104,9 +104,9 @@ pub record HasRunInput (flags : RunFlags) (input : List ℕ) (old new : Option (
   pub cut : IsCut input set script
   pub run : HasRun flags set script old new status
 
--- the lines of a run of this script over this set, and over its servers' stores, whose keepers have
--- these terms and owners, are written, and the status is that of its ending
-pub record HasRerunTexts {K : Type 0} (terms : Terms K) (owner_of : K → Owner)
+-- the lines of a run of this script over this set, and over its servers' stores in that folder, are
+-- written, and the status is that of its ending
+pub record HasRerunTexts {K : Type 0} (terms : Terms K) (stores : StoreTerms K) (folder : List ℕ)
     (options : RunOptions) (set script : List ℕ) (old new : Option (List ℕ))
     (status : ℕ) : Type 0 where
   pub chains : Set
@@ -114,57 +114,59 @@ pub record HasRerunTexts {K : Type 0} (terms : Terms K) (owner_of : K → Owner)
   pub spelled : set ≡ text_of chains
   pub ending : Ending
   pub printed : List ℕ
-  pub reruns : Reruns terms owner_of chains script options.owed ending printed
+  pub reruns : Reruns terms stores folder chains script options.owed ending printed
   pub written : Appends old new printed
   pub status_is : status ≡ status_of_ending ending
 
 -- a set that offends is refused, and over another the script is run; all that its stores keep then
 -- has an order, and no cycle, so the status is 0
-abbrev pub HasRerunJudged : {K : Type 0} → Terms K → (K → Owner) → RunOptions → List ℕ → List ℕ
-    → Option (List ℕ) → Option (List ℕ) → ℕ → Type 0
-HasRerunJudged terms owner_of options set script old new status =
+abbrev pub HasRerunJudged : {K : Type 0} → Terms K → StoreTerms K → List ℕ → RunOptions
+    → List ℕ → List ℕ → Option (List ℕ) → Option (List ℕ) → ℕ → Type 0
+HasRerunJudged terms stores folder options set script old new status =
     HasRefused set old new status
-    ⊎ (IsAccepted set × HasRerunTexts terms owner_of options set script old new status
+    ⊎ (IsAccepted set × HasRerunTexts terms stores folder options set script old new status
     × (status ≡ 0))
 
 -- the script is run over the set, which is judged first where the flags ask for that
-abbrev pub HasRerun : {K : Type 0} → Terms K → (K → Owner) → RunFlags → List ℕ → List ℕ
+abbrev pub HasRerun : {K : Type 0} → Terms K → StoreTerms K → List ℕ → RunFlags → List ℕ → List ℕ
     → Option (List ℕ) → Option (List ℕ) → ℕ → Type 0
-HasRerun terms owner_of flags set script old new status = MatchBool flags.checked
-    (HasRerunJudged terms owner_of (options_of flags) set script old new status)
-    (HasRerunTexts terms owner_of (options_of flags) set script old new status)
+HasRerun terms stores folder flags set script old new status = MatchBool flags.checked
+    (HasRerunJudged terms stores folder (options_of flags) set script old new status)
+    (HasRerunTexts terms stores folder (options_of flags) set script old new status)
 
 -- a service over the text's set, which is accepted, ran to its end: its last line is an order, and
 -- the status is 0
-pub record HasServedText {K : Type 0} (terms : Terms K) (owner_of : K → Owner) (text : List ℕ)
-    (old new : Option (List ℕ)) (status : ℕ) : Type 0 where
+pub record HasServedText {K : Type 0} (terms : Terms K) (stores : StoreTerms K) (folder : List ℕ)
+    (text : List ℕ) (old new : Option (List ℕ)) (status : ℕ) : Type 0 where
   pub chains : Set
   pub accepts : Accepts text chains
   pub explained : Explained
-  pub served : HasServed terms owner_of chains old new explained
+  pub served : HasServed terms stores folder chains old new explained
   pub order : GivesOrder explained
   pub status_is : status ≡ 0
 
 -- a set that offends is refused, and over another clients are served
-abbrev pub HasServedJudged : {K : Type 0} → Terms K → (K → Owner) → List ℕ → Option (List ℕ)
-    → Option (List ℕ) → ℕ → Type 0
-HasServedJudged terms owner_of text old new status =
-    HasRefused text old new status ⊎ HasServedText terms owner_of text old new status
+abbrev pub HasServedJudged : {K : Type 0} → Terms K → StoreTerms K → List ℕ → List ℕ
+    → Option (List ℕ) → Option (List ℕ) → ℕ → Type 0
+HasServedJudged terms stores folder text old new status =
+    HasRefused text old new status ⊎ HasServedText terms stores folder text old new status
 
 -- the stores of a folder are given to the text's set, which is accepted, and the status is 0
-pub record HasGivenText {K C : Type 0} (owner_of : K → Owner) (state_of : C → State)
-    (OpenedAt : ℕ → C → Type 0) (text : List ℕ) (old new : Option (List ℕ))
-    (status : ℕ) : Type 0 where
+pub record HasGivenText {K C : Type 0} (stores : StoreTerms K) (folder : List ℕ)
+    (state_of : C → State) (OpenedAt : ℕ → C → Type 0) (DatabaseClosed : C → Bool → Type 0)
+    (text : List ℕ) (old new : Option (List ℕ)) (status : ℕ) : Type 0 where
   pub chains : Set
   pub accepts : Accepts text chains
-  pub gives : HasGiven owner_of state_of OpenedAt chains old new
+  pub gives : HasGiven stores folder state_of OpenedAt DatabaseClosed chains old new
   pub status_is : status ≡ 0
 
 -- a set that offends is refused, and another is given the stores
-abbrev pub HasExtended : {K C : Type 0} → (K → Owner) → (C → State) → (ℕ → C → Type 0)
-    → List ℕ → Option (List ℕ) → Option (List ℕ) → ℕ → Type 0
-HasExtended owner_of state_of OpenedAt text old new status =
-    HasRefused text old new status ⊎ HasGivenText owner_of state_of OpenedAt text old new status
+abbrev pub HasExtended : {K C : Type 0} → StoreTerms K → List ℕ → (C → State)
+    → (ℕ → C → Type 0) → (C → Bool → Type 0) → List ℕ → Option (List ℕ) → Option (List ℕ) → ℕ
+    → Type 0
+HasExtended stores folder state_of OpenedAt DatabaseClosed text old new status =
+    HasRefused text old new status
+    ⊎ HasGivenText stores folder state_of OpenedAt DatabaseClosed text old new status
 
 -- a random script for the text's set is written, and the status is 0
 pub record HasSampled (cycle : Bool) (text : List ℕ) (old new : Option (List ℕ))

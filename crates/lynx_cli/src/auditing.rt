@@ -13,6 +13,7 @@ use lynx_order::Explained;
 use lynx_service::ServeFault;
 use lynx_set::ChainSet;
 use lynx_sql::Rising;
+use lynx_sql::schema::is_empty;
 use lynx_store::{SqlKeeper, StoreFault, inspect};
 use lynx_store_files::{Copies, CopyFault, store_path};
 use sqlite::Connection;
@@ -90,7 +91,8 @@ fn set_of<'a, C: Rising + Drop, S: Copies<Connection<C>>>(
     }
 }
 
-/// A keeper over a copy of the store of that server.
+/// A keeper over a copy of the store of that server. A database without tables is a store that is
+/// lost, since another one told the set.
 fn keeper_of<'a, C: Rising + Drop, S: Copies<Connection<C>>>(
     rt: &HostRuntime,
     copies: &S,
@@ -99,6 +101,9 @@ fn keeper_of<'a, C: Rising + Drop, S: Copies<Connection<C>>>(
     server: ServerId,
 ) -> Result<SqlKeeper<C>, Fault<'a>> {
     let copy = copy_of(rt, copies, folder, server)?;
+    if is_empty(copy.schema()) {
+        return Err(Fault::of_lost(server));
+    }
     match SqlKeeper::open(rt.alloc(), copy, set, server) {
         Ok(keeper) => Ok(keeper),
         Err((fault, _)) => Err(Fault::of_store(server, fault)),

@@ -1,6 +1,7 @@
 //! Why a store or a port can't be had, as the system tells it. What is looked at stays as it is.
 use crate::shown::Shown;
 use lynx_service::CopyWord;
+use lynx_store_files::restoring_path;
 use os::RangeLock;
 use std::alloc::{AllocError, Global};
 use std::fs::{self, OpenOptions};
@@ -209,13 +210,42 @@ fn cause_of_bytes(
     Ok(Some(line_of(alloc, file, words)?))
 }
 
-/// Why the file of the store of that number can't be a database's, in a line; none where it may be.
+/// Why a store that isn't there is damaged, in a line.
+fn cause_of_absence(
+    host: &HostRuntime,
+    alloc: Global,
+    folder: &str,
+    file: &str,
+) -> Result<String, AllocError> {
+    let Ok(room) = restoring_path(alloc, folder) else {
+        return Err(AllocError);
+    };
+    if fs::metadata(host, room.as_str()).is_ok() {
+        let words =
+            " is there: a restore was stopped before it moved its stores; take that folder away, and restore again";
+        return line_of(alloc, room.as_str(), words);
+    }
+    let words = " isn't there, and the log beside its place is: put the file back, with its log";
+    line_of(alloc, file, words)
+}
+
+/// Whether nothing stands there.
+fn is_absent(host: &HostRuntime, file: &str) -> bool {
+    matches!(fs::metadata(host, file), Err(error) if error.kind() == ErrorKind::NotFound)
+}
+
+/// Why the store of that number is damaged, by what stands in its place, in a line; none where that
+/// may be a database.
 pub(crate) fn cause_of_damage(
     host: &HostRuntime,
     alloc: Global,
     folder: &str,
     server: u8,
 ) -> Result<Option<String>, AllocError> {
-    let file = path_of(alloc, folder, server)?;
-    cause_of_bytes(host, alloc, file.as_str())
+    let path = path_of(alloc, folder, server)?;
+    let file = path.as_str();
+    if is_absent(host, file) {
+        return Ok(Some(cause_of_absence(host, alloc, folder, file)?));
+    }
+    cause_of_bytes(host, alloc, file)
 }

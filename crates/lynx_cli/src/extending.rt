@@ -39,8 +39,9 @@ fn extend_accepted<
     writer: &mut W,
 ) -> Result<u8, Fault<'a>>
     requires { Accepts text.now set.now }
-    ensures { IfOk result (HasGivenText S.owner_of (λ conn. state D.Store conn)
-        (S.opened_at folder.now) text.now (W.contents writer.old) (W.contents writer.new)) }
+    ensures { IfOk result (HasGivenText S.store_terms folder.now (λ conn. state D.Store conn)
+        (S.opened_at folder.now) S.database_closed text.now (W.contents writer.old)
+        (W.contents writer.new)) }
 {
     tell(rt, EXTENDING);
     let done = give_stores(rt.alloc(), stores, folder, set, writer);
@@ -69,8 +70,9 @@ pub(crate) fn extend_folder<
     writer: &mut W,
 ) -> Result<u8, Fault<'a>>
     ensures { IfOk result (λ status. (text : List ℕ)
-        × HasExtended S.owner_of (λ conn. state D.Store conn) (S.opened_at folder.now) text
-        (W.contents writer.old) (W.contents writer.new) status) }
+        × HasExtended S.store_terms folder.now (λ conn. state D.Store conn)
+        (S.opened_at folder.now) S.database_closed text (W.contents writer.old)
+        (W.contents writer.new) status) }
 {
     let read = text_of(rt, name)?;
     let text = read.as_slice();

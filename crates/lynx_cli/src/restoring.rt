@@ -14,18 +14,10 @@ use lynx_restore::{
 };
 use lynx_sql::Rising;
 use lynx_store::StoreFault;
-use lynx_store_files::{Copies, Stores, store_path};
+use lynx_store_files::{Copies, Stores, restoring_path, store_path};
 use sqlite::Connection;
 use std::fs;
 use std::io::{ErrorKind, Write};
-
-/// The path of the folder in which stores are made until all are whole. No service opens it.
-fn room_in<'a>(rt: &HostRuntime, folder: &str) -> Result<String, Fault<'a>> {
-    match format!(in rt.alloc(); "{folder}/restore.new") {
-        Ok(room) => Ok(room),
-        Err(_) => Err(Fault::Memory),
-    }
-}
 
 /// Whether the folder has no store, of whatever server there may be.
 fn check_vacant<'a, K, S: Stores<K>>(stores: &S, folder: &str) -> Result<(), Fault<'a>> {
@@ -52,6 +44,32 @@ fn paths_in<'a>(
     match format!(in rt.alloc(); "{store}-wal") {
         Ok(log) => Ok((store, log)),
         Err(_) => Err(Fault::Memory),
+    }
+}
+
+/// Has what was made, moved or taken away in a folder on the disk.
+fn sync_folder<'a>(rt: &HostRuntime, folder: &str) -> Result<(), Fault<'a>> {
+    match fs::open(rt, folder).and_then(|opened| opened.sync_all()) {
+        Ok(()) => Ok(()),
+        Err(_) => Err(Fault::of_store(ServerId::first(), StoreFault::Store)),
+    }
+}
+
+/// The folder that a path stands in.
+fn above(path: &str) -> &str {
+    match path.trim_end_matches('/').rsplit_once('/') {
+        Some(("", _)) => "/",
+        Some((folder, _)) => folder,
+        None => ".",
+    }
+}
+
+/// Makes the folder that gets the stores, where it isn't there.
+fn make_folder<'a>(rt: &HostRuntime, folder: &str) -> Result<(), Fault<'a>> {
+    match fs::create_dir(rt, folder) {
+        Ok(()) => sync_folder(rt, above(folder)),
+        Err(error) if error.kind() == ErrorKind::AlreadyExists => Ok(()),
+        Err(_) => Err(Fault::of_store(ServerId::first(), StoreFault::Store)),
     }
 }
 
@@ -113,6 +131,18 @@ fn move_all<'a>(
             }
         }
     }
+    sync_folder(rt, folder)?;
+    let _ = fs::remove_dir(rt, room);
+    sync_folder(rt, folder)
+}
+
+/// Takes away the stores that were made so far, and the folder in which they are.
+fn clear_room<'a>(rt: &HostRuntime, room: &str) -> Result<(), Fault<'a>> {
+    for number in 0..MAX_SERVERS {
+        let (store, log) = paths_in(rt, room, ServerId::at(number))?;
+        let _ = fs::remove_file(rt, store.as_str());
+        let _ = fs::remove_file(rt, log.as_str());
+    }
     let _ = fs::remove_dir(rt, room);
     Ok(())
 }
@@ -123,13 +153,16 @@ fn prepare<'a, K, S: Stores<K>>(
     stores: &S,
     folder: &str,
 ) -> Result<String, Fault<'a>> {
+    make_folder(rt, folder)?;
     check_vacant(stores, folder)?;
-    let room = room_in(rt, folder)?;
+    let Ok(room) = restoring_path(rt.alloc(), folder) else {
+        return Err(Fault::Memory);
+    };
     make_room(rt, stores, room.as_str())?;
     Ok(room)
 }
 
-/// Moves the stores that were made to their folder.
+/// Moves the stores that were made to their folder; where not all could be made, takes them away.
 fn moved<'a>(
     rt: &HostRuntime,
     room: &str,
@@ -141,7 +174,10 @@ fn moved<'a>(
             move_all(rt, room, folder, restored.servers.as_slice())?;
             Ok(restored)
         }
-        Err(fault) => Err(Fault::of_restoring(fault)),
+        Err(fault) => {
+            clear_room(rt, room)?;
+            Err(Fault::of_restoring(fault))
+        }
     }
 }
 
@@ -151,11 +187,17 @@ fn restore_whole<'a, K: Keeper + Drop, C: Rising + Drop, S: Stores<K> + Copies<C
     stores: &S,
     from: &str,
     folder: &str,
+    hints: &mut Hints,
 ) -> Result<Restored, Fault<'a>> {
-    let Copied { set, keepers } = copied_of(rt, stores, from)?;
-    let room = prepare(rt, stores, folder)?;
-    let made = restore(rt.alloc(), &set, keepers, stores, room.as_str());
-    moved(rt, room.as_str(), folder, made)
+    let copied = copied_of(rt, stores, from);
+    hints.note_store(rt, from, &copied);
+    let Copied { set, keepers } = copied?;
+    let made = prepare(rt, stores, folder).and_then(|room| {
+        let made = restore(rt.alloc(), &set, keepers, stores, room.as_str());
+        moved(rt, room.as_str(), folder, made)
+    });
+    hints.note_store(rt, folder, &made);
+    made
 }
 
 /// Makes stores in the folder of what can still be read of the copies in another.
@@ -164,11 +206,17 @@ fn restore_found<'a, K: Keeper + Drop, C: Rising + Drop, S: Stores<K> + Copies<C
     stores: &S,
     from: &str,
     folder: &str,
+    hints: &mut Hints,
 ) -> Result<Restored, Fault<'a>> {
-    let Found { set, entries } = found_in(rt.alloc(), stores, from)?;
-    let room = prepare(rt, stores, folder)?;
-    let made = restore_longest(rt.alloc(), &set, entries, stores, room.as_str());
-    moved(rt, room.as_str(), folder, made)
+    let found = found_in(rt.alloc(), stores, from);
+    hints.note_store(rt, from, &found);
+    let Found { set, entries } = found?;
+    let made = prepare(rt, stores, folder).and_then(|room| {
+        let made = restore_longest(rt.alloc(), &set, entries, stores, room.as_str());
+        moved(rt, room.as_str(), folder, made)
+    });
+    hints.note_store(rt, folder, &made);
+    made
 }
 
 /// Tells how much was restored of each server.
@@ -208,18 +256,12 @@ pub(crate) fn restore_folder<
     } = place;
     tell(rt, READING);
     let restored = if longest {
-        restore_found(rt, stores, from, folder)
+        restore_found(rt, stores, from, folder, hints)
     } else {
-        restore_whole(rt, stores, from, folder)
+        restore_whole(rt, stores, from, folder, hints)
     };
     tell(rt, WIPED);
-    let done = match &restored {
-        Ok(restored) => {
-            hints.note_undone(rt.alloc(), restored.undone.as_slice());
-            write_restored(rt, restored, writer)
-        }
-        Err(fault) => Err(*fault),
-    };
-    hints.note_store(rt, from, &done);
-    done
+    let restored = restored?;
+    hints.note_undone(rt.alloc(), restored.undone.as_slice());
+    write_restored(rt, &restored, writer)
 }

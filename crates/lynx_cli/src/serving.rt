@@ -75,7 +75,9 @@ fn service_of<'a, 'b>(
     host: &HostRuntime,
     place: ServePlace<'b>,
     flags: ServeFlags<'b>,
-) -> Result<Service<'b>, Fault<'a>> {
+) -> Result<Service<'b>, Fault<'a>>
+    ensures { IfOk result (λ service. service.folder.now ≡ place.entry.folder.now) }
+{
     check_apart(host, place.folder, flags.copy)?;
     Ok(Service {
         folder: place.folder,
@@ -146,8 +148,8 @@ fn serve_accepted<
     writer: &mut W,
 ) -> Result<u8, ServeFault>
     requires accepts { Accepts text.now set.now }
-    ensures { IfOk result (HasServedText K.terms S.owner_of text.now (W.contents writer.old)
-        (W.contents writer.new)) }
+    ensures { IfOk result (HasServedText K.terms S.store_terms service.entry.folder.now text.now
+        (W.contents writer.old) (W.contents writer.new)) }
 {
     let progress = Progress::new(host, log);
     let board = Board {
@@ -183,8 +185,8 @@ fn serve_set<
     writer: &mut W,
 ) -> Result<u8, Fault<'a>>
     requires accepts { Accepts text.now set.now }
-    ensures { IfOk result (HasServedText K.terms S.owner_of text.now (W.contents writer.old)
-        (W.contents writer.new)) }
+    ensures { IfOk result (HasServedText K.terms S.store_terms place.entry.folder.now text.now
+        (W.contents writer.old) (W.contents writer.new)) }
 {
     let service = service_of(host, place, flags)?;
     let log = Log::new(*host, flags.log);
@@ -221,8 +223,8 @@ pub(crate) fn serve_file<
     writer: &mut W,
 ) -> Result<u8, Fault<'a>>
     ensures { IfOk result (λ status. (text : List ℕ)
-        × HasServedJudged K.terms S.owner_of text (W.contents writer.old) (W.contents writer.new)
-        status) }
+        × HasServedJudged K.terms S.store_terms place.entry.folder.now text (W.contents writer.old)
+        (W.contents writer.new) status) }
 {
     let read = text_of(host, name)?;
     let text = read.as_slice();

@@ -33,8 +33,8 @@ fn rerun_read<'a, K: Keeper + Drop, S: Stores<K>, W: Write>(
     writer: &mut W,
 ) -> Result<u8, Fault<'a>>
     requires { IsSet set.now }
-    ensures { IfOk result (HasRerunTexts K.terms S.owner_of options (text_of set.now) script.now
-        (W.contents writer.old) (W.contents writer.new)) }
+    ensures { IfOk result (HasRerunTexts K.terms S.store_terms over.entry.folder.now options
+        (text_of set.now) script.now (W.contents writer.old) (W.contents writer.new)) }
 {
     let StoresIn { stores, folder } = over;
     match rerun(alloc, stores, folder, set, script, options, writer) {
@@ -52,8 +52,8 @@ fn rerun_unjudged<'a, K: Keeper + Drop, S: Stores<K>, W: Write>(
     options: RunOptions,
     writer: &mut W,
 ) -> Result<u8, Fault<'a>>
-    ensures { IfOk result (HasRerunTexts K.terms S.owner_of options set.now script.now
-        (W.contents writer.old) (W.contents writer.new)) }
+    ensures { IfOk result (HasRerunTexts K.terms S.store_terms over.entry.folder.now options
+        set.now script.now (W.contents writer.old) (W.contents writer.new)) }
 {
     match read_set(alloc, set) {
         Ok(set) => rerun_read(alloc, over, &set, script, options, writer),
@@ -71,8 +71,8 @@ fn rerun_judged<'a, K: Keeper + Drop, S: Stores<K>, W: Write>(
     options: RunOptions,
     writer: &mut W,
 ) -> Result<u8, Fault<'a>>
-    ensures { IfOk result (HasRerunJudged K.terms S.owner_of options set.now script.now
-        (W.contents writer.old) (W.contents writer.new)) }
+    ensures { IfOk result (HasRerunJudged K.terms S.store_terms over.entry.folder.now options
+        set.now script.now (W.contents writer.old) (W.contents writer.new)) }
 {
     match accepted_set(alloc, set, writer) {
         Ok(Some(accepted)) => rerun_read(alloc, over, &accepted, script, options, writer),
@@ -90,8 +90,8 @@ pub(crate) fn rerun_script<'a, K: Keeper + Drop, S: Stores<K>, W: Write>(
     flags: RunFlags,
     writer: &mut W,
 ) -> Result<u8, Fault<'a>>
-    ensures { IfOk result (HasRerun K.terms S.owner_of flags set.now script.now
-        (W.contents writer.old) (W.contents writer.new)) }
+    ensures { IfOk result (HasRerun K.terms S.store_terms over.entry.folder.now flags set.now
+        script.now (W.contents writer.old) (W.contents writer.new)) }
 {
     let options = RunOptions { owed: flags.owed };
     if flags.checked {

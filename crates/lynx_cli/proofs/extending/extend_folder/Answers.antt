@@ -11,5 +11,5 @@ returns g c =
     let old = g.W.Write.contents c.args.writer.now in
     let mid = g.W.Write.contents c.accepted_set-accepted.new.writer in
     let found = subst (λ (judged : Result (Option Set) Fault). IfOk judged (λ found. IfSome found (λ set. mid ≡ old))) c.in_ok-set.was c.accepted_set-accepted.ensures.unwritten in
-    extended_so g.S.Stores.owner_of (λ conn. state g.D.Store conn) (g.S.Databases.opened_at c.args.folder.now) c.as_slice-text.result.now c.extend_accepted-done.result old mid _
+    extended_so g.S.Stores.store_terms c.args.folder.now (λ conn. state g.D.Store conn) (g.S.Databases.opened_at c.args.folder.now) g.S.Databases.database_closed c.as_slice-text.result.now c.extend_accepted-done.result old mid _
     (subst (λ (found : Option Set). IfSome found (λ set. mid ≡ old)) c.in-Some.is found) c.extend_accepted-done.ensures

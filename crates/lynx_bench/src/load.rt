@@ -2,7 +2,7 @@
 ghost use Rattle.std.specs.Prelude.{◌≡◌, ◌<◌, ◌+◌};
 
 use crate::load_fault::LoadFault;
-use crate::payer::{Payer, begun_now, payers};
+use crate::payer::{Payer, add_payers, begun_now};
 use crate::repeats::counting_gate;
 use crate::starting::start;
 use crate::texts::{last_hop, payment, seed};
@@ -12,7 +12,7 @@ use lynx_keep::{BatchKeeper, MemoryKeeper};
 use lynx_names::ChainId;
 use lynx_order::{Explained, explain};
 use lynx_world::World;
-use std::alloc::Global;
+use std::alloc::{AllocFailed, Global};
 use std::sync::Wait;
 use std::sync::atomic::Ordering;
 use std::thread::Threads;
@@ -126,15 +126,37 @@ fn pay<
     );
 }
 
-/// Adds the sessions of the clients to the list, and counts the payments that began.
-fn collect(payers: Vec<Payer>, sessions: &mut Vec<Session>) -> Result<u64, LoadFault> {
-    let mut total: u64 = 0;
-    for payer in payers {
-        let (session, begun) = payer.into_parts();
-        sessions.push(session)?;
-        total = total.saturating_add(begun?);
+/// Adds the session to the list of those that are handed in. For want of memory it is abandoned.
+fn hand_in(session: Session, sessions: &mut Vec<Session>) -> Result<(), LoadFault> {
+    match sessions.push(session) {
+        Ok(()) => Ok(()),
+        Err(AllocFailed { value }) => {
+            value.abandon();
+            Err(LoadFault::Memory)
+        }
     }
-    Ok(total)
+}
+
+/// Adds the session of a client to the list, and its payments that began to their count.
+fn count_in(
+    total: Result<u64, LoadFault>,
+    payer: Payer,
+    sessions: &mut Vec<Session>,
+) -> Result<u64, LoadFault> {
+    let (session, begun) = payer.into_parts();
+    hand_in(session, sessions)?;
+    Ok(total?.saturating_add(begun?))
+}
+
+/// Adds the sessions of all clients to the list, and counts the payments that began.
+fn collect(payers: Vec<Payer>, sessions: &mut Vec<Session>) -> Result<u64, LoadFault> {
+    let mut total = Ok(0);
+    let mut payers = payers.into_iter();
+    while let Some(payer) = payers.next() {
+        total = count_in(total, payer, sessions);
+    }
+    payers.destroy_empty();
+    total
 }
 
 /// Looks at that hop until it is there.
@@ -246,9 +268,14 @@ fn carry_by<
     requires { 0 < load.servers }
 {
     seed_all(rt, alloc, front, session, load)?;
-    let mut payers = payers(rt, alloc, front, load)?;
-    let (first, all_begun) = pay_timed(rt, alloc, front, payers.as_mut_slice())?;
-    let begun = collect(payers, sessions)?;
+    let mut payers = Vec::new(alloc);
+    let paid = match add_payers(rt, alloc, front, load, &mut payers) {
+        Ok(()) => pay_timed(rt, alloc, front, payers.as_mut_slice()),
+        Err(fault) => Err(fault),
+    };
+    let begun = collect(payers, sessions);
+    let (first, all_begun) = paid?;
+    let begun = begun?;
     let done = await_all(rt, alloc, front, session, load)?;
     Ok(Carried {
         begun,
@@ -261,7 +288,7 @@ fn carry_by<
 }
 
 /// Carries the load by clients with sessions of their own, and one more. All of these are added to
-/// the list, where nothing fails.
+/// the list.
 fn carry<
     R: Threads + Wait + Clock + Sync,
     K: BatchKeeper + Send + Drop,
@@ -277,7 +304,7 @@ fn carry<
 {
     let mut session = front.session(rt, alloc).ok_or(LoadFault::Session)?;
     let carried = carry_by(rt, alloc, front, load, &mut session, sessions);
-    sessions.push(session)?;
+    hand_in(session, sessions)?;
     carried
 }
 

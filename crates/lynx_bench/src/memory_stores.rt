@@ -23,11 +23,16 @@ impl MemoryStores {
 }
 
 impl Stores<MemoryStoreKeeper> for MemoryStores {
+    ghost use Rattle.std.specs.Prelude.{◌≡◌};
     ghost use Rattle.lynx_store.specs.Heading.{owner_in};
+    ghost use Rattle.lynx_store.specs.Stored.{owner_for};
 
-    ghost owner_of = { λ keeper. owner_in keeper.heading };
-
-    ghost count_of = { λ keeper. keeper.count };
+    ghost store_terms = { record {
+      store_in = λ folder set server keeper. owner_in keeper.heading ≡ owner_for server set;
+      lacks = λ folder server. Unit {0};
+      count_of = λ keeper. keeper.count;
+      closed = λ keeper is_well. Unit {0};
+    } };
 
     fn open(
         &self,
@@ -42,6 +47,15 @@ impl Stores<MemoryStoreKeeper> for MemoryStores {
             Ok(keeper) => Ok(keeper),
             Err((fault, _)) => Err(fault),
         }
+    }
+
+    fn open_there(
+        &self,
+        _folder: &str,
+        _set: &ChainSet,
+        _server: ServerId,
+    ) -> Result<Option<MemoryStoreKeeper>, StoreFault> {
+        Ok(None)
     }
 
     fn has(&self, _folder: &str, _server: ServerId) -> Result<bool, StoreFault> {

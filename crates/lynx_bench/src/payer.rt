@@ -8,7 +8,7 @@ use lynx_cluster::{Front, Gate, Session};
 use lynx_entry::Answer;
 use lynx_keep::BatchKeeper;
 use lynx_names::ChainId;
-use std::alloc::Global;
+use std::alloc::{AllocFailed, Global};
 use std::sync::Wait;
 use std::time::Clock;
 
@@ -68,8 +68,8 @@ pub(crate) fn begun_now(answer: Answer) -> Result<ChainId, LoadFault> {
     }
 }
 
-/// A client with its session, and which of a load's payments it makes.
-#[derive(Drop)]
+/// A client with its session, and which of a load's payments it makes. It must be spent, by
+/// [`Payer::into_parts`].
 pub(crate) struct Payer {
     session: Session,
     /// Its number among all clients, ..
@@ -136,24 +136,45 @@ impl Payer {
 
     /// Its session, and how many of its payments began, or why one didn't.
     pub(crate) fn into_parts(self) -> (Session, Result<u64, LoadFault>) {
-        (self.session, self.begun)
+        let Payer {
+            session,
+            client: _,
+            clients: _,
+            servers: _,
+            across: _,
+            first: _,
+            count: _,
+            begun,
+        } = self;
+        (session, begun)
     }
 }
 
-/// The clients of a load, which share its payments.
-pub(crate) fn payers<R: Wait, K: BatchKeeper, G: Gate>(
+/// Adds a client to the list. For want of memory its session is abandoned.
+fn add(payers: &mut Vec<Payer>, payer: Payer) -> Result<(), LoadFault> {
+    match payers.push(payer) {
+        Ok(()) => Ok(()),
+        Err(AllocFailed { value }) => {
+            value.into_parts().0.abandon();
+            Err(LoadFault::Memory)
+        }
+    }
+}
+
+/// Adds the clients of a load to the list, which share its payments.
+pub(crate) fn add_payers<R: Wait, K: BatchKeeper, G: Gate>(
     rt: &R,
     alloc: Global,
     front: &Front<K, G>,
     load: Load,
-) -> Result<Vec<Payer>, LoadFault>
+    payers: &mut Vec<Payer>,
+) -> Result<(), LoadFault>
     requires { 0 < load.servers }
 {
-    let mut payers = Vec::new(alloc);
     let mut left = load.payments;
     for before in 0..load.threads {
         let count = share_of(left, load.threads - before);
-        payers.push(Payer {
+        let payer = Payer {
             session: front.session(rt, alloc).ok_or(LoadFault::Session)?,
             client: before,
             clients: load.threads,
@@ -162,8 +183,9 @@ pub(crate) fn payers<R: Wait, K: BatchKeeper, G: Gate>(
             first: load.payments.saturating_sub(left),
             count,
             begun: Ok(0),
-        })?;
+        };
+        add(payers, payer)?;
         left -= count;
     }
-    Ok(payers)
+    Ok(())
 }

@@ -2,7 +2,7 @@
 //! was wanting to it; with no word it lists the calls. It prints what came of it: `done`;
 //! `refused, then done` where memory was wanting, all was as before, and the call was done when it
 //! was made again; or what is wrong. The status is 3 where memory was wanting before the call or
-//! behind it. For tests/refused, which refuses growths from outside.
+//! behind it. For tests/test_refused.py, which refuses growths from outside.
 #![tactic(auto)]
 
 use lynx_names::Memory;

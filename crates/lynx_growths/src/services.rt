@@ -15,7 +15,7 @@ use lynx_keep::{BatchKeeper, MemoryKeeper};
 use lynx_names::{ChainId, Memory};
 use lynx_port::{Desk, PortFault, serve};
 use lynx_world::empty_keepers;
-use std::alloc::Global;
+use std::alloc::{AllocFailed, Global};
 use std::io;
 use std::sync::Wait;
 use std::thread::Threads;
@@ -165,6 +165,14 @@ fn start<R: Threads + Wait + Clock + Copy + Send + 'static>(
     }
 }
 
+/// Puts the session in the list of those that are handed in. For want of memory it is abandoned,
+/// and the close fails.
+fn hand_in(sessions: &mut Vec<Session>, session: Session) {
+    if let Err(AllocFailed { value }) = sessions.push(session) {
+        value.abandon();
+    }
+}
+
 /// How many entries the world of a closed cluster has.
 fn entries_of(closed: Result<Closed<MemoryKeeper>, CloseFault>) -> Result<usize, Memory> {
     match closed {
@@ -180,9 +188,8 @@ fn try_begin<R: Threads + Wait + Clock + Copy + Send + 'static>(
     alloc: Global,
     are_two: bool,
 ) -> Result<Tried, Memory> {
-    let mut sessions = Vec::new(alloc);
-    sessions.reserve(1)?;
     let cluster = start(rt, alloc)?;
+    let mut sessions = Vec::new(alloc);
     let mut tried = Err(Memory);
     if let Some(mut session) = cluster.session(&rt, alloc) {
         let front = cluster.front();
@@ -191,7 +198,7 @@ fn try_begin<R: Threads + Wait + Clock + Copy + Send + 'static>(
         } else {
             begin_again(&rt, alloc, front, &mut session)
         };
-        sessions.push_reserved(session);
+        hand_in(&mut sessions, session);
     }
     let entries = entries_of(cluster.close(&rt, alloc, sessions))?;
     match tried? {

@@ -22,7 +22,8 @@ def pytest_addoption(parser):
     for option, crate in PROGRAMS.items():
         parser.addoption(f"--{option}", default=os.path.join(TOP, "crates", crate, "out", crate),
                          help=f"the built {crate}; crates/{crate}/out/{crate} if left out")
-    parser.addoption("--times", type=int, default=1, help="how many times as many random cases and kills are tried; 1 if left out")
+    parser.addoption("--times", type=int, default=1,
+                     help="how many times as many random cases, kills and refused growths of a service are tried; 1 if left out")
 
 
 def pytest_generate_tests(metafunc):

@@ -1,6 +1,6 @@
 /* Refuses one growth: of all calls of malloc, calloc, realloc and the aligned kinds, counted over all threads, the one whose
    number is LYNX_REFUSED answers that there is no memory. The file LYNX_TOLD is made once that has come. Preloaded by
-   tests/refused. */
+   tests/test_refused.py. */
 #define _GNU_SOURCE
 #include <errno.h>
 #include <fcntl.h>

@@ -154,12 +154,33 @@ class Service:
 class WatchedService(Service):
     """A service that tells its status."""
 
-    def __init__(self, lynx, room, *words):
-        self.port, self.status = free_port(), free_port()
-        self.ran = subprocess.Popen([lynx, "serve", room.set, room.stores, str(self.port), "--status", str(self.status), *words],
-                                    stdin=subprocess.DEVNULL, stdout=subprocess.PIPE, stderr=subprocess.PIPE, text=True)
-        self.first = self.ran.stdout.readline()
+    def __init__(self, lynx, room, *words, env=None):
+        self.status = free_port()
+        super().__init__(lynx, room, env=env, words=("--status", str(self.status), *words))
         self.second = self.ran.stdout.readline()
+
+
+class Strain:
+    """The disk and the clock of programs that run in the environment `env`: what the test says of them holds from then on. `hold` is a
+    part of the paths of files whose syncs wait, `slow` of those whose syncs take `millis` longer, `fail` of those whose syncs fail,
+    and `ahead` are the seconds by which the clock is ahead (tests/strain.c)."""
+
+    def __init__(self, room):
+        self.folder, library = (os.path.join(room.path, name) for name in ("strain", "strain.so"))
+        os.mkdir(self.folder)
+        subprocess.run(["gcc", "-O2", "-shared", "-fPIC", "-o", library, os.path.join(TOP, "tests", "strain.c"), "-ldl"], check=True)
+        self.env = dict(os.environ, LD_PRELOAD=library, LYNX_STRAINS=self.folder)
+
+    def set(self, **told):
+        for name, text in told.items():
+            path = os.path.join(self.folder, name)
+            with open(path + ".new", "w", encoding="ascii") as file:
+                file.write(str(text))
+            os.rename(path + ".new", path)
+
+    def clear(self, *names):
+        for name in names:
+            os.remove(os.path.join(self.folder, name))
 
 
 class Line:
@@ -198,6 +219,11 @@ class Line:
     def rest(self):
         """All bytes until the service ends the connection."""
         return self.take(1 << 30)
+
+
+def pays(client, count):
+    """The bytes of so many payments of 1, under the numbers from 1 on."""
+    return b"".join(struct.pack(">BIQQBBQ", 1, 26, client, number, 1, 1, 1) for number in range(1, count + 1))
 
 
 def files(folder):

@@ -3,6 +3,7 @@ audits are to print was worked out by hand from docs/FORMATS.md."""
 import os
 import shutil
 
+import pytest
 from serving import PAYMENT, Room, Service, bound_by_modes, end_of, files, stored
 import lynx as client
 
@@ -106,6 +107,29 @@ def test_refused(tally, program, room):
     tally.is_same("another server's store", end_of([program, "audit", lost]), ("", "lynx: store 1: other-set\n", 4))
     with Service(program, room):
         tally.is_same("stores that are served", end_of([program, "audit", room.stores]), ("", "lynx: store 0: store\n", 4))
+
+
+# What makes an entry unlawful whose form stays: a payment that found 101 where 100 was, and a hop that ran at stamp 1 though its
+# message was sent at stamp 2. Each is a server, a place, the entry's end before and behind it.
+UNLAWFUL = [(0, 1, "01" + "0000000000000064", "01" + "0000000000000065"), (1, 0, "0000000000000003" + "00", "0000000000000001" + "00")]
+
+
+@pytest.mark.parametrize("server, place, was, made", UNLAWFUL)
+def test_unlawful(tally, program, room, server, place, was, made):
+    """A store that has an unlawful entry is told, with the entry's place, and so is the first of two."""
+    stored(program, room, FIRST)
+    body = end_of(["sqlite3", room.store(server), f"SELECT hex(body) FROM entry WHERE place = {place}"])[0].strip()
+    tally.is_same("how the entry ends", body[-len(was):], was)
+    changed = f"UPDATE entry SET body = x'{body[:-len(was)]}{made}' WHERE place = {place}"
+    tally.is_same("it is changed", end_of(["sqlite3", room.store(server), changed]), ("", "", 0))
+    for verb in ("audit", "owed"):
+        tally.is_same(verb, end_of([program, verb, room.stores]), ("", f"lynx: store {server}: damaged\n", 4))
+        out, err, status = end_of([program, verb, "--hints", room.stores])
+        tally.is_same(f"{verb} with hints", (out, err.splitlines()[0], status), ("", f"lynx: store {server}: damaged", 4))
+        tally.holds(f"{verb}: the place", f"entry {place} of server {server}," in err)
+    if server == 1:
+        end_of(["sqlite3", room.store(0), "DELETE FROM cell"])
+        tally.is_same("both", end_of([program, "audit", room.stores]), ("", "lynx: store 0: damaged\n", 4))
 
 
 def test_by_folder(tally, program, room):

@@ -1,7 +1,9 @@
 """A folder that follows a service, `lynx serve SET DIR PORT --copy DIR2`. At all times, over kills, pauses, disks that fill and
 disks that hang, what a store of DIR2 has is a front of what the store of DIR has; `lynx restore` makes of it a folder with all
 promises; and no begin waits for DIR2."""
+import concurrent.futures
 import http.client
+import itertools
 import os
 import random
 import re
@@ -12,11 +14,15 @@ import tempfile
 import threading
 import time
 
-from serving import PAYMENT, Room, WatchedService, end_of, files, wait_until
+import pytest
+from serving import PAYMENT, Room, Strain, WatchedService, end_of, files, pays, stored, wait_until
 import lynx as client
 
 SERVERS = (0, 1)
-KILLS, MOMENTS = 50, 10
+KILLS, MOMENTS, PAYMENTS = 50, 10, 300
+
+# A shut, and the bytes of the answer that a payment began, and of a bye.
+SHUT, ANSWER, BYE = bytes.fromhex("0400000000"), 5 + 1 + 1 + 8 + 8 + 1 + 1 + 8, 5
 
 
 class CopyRoom(Room):
@@ -34,8 +40,8 @@ class CopyRoom(Room):
 class Followed(WatchedService):
     """A service with a folder that follows."""
 
-    def __init__(self, program, room, *words):
-        super().__init__(program, room, "--copy", room.copy, *words)
+    def __init__(self, program, room, *words, env=None):
+        super().__init__(program, room, "--copy", room.copy, *words, env=env)
 
     def command(self, path, method="POST", **fields):
         """The status and the body of what is answered to a command."""
@@ -65,6 +71,22 @@ class Followed(WatchedService):
     def is_whole(self):
         """Whether all stores follow and lack nothing."""
         return self.figures() == figures_of(1, 0)
+
+    def follows(self):
+        """Whether each store follows."""
+        figures = self.figures()
+        return [figures[f'lynx_copy_follows{{server="{server}"}}'] for server in SERVERS]
+
+    def has_open(self, folder):
+        """The files of a folder that it has open."""
+        own = f"/proc/{self.ran.pid}/fd"
+        found = set()
+        for handle in os.listdir(own):
+            try:
+                found.add(os.readlink(os.path.join(own, handle)))
+            except FileNotFoundError:
+                pass
+        return sorted(os.path.basename(path) for path in found if path.startswith(folder + "/"))
 
 
 def figures_of(follows, behind):
@@ -417,46 +439,13 @@ def test_full(tally, program):
             subprocess.run(["umount", room.copy], check=True)
 
 
-HANGING = r"""
-#define _GNU_SOURCE
-#include <dlfcn.h>
-#include <stdio.h>
-#include <stdlib.h>
-#include <string.h>
-#include <unistd.h>
-static int waits(int handle) {
-    char link[64], path[4096];
-    snprintf(link, sizeof link, "/proc/self/fd/%d", handle);
-    ssize_t length = readlink(link, path, sizeof path - 1);
-    if (length < 0) return 0;
-    path[length] = 0;
-    return strstr(path, "/copy/") != NULL;
-}
-int fsync(int handle) {
-    if (waits(handle)) usleep(2000000);
-    return ((int (*)(int))dlsym(RTLD_NEXT, "fsync"))(handle);
-}
-int fdatasync(int handle) {
-    if (waits(handle)) usleep(2000000);
-    return ((int (*)(int))dlsym(RTLD_NEXT, "fdatasync"))(handle);
-}
-"""
-
-
 def test_hanging(tally, program, turn):
     """A folder on a disk each of whose syncs takes two seconds: no begin waits for it."""
     with CopyRoom() as room:
-        library = os.path.join(room.path, "hanging.so")
-        subprocess.run(["gcc", "-shared", "-fPIC", "-o", library, room.file("hanging.c", HANGING), "-ldl"], check=True)
-        with Followed(program, room) as service:
+        strain = Strain(room)
+        with Followed(program, room, env=strain.env) as service:
             seed(room)
-            shut(tally, room, service)
-        os.environ["LD_PRELOAD"] = library
-        try:
-            service = Followed(program, room)
-        finally:
-            del os.environ["LD_PRELOAD"]
-        with service:
+            strain.set(millis=2000, slow="/copy/")
             with turn.alone():
                 payers = [Payer(room, number, 0.01) for number in (1, 2)]
                 time.sleep(6)
@@ -468,3 +457,155 @@ def test_hanging(tally, program, turn):
             tally.holds("the folder is behind", sum(value for name, value in lacks.items() if "behind" in name) > 0)
             tally.holds("and comes up", wait_until(service.is_whole, 60))
             shut(tally, room, service)
+
+
+def told(server, word):
+    """The line of a store that can't follow."""
+    return f"lynx: copy {server}: {word}\n"
+
+
+def parting(some, others):
+    """The place at which lines part from others, and what stands there of each; None where they are the same."""
+    pairs = enumerate(itertools.zip_longest(some, others))
+    return next(((place, *pair) for place, pair in pairs if pair[0] != pair[1]), None)
+
+
+def put_in(room, folder):
+    """Other stores in place of those of the folder that follows."""
+    shutil.rmtree(room.copy)
+    shutil.copytree(folder, room.copy)
+
+
+def test_other_history(tally, program):
+    """Another history that is put into the folder in a pause is told once it is resumed, and once only; what it has stays. One that
+    has a front of what the servers did goes on."""
+    with CopyRoom() as room:
+        stored(program, room, "".join(f"begin 0 1 {number} seed 1\n" for number in range(1, 1_051)))
+        front, longer, parted = (os.path.join(room.path, name) for name in ("front", "longer", "parted"))
+        for folder in (front, longer, parted):
+            shutil.copytree(room.stores, folder)
+        stored(program, room, "begin 0 1 1051 seed 1\nbegin 0 1 1052 seed 1\n")
+        stored(program, room, "begin 0 1 1051 seed 1\nbegin 0 1 1052 seed 1\nbegin 0 1 1053 seed 1\n", longer)
+        stored(program, room, "begin 0 1 1051 seed 2\n", parted)
+        with Followed(program, room) as service:
+            tally.holds("soon nothing lacks", wait_until(service.is_whole, 20))
+            for name, folder in (("longer", longer), ("parted at the 1,051st entry", parted)):
+                tally.is_same(f"{name}: paused", service.command("/copy/pause"), (200, "paused\n"))
+                put_in(room, folder)
+                before = listed(program, room.copied(0))
+                tally.is_same(f"{name}: resumed", service.command("/copy/resume"), (200, "resumed\n"))
+                tally.holds(f"{name}: that of server 1 follows", wait_until(lambda: service.follows()[1], 20))
+                time.sleep(1)
+                tally.is_same(f"{name}: that of server 0 doesn't", service.follows(), [0, 1])
+                tally.is_same(f"{name}: what it has", parting(listed(program, room.copied(0)), before), None)
+            service.command("/copy/pause")
+            put_in(room, front)
+            service.command("/copy/resume")
+            tally.holds("a front goes on", wait_until(service.is_whole, 20))
+            client.Client(room.stores).shut()
+            out, fault, status = service.end()
+            tally.is_same("what is told", (out[:13], fault, status), ("closed\norder ", told(0, "other-history") * 2, 0))
+        for server in SERVERS:
+            tally.is_same(f"that of {server}", parting(listed(program, room.copied(server)), listed(program, room.store(server))), None)
+
+
+def test_tried_again(tally, program):
+    """A store that fails is opened again after 60 seconds by the clock, not before, and what it lacks is appended then."""
+    with CopyRoom() as room:
+        strain = Strain(room)
+        with Followed(program, room, env=strain.env) as service:
+            seed(room)
+            tally.holds("soon nothing lacks", wait_until(service.is_whole, 20))
+            strain.set(fail="/copy/server-0.lynx")
+            with client.Client(room.stores, client=5) as bank:
+                bank.begin("pay", 1).wait(5)
+            tally.holds("a store fails", wait_until(lambda: service.follows() == [0, 1], 20))
+            os.rename(room.copied(0), room.copied(0) + ".away")
+            strain.clear("fail")
+            for seconds in (0, 50):
+                strain.set(ahead=seconds)
+                time.sleep(1)
+                tally.is_same(f"{seconds} seconds later", (service.follows(), os.path.exists(room.copied(0))), ([0, 1], False))
+            os.rename(room.copied(0) + ".away", room.copied(0))
+            strain.set(ahead=61)
+            tally.holds("a minute later it follows", wait_until(service.is_whole, 20))
+            client.Client(room.stores).shut()
+            out, fault, status = service.end()
+            tally.is_same("what is told", (out[:13], fault, status), ("closed\norder ", told(0, "store"), 0))
+        for server in SERVERS:
+            tally.is_same(f"that of {server}", parting(listed(program, room.copied(server)), listed(program, room.store(server))), None)
+
+
+@pytest.mark.parametrize("server", SERVERS)
+def test_unclosed(tally, program, server):
+    """A store that can't be closed in a pause is told. It follows again once the pause is over, and has all in the end."""
+    with CopyRoom() as room:
+        strain = Strain(room)
+        with Followed(program, room, env=strain.env) as service:
+            seed(room)
+            with client.Client(room.stores, client=5) as bank:
+                bank.begin("pay", 1).wait(5)
+            tally.holds("soon nothing lacks", wait_until(service.is_whole, 20))
+            strain.set(fail=f"/copy/server-{server}.lynx")
+            service.command("/copy/pause")
+            tally.is_same("nothing is open", service.has_open(room.copy), [])
+            strain.clear("fail")
+            service.command("/copy/resume")
+            tally.holds("it follows", wait_until(service.is_whole, 20))
+            client.Client(room.stores).shut()
+            out, fault, status = service.end()
+            tally.is_same("what is told", (out[:13], fault, status), ("closed\norder ", told(server, "store"), 0))
+        for each in SERVERS:
+            tally.is_same(f"the store of {each}", parting(listed(program, room.copied(each)), listed(program, room.store(each))), None)
+
+
+def test_pauses(tally, program):
+    """No file of the folder is open behind a pause, however soon it comes behind a resume, and beside another one."""
+    chance = random.Random(7)
+    with CopyRoom() as room:
+        strain = Strain(room)
+        with Followed(program, room, env=strain.env) as service:
+            seed(room)
+            tally.holds("its files are open", wait_until(lambda: service.has_open(room.copy), 20))
+            for turn in range(12):
+                for again in range(2):
+                    found = service.command("/copy/pause"), service.has_open(room.copy)
+                    tally.is_same(f"pause {turn}, {again} again", found, ((200, "paused\n"), []))
+                service.command("/copy/resume")
+                time.sleep(chance.random() * 0.15)
+            with client.Client(room.stores, client=5) as bank:
+                bank.begin("pay", 1).wait(5)
+            tally.holds("soon nothing lacks", wait_until(service.is_whole, 20))
+            strain.set(hold="/copy/")
+            with concurrent.futures.ThreadPoolExecutor(2) as pool:
+                asked = [pool.submit(lambda: (service.command("/copy/pause"), service.has_open(room.copy))) for _ in range(2)]
+                time.sleep(1)
+                tally.is_same("pauses beside a disk that hangs", [(each.done(), bool(service.has_open(room.copy))) for each in asked],
+                              [(False, True)] * 2)
+                strain.clear("hold")
+                tally.is_same("what they are answered", [each.result() for each in asked], [((200, "paused\n"), [])] * 2)
+            service.command("/copy/resume")
+            shut(tally, room, service)
+
+
+def test_last_hops(tally, program):
+    """Hops that are done once the last client has gone are in the folder too."""
+    late = 0
+    for turn in range(3):
+        with CopyRoom() as room:
+            strain = Strain(room)
+            with Followed(program, room, "--log", env=strain.env) as service:
+                seed(room)
+                strain.set(millis=200, slow="/stores/server-1.lynx")
+                with service.connect() as line:
+                    line.send(pays(5, PAYMENTS) + SHUT)
+                    tally.is_same("bytes of answers", len(line.rest()), PAYMENTS * ANSWER + BYE)
+                out, log, status = service.end()
+                tally.is_same("its end", (out[:13], status), ("closed\norder ", 0))
+                left = int(re.search(r"event=closing owed=(\d+)", log)[1])
+            for server in SERVERS:
+                kept, did = listed(program, room.copied(server)), listed(program, room.store(server))
+                tally.is_same(f"the store of {server} in turn {turn}", parting(kept, did), None)
+            late += len(entries(did)) - (PAYMENTS - left)
+    print(f"{late} hops were done behind the last client")
+    tally.holds("hops were done behind the last client", late > 0)

@@ -161,6 +161,7 @@ def test_scripts(made):
     assert scripts("tests/serving.py", "x") == whole
     assert scripts("tests/kills", "x") == {"tests/kills 5": ["lynx"]}
     assert scripts("tests/test_kills.py", "x") == {"tests/pytest": ["lynx"]}
+    assert scripts("tests/conftest.py", '{"load": "lynx_load"}') == {"tests/pytest": ["lynx", "lynx_load"]}
     assert scripts("docs/CLIENTS.md", "x") == {"tests/loads": ["lynx", "lynx_load"]}
     assert scripts("docs/OTHER.md", "x") == {}
     assert scripts("docs/edits.txt", "x") == {}

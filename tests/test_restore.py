@@ -248,7 +248,8 @@ def test_refused(tally, program):
         tally.is_same("where a server has a store that the set hasn't", end_of([program, "restore", copies, new]), OCCUPIED)
         os.remove(os.path.join(new, "server-9.lynx"))
         absent = os.path.join(room.path, "absent")
-        tally.is_same("into no folder", end_of([program, "restore", copies, absent]), ("", "lynx: store 0: store\n", 4))
+        tally.is_same("into no folder, which can't be made", end_of([program, "restore", copies, os.path.join(absent, "new")]),
+                      ("", "lynx: store 0: store\n", 4))
         tally.is_same("of no folder", end_of([program, "restore", absent, new]), ("", "lynx: store 0: store\n", 4))
         os.remove(os.path.join(copies, "server-1.lynx"))
         tally.is_same("a copy that is missing", end_of([program, "restore", copies, new]), ("", "lynx: store 1: damaged\n", 4))
@@ -258,6 +259,10 @@ def test_refused(tally, program):
         with Service(program, room):
             tally.is_same("stores that are served", end_of([program, "restore", room.stores, new]), ("", "lynx: store 0: store\n", 4))
         tally.is_same("nothing was made", os.listdir(new), [])
+        made = os.path.join(room.path, "made")
+        shutil.copytree(room.stores, copies, dirs_exist_ok=True)
+        tally.is_same("into a folder that isn't there", end_of([program, "restore", copies, made])[1:], ("", 0))
+        tally.holds("it is made", os.path.exists(os.path.join(made, "server-1.lynx")) and not os.path.exists(os.path.join(made, "restore.new")))
         tally.is_same("a word too few", end_of([program, "restore", copies])[2], 2)
 
 
@@ -372,3 +377,7 @@ def test_longest(tally, program):
         os.mkdir(new)
         tally.is_same("nothing is there", end_of([program, "restore", "--longest", copies, new]), ("", damaged(0), 4))
         tally.is_same("nothing was made", os.listdir(new), [])
+        made = os.path.join(room.path, "made")
+        shutil.copytree(room.stores, copies, dirs_exist_ok=True)
+        tally.is_same("into a folder that isn't there", end_of([program, "restore", copies, made])[1:], ("", 0))
+        tally.holds("it is made", os.path.exists(os.path.join(made, "server-1.lynx")) and not os.path.exists(os.path.join(made, "restore.new")))

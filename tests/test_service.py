@@ -7,7 +7,9 @@ import socket
 import subprocess
 import time
 
-from serving import PAYMENT, Line, Room, Service, end_of, free_port, wait_until
+import pytest
+from serving import PAYMENT, Line, Room, Service, Strain, end_of, free_port, stored, wait_until
+import lynx
 
 SHUT, BYE = bytes.fromhex("0400000000"), bytes.fromhex("1300000000")
 LOOK = bytes.fromhex("020000000a0000000000000000000000")[:15]
@@ -229,6 +231,56 @@ def test_worlds(tally, program):
                 tally.is_same("the older folder as a whole", service.first, f"listening 127.0.0.1:{service.port}\n")
                 shut(service)
                 tally.is_same("its end", service.end(), ("closed\norder 0:0 0:1 0:2 0:3\n", "", 0))
+
+
+THREE = """lynx 1
+servers 3
+table t
+shard 0 9 0
+shard 10 19 1
+shard 20 18446744073709551615 2
+program go
+hop 0
+add t 0 1
+hop 1
+add t 10 1
+hop 2
+add t 20 1
+end
+"""
+
+
+@pytest.mark.parametrize("servers", ((0, 1), (0, 2), (1, 2)))
+def test_two_lost(tally, program, servers):
+    """Of two stores that are lost the first is told, and nothing is made in their place."""
+    with Room(THREE) as room:
+        stored(program, room, "begin 0 1 1 go\ndeliver 0:0 1\ndeliver 0:0 2\n")
+        for name in os.listdir(room.stores):
+            if name.startswith(tuple(f"server-{server}.lynx" for server in servers)):
+                os.remove(os.path.join(room.stores, name))
+        left = sorted(os.listdir(room.stores))
+        refused = ("", f"lynx: store {servers[0]}: damaged\n", 4)
+        tally.is_same("serve", ended_at_once(program, room, room.stores), refused)
+        tally.is_same("extend", end_of([program, "extend", room.stores, room.set]), refused)
+        for verb in ("audit", "owed"):
+            tally.is_same(verb, end_of([program, verb, room.stores]), refused if servers[0] else ("", "lynx: store 0: store\n", 4))
+        tally.is_same("nothing is made", sorted(os.listdir(room.stores)), left)
+
+
+@pytest.mark.parametrize("server", (0, 1))
+def test_unclosed(tally, program, room, server):
+    """A store that can't be closed in the end is told behind the last lines. It keeps all, and the others are closed."""
+    strain = Strain(room)
+    with Service(program, room, env=strain.env) as service:
+        with lynx.Client(room.stores, client=1) as bank:
+            bank.begin("seed", 100)
+            bank.begin("pay", 30).wait(10)
+        strain.set(fail=f"/stores/server-{server}.lynx")
+        lynx.Client(room.stores).shut()
+        tally.is_same("its end", service.end(), ("closed\norder 0:0 0:1\n", f"lynx: store {server}: store\n", 4))
+    tally.holds("the other is closed", os.path.getsize(room.store(1 - server) + "-wal") <= 41)
+    tally.is_same("what they keep", end_of([program, "audit", room.stores]),
+                  ("closed\norder 0:0 0:1\nentries 0 2\nentries 1 1\ncells acct 2\n", "", 0))
 
 
 def test_no_port(tally, program):

@@ -12,7 +12,8 @@ import socket
 import threading
 import time
 
-from serving import PAYMENT, Room, Service, WatchedService, end_of, free_port, wait_until
+import pytest
+from serving import PAYMENT, Room, Service, Strain, WatchedService, end_of, free_port, pays, wait_until
 import lynx as client
 
 SEED, PAY = PAYMENT[PAYMENT.index("program seed"):PAYMENT.index("program pay")], PAYMENT[PAYMENT.index("program pay"):]
@@ -285,6 +286,67 @@ def test_owed(tally, program):
             tally.is_same("clocks", summed(samples, "lynx_clock_stamp", server="0"), 3)
             client.Client(room.stores).shut()
             service.end()
+
+
+def by_server(service, name):
+    """A metric of both servers, which has a sample of each."""
+    samples, _ = metrics_in(service.get("/metrics")[2].decode("ascii"))
+    return [samples[name, (("server", str(server)),)] for server in (0, 1)]
+
+
+def answered(bank, *words):
+    """What a begin comes to."""
+    try:
+        return type(bank.begin(*words)).__name__
+    except client.LynxError as fault:
+        return fault.reason
+
+
+@pytest.mark.parametrize("server, answer, owed", ((0, "stopped", [0, 0]), (1, "Begun", [0, 2])))
+def test_stopped(tally, program, server, answer, owed):
+    """A server whose store fails: /healthz and the metrics tell it, of that server alone, and how many hops are owed there. The next
+    service is well, and does them."""
+    with Room(PAYMENT) as room:
+        strain = Strain(room)
+        with Watched(program, room, env=strain.env) as service:
+            with client.Client(room.stores, client=1, tries=1) as bank:
+                bank.begin("seed", 100)
+                tally.holds("a payment", bank.begin("pay", 30).wait(10))
+                tally.is_same("health before", service.get("/healthz")[::2], (200, b"ok\n"))
+                tally.is_same("who runs before", by_server(service, "lynx_server_running"), [1, 1])
+                strain.set(fail=f"/stores/server-{server}.lynx")
+                tally.is_same("begins behind it", [answered(bank, "pay", amount) for amount in (1, 2)], [answer] * 2)
+            tally.holds("it is told", wait_until(lambda: service.get("/healthz")[0] != 200))
+            tally.is_same("health", service.get("/healthz")[::2], (503, f"server {server} stopped\n".encode()))
+            tally.is_same("who runs", by_server(service, "lynx_server_running"), [int(each != server) for each in (0, 1)])
+            tally.is_same("what is owed", by_server(service, "lynx_owed_hops"), owed)
+            client.Client(room.stores).shut()
+            tally.is_same("its end", service.end(), ("", "lynx: close: stopped\n", 4))
+        with Watched(program, room) as service:
+            tally.is_same("health of the next", service.get("/healthz")[::2], (200, b"ok\n"))
+            tally.holds("what was owed is done", wait_until(lambda: by_server(service, "lynx_owed_hops") == [0, 0]))
+            client.Client(room.stores).shut()
+            tally.is_same("the end of the next", service.end()[1:], ("", 0))
+
+
+def test_slow(tally, program):
+    """Hops are owed while the disk of their server is slow: of that server, and until they are done."""
+    with Room(PAYMENT) as room:
+        strain = Strain(room)
+        with Watched(program, room, env=strain.env) as service, client.Client(room.stores, client=1) as bank:
+            bank.begin("seed", 1000)
+            strain.set(millis=200, slow="/stores/server-1.lynx")
+            with service.connect() as line:
+                line.send(pays(2, 300))
+                for _ in range(300):
+                    line.item()
+            owed = [by_server(service, "lynx_owed_hops")]
+            tally.holds("nothing is owed then", wait_until(lambda: owed.append(by_server(service, "lynx_owed_hops")) or owed[-1][1] == 0))
+            tally.is_same("what is owed at server 0", {first for first, _ in owed}, {0})
+            tally.holds(f"what is owed at server 1: {[second for _, second in owed]}", 0 < owed[0][1] <= 300)
+            tally.is_same("entries", by_server(service, "lynx_entries"), [301, 300])
+            bank.shut()
+            tally.is_same("its end", service.end()[1:], ("", 0))
 
 
 def test_compared(tally, program):

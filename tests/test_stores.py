@@ -317,8 +317,8 @@ def test_damages(tally, stores):
     with Stores(stores.program, stores) as copy:
         os.remove(copy.path(0))
         os.remove(copy.path(0) + "-wal")
-        told = ("idle 0\n", "lynx: close: mismatch\n", 4)
-        tally.is_same("store of the sender lost", copy.run("wake 0\n"), told)
+        tally.is_same("store of the sender lost", copy.run("wake 0\n"), ("", "lynx: store 0: damaged\n", 4))
+        tally.holds("none is made in its place", not os.path.exists(copy.path(0)))
 
 
 def test_refusals(tally, stores):

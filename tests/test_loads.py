@@ -1,18 +1,14 @@
-#!/usr/bin/env python3
-"""tests/loads [BENCH [PROGRAM]]: loads that lynx_bench carries over clusters in memory, which audits each at its end: all payments
-begin, come to their ends, and an order explains them, with what was paid in as the sum of all cells. And loads at a service over
-the set that it prints: the service's order has as many chains as they say to have begun. And sixteen clients at a service of four
-servers, whose chains meet by two ways: each is told Begun or Refused, and what was paid in is there. Words that ask for no load are refused.
-BENCH and PROGRAM are crates/lynx_bench/out/lynx_bench and crates/lynx/out/lynx if left out. The last line is 'N passed, M failed'."""
-import os
+"""Loads that lynx_bench carries over clusters in memory, which audits each at its end: all payments begin, come to their ends, and
+an order explains them, with what was paid in as the sum of all cells. And loads at a service over the set that it prints: the
+service's order has as many chains as they say to have begun. And sixteen clients at a service of four servers, whose chains meet
+by two ways: each is told Begun or Refused, and what was paid in is there. Words that ask for no load are refused."""
 import random
 import re
-import sys
 import threading
 
-sys.path.insert(0, os.path.dirname(os.path.abspath(__file__)))
-from serving import TOP, Room, Service, Tally, end_of, free_port, program  # noqa: E402
-import lynx  # noqa: E402
+import pytest
+from serving import Room, Service, end_of, free_port
+import lynx
 
 DONE = re.compile(r"begun (\d+) in \d+ ms, done \d+ ms, closed \d+ ms, explained \d+ ms, \d+ messages again: "
                   r"\d+ begins and \d+ chains a second\n")
@@ -89,9 +85,9 @@ class Payer(threading.Thread):
             self.settled = bank.settle(60)
 
 
-def pay_around(tally, built):
+def test_purses(tally, program):
     """Sixteen clients at once, whose chains meet by two ways."""
-    with Room(purses()) as room, Service(built, room) as service:
+    with Room(purses()) as room, Service(program, room) as service:
         payers = [Payer(service.port, room, client) for client in range(1, 17)]
         for payer in payers:
             payer.start()
@@ -99,7 +95,7 @@ def pay_around(tally, built):
             payer.join()
         lynx.Client(service.port, room.set).shut()
         out, err, status = service.end()
-        cells = re.findall(r"(?m)^cell acct \d+ (\d+)$", "".join(end_of([built, "show", room.store(at)])[0] for at in range(4)))
+        cells = re.findall(r"(?m)^cell acct \d+ (\d+)$", "".join(end_of([program, "show", room.store(at)])[0] for at in range(4)))
     begun = sum(payer.begun for payer in payers)
     tally.is_same("answers", set.union(*(payer.answers for payer in payers)) <= {lynx.Begun, lynx.Refused}, True)
     tally.holds("who can't be refused begins", begun >= sum(payer.sure for payer in payers) > BEGINS)
@@ -108,10 +104,10 @@ def pay_around(tally, built):
     tally.is_same("what was paid in", sum(map(int, cells)), sum(payer.paid for payer in payers))
 
 
-def call(tally, bench, built):
+def test_calls(tally, bench, program):
     """Loads at a service of two servers, one after another, and what it holds then; and at none."""
     begun = 0
-    with Room(end_of([bench, "set", "2"])[0]) as room, Service(built, room) as service:
+    with Room(end_of([bench, "set", "2"])[0]) as room, Service(program, room) as service:
         for connections, in_flight in ((1, 1), (3, 1), (2, 40)):
             out, err, status = end_of([bench, "port", str(service.port), str(connections), str(in_flight), "1", "2"])
             found = CALLED.fullmatch(out)
@@ -125,24 +121,20 @@ def call(tally, bench, built):
     tally.is_same("no service", (out, err, status), ("", "lynx_bench: cannot connect\n", 4))
 
 
-def main(words):
-    bench = program(words[:1] or [os.path.join(TOP, "crates", "lynx_bench", "out", "lynx_bench")])
-    tally = Tally()
-    call(tally, bench, program(words[1:]))
-    pay_around(tally, program(words[1:]))
-    for servers, threads in ((1, 1), (1, 3), (2, 2), (4, 4), (5, 2), (16, 4)):
-        for across in ([], ["0"], ["10"], ["33"], ["100"]):
-            asked = ["cluster", str(servers), str(threads), "1000"] + across
-            out, err, status = end_of([bench, *asked])
-            found = DONE.fullmatch(out)
-            tally.is_same(" ".join(asked), (found and found[1], err, status), ("1000", "", 0))
-    for work, refused in (("cluster", REFUSED), ("port", UNCALLED), ("set", [["0"], ["17"], ["x"]])):
-        for asked in refused:
-            out, err, status = end_of([bench, work, *asked])
-            tally.is_same(f"{work} {' '.join(asked)}", (out, err.startswith("lynx_bench: "), status), ("", True, 2))
-    tally.is_same("idle", end_of([bench, "idle", "16", "1"]), ("servers 16, idle for 1 s\n", "", 0))
-    return tally.end()
+@pytest.mark.parametrize("across", [[], ["0"], ["10"], ["33"], ["100"]])
+@pytest.mark.parametrize("servers, threads", [(1, 1), (1, 3), (2, 2), (4, 4), (5, 2), (16, 4)])
+def test_clusters(bench, servers, threads, across):
+    out, err, status = end_of([bench, "cluster", str(servers), str(threads), "1000", *across])
+    found = DONE.fullmatch(out)
+    assert (found and found[1], err, status) == ("1000", "", 0)
 
 
-if __name__ == "__main__":
-    sys.exit(main(sys.argv[1:]))
+@pytest.mark.parametrize("work, words", [(work, words) for work, refused in (
+    ("cluster", REFUSED), ("port", UNCALLED), ("set", [["0"], ["17"], ["x"]])) for words in refused])
+def test_refused_words(bench, work, words):
+    out, err, status = end_of([bench, work, *words])
+    assert (out, err.startswith("lynx_bench: "), status) == ("", True, 2)
+
+
+def test_idle(bench):
+    assert end_of([bench, "idle", "16", "1"]) == ("servers 16, idle for 1 s\n", "", 0)

@@ -1,24 +1,22 @@
-#!/usr/bin/env python3
-"""tests/refused [PROGRAM [STEP [CALLS]]]: the built program where one growth of its memory is refused, one after another, and
-calls of the crates, made by crates/lynx_growths. PROGRAM is crates/lynx/out/lynx if left out, CALLS
-crates/lynx_growths/out/lynx_growths. Of check, draw and run each growth is refused, of show and upgrade each 7th, of a service
-each STEP-th (left out: 131), and of a call each. A refused growth is told by `out of memory` and its status, or as a fault of the store, and what was printed
-before is a front of what is printed else; or it made no difference. A service whose client is answered that memory is wanting,
-or that loses its connection, does what it is asked again. A call that was refused a growth answers that memory is wanting, leaves
-all as it was, and is done when it is made again. The last line is 'N passed, M failed', and before it stands a line for
-each command and call, with how many growths it met.
-"""
+"""The program where one growth of its memory is refused, one after another, and calls of the crates, made by
+crates/lynx_growths. Of check, draw and run each growth is refused, of show and upgrade each 7th, of a service each 131st (with
+`--times 10` each 13th), and of a call each. A refused growth is told by `out of memory` and its status, or as a fault of the store,
+and what was printed before is a front of what is printed else; or it made no difference. A service whose client is answered that
+memory is wanting, or that loses its connection, does what it is asked again. A call that was refused a growth answers that memory is
+wanting, leaves all as it was, and is done when it is made again. `-rP` tells how many growths each command and call met."""
 import os
 import shutil
 import subprocess
-import sys
 import tempfile
 
-sys.path.insert(0, os.path.dirname(os.path.abspath(__file__)))
-from serving import PAYMENT, TOP, Room, Service, Tally, end_of, program  # noqa: E402
-import lynx  # noqa: E402
+import pytest
+from serving import PAYMENT, TOP, Room, Service, end_of
+import lynx
 
 EXAMPLES = os.path.join(TOP, "examples")
+
+# Of a service each growth is refused whose number is a multiple of this.
+STEP = 131
 
 # calls that may want memory, and take none on the values that they are made on
 TAKE_NONE = {"footprint", "touches", "Server::deliver of a later one"}
@@ -84,10 +82,10 @@ def commands(room):
     ]
 
 
-def make_store(lynx_program, to):
+def make_store(program, to):
     """The store of server 0 after the worked payment, in that file."""
     with Room(PAYMENT) as room:
-        with Service(lynx_program, room) as service:
+        with Service(program, room) as service:
             bank = lynx.Client(service.port, room.set, client=1)
             bank.begin("seed", 100, number=1)
             bank.begin("pay", 30, number=2)
@@ -98,22 +96,22 @@ def make_store(lynx_program, to):
                 shutil.copyfile(room.store(0) + part, to + part)
 
 
-def refuse_all(tally, refusals, lynx_program, name, words, step, fresh):
+def refuse_all(tally, refusals, program, name, words, step, fresh):
     """Runs a command with each step-th of its growths refused, one after another."""
     if fresh:
         fresh()
-    whole = end_of([lynx_program, *words])
+    whole = end_of([program, *words])
     number, count, wrong = 0, 0, []
     while len(wrong) < 3:
         number += step
         if fresh:
             fresh()
-        got = end_of([lynx_program, *words], env=refusals.words(number))
+        got = end_of([program, *words], env=refusals.words(number))
         if not refusals.has_come():
             break
         if not is_front(got, whole):
             wrong.append((number, got))
-        if fresh and not goes_on(lynx_program, words, got, whole):
+        if fresh and not goes_on(program, words, got, whole):
             wrong.append((number, "not upgraded once"))
         count += 1
     tally.is_same(f"{name} with a growth refused", wrong, [])
@@ -121,9 +119,9 @@ def refuse_all(tally, refusals, lynx_program, name, words, step, fresh):
     print(f"{name}: {count} of {number - 1} growths", flush=True)
 
 
-def goes_on(lynx_program, words, got, whole):
+def goes_on(program, words, got, whole):
     """Whether an upgrade that was refused a growth is done by the next, or was done."""
-    again = end_of([lynx_program, *words])
+    again = end_of([program, *words])
     return again == (("", "lynx: store: other-version\n", 4) if got[2] == 0 else whole) or (
         got[2] == 4 and again == ("", "lynx: store: other-version\n", 4))
 
@@ -154,11 +152,11 @@ def agree(early, late):
     return early is None or (early.stamp, early.results) == (late.stamp, late.results)
 
 
-def serve_once(refusals, lynx_program, number):
+def serve_once(refusals, program, number):
     """A service in which that growth is refused, and one over the same stores in which none is: what is wrong, or None."""
     early = None, None, None
     with Room(PAYMENT) as room:
-        with Service(lynx_program, room, env=refusals.words(number)) as service:
+        with Service(program, room, env=refusals.words(number)) as service:
             if service.first == f"listening 127.0.0.1:{service.port}\n":
                 bank = lynx.Client(service.port, room.set, client=1, timeout=10, tries=3)
                 early = pay(bank)
@@ -166,7 +164,7 @@ def serve_once(refusals, lynx_program, number):
             out, err, status = service.end()
         if (status, err) != (0, "") and (status not in (3, 4) or not err.startswith("lynx: ") or err.count("\n") != 1):
             return "end", out, err, status
-        with Service(lynx_program, room) as service:
+        with Service(program, room) as service:
             late = pay(lynx.Client(service.port, room.set, client=1))
             lynx.Client(service.port, room.set, client=1).shut()
             ended = service.end()
@@ -175,12 +173,12 @@ def serve_once(refusals, lynx_program, number):
         return None if all(agree(*pair) for pair in zip(early, late)) else ("answers", early, late)
 
 
-def serve_all(tally, refusals, lynx_program, step):
+def serve_all(tally, refusals, program, step):
     """Services with a growth refused, until one comes to its end before it."""
     number, count, wrong = 0, 0, []
     while len(wrong) < 3:
         number += step
-        fault = serve_once(refusals, lynx_program, number)
+        fault = serve_once(refusals, program, number)
         if fault:
             wrong.append((number, fault))
         if not refusals.has_come():
@@ -191,13 +189,13 @@ def serve_all(tally, refusals, lynx_program, step):
     print(f"serve: {count} of {number - step} growths", flush=True)
 
 
-def refuse_call(tally, refusals, calls_program, name):
+def refuse_call(tally, refusals, growths, name):
     """Makes a call with each growth of its program refused, and gives how many the call met. Those before the call and after it
     end the program with status 3."""
     number, met, wrong = 0, 0, []
     while len(wrong) < 3:
         number += 1
-        got = end_of([calls_program, name], env=refusals.words(number))
+        got = end_of([growths, name], env=refusals.words(number))
         if not refusals.has_come():
             break
         if got == ("refused, then done\n", "", 0):
@@ -210,22 +208,26 @@ def refuse_call(tally, refusals, calls_program, name):
     return met
 
 
-def main(words):
-    lynx_program = program(words[:1])
-    step = int(words[1]) if len(words) > 1 else 131
-    calls_program = words[2] if len(words) > 2 else os.path.join(TOP, "crates", "lynx_growths", "out", "lynx_growths")
-    tally = Tally()
-    with Refusals() as refusals:
-        make_store(lynx_program, os.path.join(refusals.room, "worked.lynx"))
-        for name, command, each, fresh in commands(refusals.room):
-            refuse_all(tally, refusals, lynx_program, name, command, each, fresh)
-        serve_all(tally, refusals, lynx_program, step)
-        names = end_of([calls_program])[0].splitlines()
-        met = {name: refuse_call(tally, refusals, calls_program, name) for name in names}
-        tally.is_same("calls that met no growth", {name for name in met if not met[name]}, TAKE_NONE)
-        tally.holds("calls were refused growths", sum(met.values()) > 500)
-    return tally.end()
+@pytest.fixture
+def refusals(program):
+    """The library that refuses, and a store to be shown and upgraded."""
+    with Refusals() as made:
+        make_store(program, os.path.join(made.room, "worked.lynx"))
+        yield made
 
 
-if __name__ == "__main__":
-    sys.exit(main(sys.argv[1:]))
+@pytest.mark.parametrize("at", range(len(commands(""))), ids=[name for name, *_ in commands("")])
+def test_commands(tally, program, refusals, at):
+    name, command, each, fresh = commands(refusals.room)[at]
+    refuse_all(tally, refusals, program, name, command, each, fresh)
+
+
+def test_services(tally, program, refusals, pytestconfig):
+    serve_all(tally, refusals, program, max(1, STEP // pytestconfig.getoption("--times")))
+
+
+def test_calls(tally, growths, refusals):
+    names = end_of([growths])[0].splitlines()
+    met = {name: refuse_call(tally, refusals, growths, name) for name in names}
+    tally.is_same("calls that met no growth", {name for name in met if not met[name]}, TAKE_NONE)
+    tally.holds("calls were refused growths", sum(met.values()) > 500)

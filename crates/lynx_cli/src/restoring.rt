@@ -192,10 +192,13 @@ fn restore_whole<'a, K: Keeper + Drop, C: Rising + Drop, S: Stores<K> + Copies<C
     let copied = copied_of(rt, stores, from);
     hints.note_store(rt, from, &copied);
     let Copied { set, keepers } = copied?;
-    let made = prepare(rt, stores, folder).and_then(|room| {
-        let made = restore(rt.alloc(), &set, keepers, stores, room.as_str());
-        moved(rt, room.as_str(), folder, made)
-    });
+    let made = match prepare(rt, stores, folder) {
+        Ok(room) => {
+            let made = restore(rt.alloc(), &set, keepers, stores, room.as_str());
+            moved(rt, room.as_str(), folder, made)
+        }
+        Err(fault) => Err(fault),
+    };
     hints.note_store(rt, folder, &made);
     made
 }
@@ -211,10 +214,13 @@ fn restore_found<'a, K: Keeper + Drop, C: Rising + Drop, S: Stores<K> + Copies<C
     let found = found_in(rt.alloc(), stores, from);
     hints.note_store(rt, from, &found);
     let Found { set, entries } = found?;
-    let made = prepare(rt, stores, folder).and_then(|room| {
-        let made = restore_longest(rt.alloc(), &set, entries, stores, room.as_str());
-        moved(rt, room.as_str(), folder, made)
-    });
+    let made = match prepare(rt, stores, folder) {
+        Ok(room) => {
+            let made = restore_longest(rt.alloc(), &set, entries, stores, room.as_str());
+            moved(rt, room.as_str(), folder, made)
+        }
+        Err(fault) => Err(fault),
+    };
     hints.note_store(rt, folder, &made);
     made
 }

@@ -7,6 +7,6 @@ pub mod Takings
 pub mod Dones
 pub mod Owings
 pub mod Settlings
-pub mod Hearing
+pub mod Submissions
 pub mod Runs
 pub mod Sames

@@ -1,5 +1,5 @@
 -- What a session was told.
-use Rattle.std.specs.Prelude.{◌≡◌, ◌++◌, ◌∷◌, ℕ, Bool, true, false, List, []}
+use Rattle.std.specs.Prelude.{ℕ, List, []}
 use Rattle.lynx_weave.specs.declared.told.ToldItem.{ToldItem}
 pub use Rattle.lynx_weave.specs.Told.{is_noted, told_by}
 
@@ -11,8 +11,3 @@ pub record SessionState : Type 0 where
 -- a session that was told nothing
 abbrev pub new_session : ℕ → SessionState
 new_session number = record { number = number; told = [] }
-
--- it forgot what it was told last, where it noted that
-abbrev pub Forgets : Bool → SessionState → SessionState → Type 0
-Forgets false old new = new ≡ old
-Forgets true old new = (item : ToldItem) × (old ≡ record new { told = new.told ++ item ∷ [] })

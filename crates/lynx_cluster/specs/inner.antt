@@ -4,5 +4,5 @@ pub mod Serving
 pub mod Opening
 pub mod Closing
 pub mod Settling
-pub mod Asking
+pub mod Submitting
 pub mod Together

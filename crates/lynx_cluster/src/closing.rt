@@ -91,21 +91,22 @@ impl<K: BatchKeeper + Drop, G: Gate + Drop> Front<K, G> {
             sessions: made,
         } = self;
         let absent = first_absent(alloc, made.into_inner(), sessions.as_slice());
+        let set = &*set;
         // The sessions are spent before any fault is told.
         let told = told_of(alloc, sessions);
         if let Some(session) = absent? {
             return Err(CloseFault::Absent { session });
         }
         let told = told?;
-        let taken = take_all(alloc, &set, posts)?;
+        let taken = take_all(alloc, set, posts)?;
         let woven = weave_since(
             alloc,
-            &set,
+            set,
             taken.histories,
             starts.as_slice(),
             told.as_slice(),
         )?;
-        if let Some(server) = first_uncounted(&set, woven.counts.as_slice()) {
+        if let Some(server) = first_uncounted(set, woven.counts.as_slice()) {
             return Err(CloseFault::Uncounted { server });
         }
         Ok(Closed {

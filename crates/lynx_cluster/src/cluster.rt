@@ -2,14 +2,12 @@
 ghost use Rattle.std.specs.Prelude.{◌≡◌, ◌↔◌, ◌+◌, ◌<◌, ◌≤◌, [], IfNone, IfOk, IfSome, IsTrue, MatchOption, OnErr, length, true};
 ghost use Rattle.lynx_codec.specs.Ranges.{IsLookedInRange};
 ghost use Rattle.lynx_cluster.specs.Calls.{AnswersBegin};
-ghost use Rattle.lynx_cluster.specs.inner.Asking.{Asks, Hears};
 ghost use Rattle.lynx_cluster.specs.Clusters.{IsOf, home_of};
 ghost use Rattle.lynx_cluster.specs.Looks.{Looks};
 ghost use Rattle.lynx_cluster.specs.Sessions.{new_session};
 
-use crate::beginning::Unsettled;
 use crate::bells::Bells;
-use crate::gate::{Gate, Passage};
+use crate::gate::Gate;
 use crate::post::Post;
 use crate::session::Session;
 use lynx_codec::Looked;
@@ -23,7 +21,7 @@ use std::marker::Model;
 use std::sync::atomic::AtomicBool;
 use std::sync::{Arc, Mutex, Wait};
 use std::thread::JoinHandle;
-use std::time::{Clock, Instant};
+use std::time::Clock;
 
 /// Sessions that one cluster makes, at most.
 pub const MAX_SESSIONS: u64 = 1_000_000;
@@ -32,7 +30,7 @@ pub const MAX_SESSIONS: u64 = 1_000_000;
 /// Contracts see the set, and how long each server's history was at the start.
 #[derive(Drop)]
 pub struct Front<K: BatchKeeper, G: Gate> {
-    pub(crate) set: ChainSet,
+    pub(crate) set: Arc<ChainSet>,
     pub(crate) starts: Vec<u64>,
     pub(crate) posts: Vec<Arc<Post<K>>>,
     pub(crate) gate: Arc<G>,
@@ -46,11 +44,11 @@ impl<K: BatchKeeper, G: Gate> Model for Front<K, G> {
 
     ghost Value = { ClusterState };
 
-    ghost view = { λ front. record { set = front.set; starts = front.starts.items } };
+    ghost view = { λ front. record { set = front.set.value; starts = front.starts.items } };
 
     ghost invariant = { λ front. record {
-      one_start : length front.starts.items ≡ front.set.servers;
-      one_post : length front.posts.items ≡ front.set.servers;
+      one_start : length front.starts.items ≡ front.set.value.servers;
+      one_post : length front.posts.items ≡ front.set.value.servers;
     } };
 }
 
@@ -92,26 +90,6 @@ fn next_session(alloc: Global, made: &mut u64) -> Option<Session>
     }
     *made = number + 1;
     Some(Session::new(alloc, number))
-}
-
-/// The answer of a begin, once all is settled that it may be read of; Stopped where there was none.
-fn hear<R: Wait, K: BatchKeeper>(
-    rt: &R,
-    session: &mut Session,
-    post: &Post<K>,
-    asked: Option<Unsettled>,
-) -> Answer
-    requires { IfSome asked (λ unsettled. unsettled.is_noted ≡ true
-        → 1 ≤ length session.old.told) }
-    ensures { Hears asked session.old result session.new }
-{
-    match asked {
-        Some(unsettled) => {
-            let mark = post.await_settled(rt, unsettled.reached());
-            session.hear(unsettled, &mark)
-        }
-        None => Answer::Stopped,
-    }
 }
 
 impl<K: BatchKeeper, G: Gate> Cluster<K, G> {
@@ -165,7 +143,7 @@ impl<K: BatchKeeper, G: Gate> Front<K, G> {
     pub fn set(&self) -> &ChainSet
         ensures { result.now ≡ self.now.set }
     {
-        &self.set
+        &*self.set
     }
 
     /// The server at which a request begins: the origin of its program, server 0 where the set
@@ -187,86 +165,6 @@ impl<K: BatchKeeper, G: Gate> Front<K, G> {
     {
         let mut made = self.sessions.lock(rt);
         next_session(alloc, &mut made)
-    }
-
-    /// One begin at the origin of the request's program, under that server's lock. The session
-    /// notes the answer where it is Begun, Refused, Clash or Full, and the server takes as seen the
-    /// greatest stamp that the session was told. It is answered once all is settled that the answer
-    /// may be read of; where the store fails in that, Stopped. Stopped comes also where the lock
-    /// has the state of another server. It costs a walk over the set, a copy of the request, and
-    /// [`Server::begin`](lynx_server::Server::begin); all memory for the note is taken before the
-    /// server is asked.
-    pub fn begin<R: Wait + Clock>(
-        &self,
-        rt: &R,
-        alloc: Global,
-        session: &mut Session,
-        request: Request,
-    ) -> Answer
-        ensures { AnswersBegin self.now.set session.old request result session.new }
-    {
-        let server = self.home_of(&request);
-        let program = request.program;
-        let Some(post) = self.posts.as_slice().get(server.index()) else {
-            return Answer::Stopped;
-        };
-        let (asked, since) = self.ask(rt, alloc, session, post, server, request);
-        let answer = hear(rt, session, post, asked);
-        self.gate.answered(server, program, &answer, since);
-        self.follow_up(rt, post, server, program, &answer);
-        answer
-    }
-
-    /// One begin at that server, under its lock, whose answer isn't told yet, and when its step
-    /// began. None where the lock has the state of another server.
-    fn ask<R: Wait + Clock>(
-        &self,
-        rt: &R,
-        alloc: Global,
-        session: &mut Session,
-        post: &Post<K>,
-        server: ServerId,
-        request: Request,
-    ) -> (Option<Unsettled>, Option<Instant>)
-        ensures asked { IfSome result.0 (Asks self.now.set server session.old request
-            session.new) }
-        ensures none { IfNone result.0 (session.new ≡ session.old) }
-    {
-        let mut state = post.enter_to_begin(rt, alloc, &self.bells, server);
-        self.gate.enter(server, Passage::Begin);
-        let since = self.gate.now();
-        let asked = if is_of(&state, &self.set, server) {
-            post.note_begin();
-            Some(session.ask_at(alloc, &mut state, request))
-        } else {
-            None
-        };
-        post.give_back(rt, alloc, state);
-        self.gate.leave(server, Passage::Begin);
-        (asked, since)
-    }
-
-    /// Tells the gate of a server that stopped, and the worker of one that has work now.
-    pub(crate) fn follow_up<R: Wait>(
-        &self,
-        rt: &R,
-        post: &Post<K>,
-        server: ServerId,
-        program: ProgramId,
-        answer: &Answer,
-    ) {
-        if matches!(answer, Answer::Stopped) {
-            let cause = post.look(rt).cause();
-            self.gate.stopped(server, cause);
-        }
-        if self.owes_more(program, answer) {
-            self.bells.ring(server);
-        }
-    }
-
-    /// A chain of that program began so that its next hop is owed: its server's worker has work.
-    fn owes_more(&self, program: ProgramId, answer: &Answer) -> bool {
-        matches!(answer, Answer::Begun { .. }) && self.set.hop(program, 1).is_some()
     }
 
     /// The program of the chain, by its entry at its origin, whose lock is taken and given back.

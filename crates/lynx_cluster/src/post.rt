@@ -3,12 +3,14 @@ ghost use Rattle.std.specs.Prelude.{◌≡◌, true};
 ghost use Rattle.lynx_resting.specs.Resting.{settled_front};
 
 use crate::bells::Bells;
+use crate::queue::{Mailbox, Queue, Waiting, Word};
+use crate::submission::Submission;
 use lynx_keep::BatchKeeper;
-use lynx_names::ServerId;
+use lynx_names::{Memory, ServerId};
 use lynx_resting::{Mark, Resting};
 use std::alloc::Global;
 use std::sync::atomic::{AtomicU64, Ordering};
-use std::sync::{Condvar, CondvarTimeouts, Mutex, MutexGuard, Wait};
+use std::sync::{Arc, Condvar, CondvarTimeouts, Mutex, MutexGuard, Wait};
 use std::time::{Clock, Duration};
 
 /// Entries that wait for a settling, at most: from then on each step settles.
@@ -34,11 +36,13 @@ pub enum Pace {
     Shared,
 }
 
-/// A server behind its lock. A thread that makes a step there leaves the settling to those that
-/// wait for the lock to make one: the last of them settles for all.
+/// A server behind its lock. Those who wait to begin there have one of them begin for all, so that
+/// they share a settling; it leaves that to the worker where that waits for the lock.
 #[derive(Drop)]
 pub(crate) struct Post<K: BatchKeeper> {
     state: Mutex<Resting<K>>,
+    /// Those who wait for it to begin.
+    queue: Mutex<Queue>,
     pace: Pace,
     /// How many times a thread asked for the lock to make a step.
     asked: AtomicU64,
@@ -56,14 +60,20 @@ pub(crate) struct Post<K: BatchKeeper> {
     mark: Mutex<Mark>,
     /// Rung at each settling.
     settled: Condvar,
+    /// Held by one who finds no word in its mailbox until it waits, so that it misses none.
+    words: Mutex<()>,
+    /// Rung where words were put in mailboxes: once for all of them, since waking threads one by
+    /// one takes longer than what they asked.
+    told: Condvar,
 }
 
 impl<K: BatchKeeper> Post<K> {
     /// Of that server.
-    pub(crate) fn new(state: Resting<K>, pace: Pace) -> Post<K> {
+    pub(crate) fn new(alloc: Global, state: Resting<K>, pace: Pace) -> Post<K> {
         let mark = state.mark();
         Post {
             state: Mutex::new(state),
+            queue: Mutex::new(Queue::new(alloc)),
             pace,
             asked: AtomicU64::new(0),
             entered: AtomicU64::new(0),
@@ -73,6 +83,8 @@ impl<K: BatchKeeper> Post<K> {
             moved: Condvar::new(),
             mark: Mutex::new(mark),
             settled: Condvar::new(),
+            words: Mutex::new(()),
+            told: Condvar::new(),
         }
     }
 
@@ -140,14 +152,60 @@ impl<K: BatchKeeper> Post<K> {
         self.state.lock(rt)
     }
 
-    /// Another begin was made.
-    pub(crate) fn note_begin(&self) {
-        self.begins.fetch_add(1, Ordering::SeqCst);
+    /// So many begins were made.
+    pub(crate) fn note_begins(&self, count: usize) {
+        self.begins.fetch_add(count as u64, Ordering::SeqCst);
     }
 
     /// How many begins were made since this was asked last.
     pub(crate) fn take_begins(&self) -> u64 {
         self.begins.swap(0, Ordering::SeqCst)
+    }
+
+    /// Has these requests wait for the server. True where their thread leads.
+    pub(crate) fn submit<R: Wait>(
+        &self,
+        rt: &R,
+        submission: Submission,
+        mailbox: Arc<Mailbox>,
+    ) -> Result<bool, Memory> {
+        self.queue.lock(rt).push(Waiting {
+            submission,
+            mailbox,
+        })
+    }
+
+    /// All who wait for the server, for the one who leads.
+    pub(crate) fn take_waiting<R: Wait>(&self, rt: &R, alloc: Global) -> Vec<Waiting> {
+        self.queue.lock(rt).take(alloc)
+    }
+
+    /// Has another one lead, if somebody waits. It has to be woken.
+    pub(crate) fn pass_lead<R: Wait>(&self, rt: &R) {
+        self.queue.lock(rt).pass_lead(rt);
+    }
+
+    /// Wakes those who were told something.
+    pub(crate) fn wake_told<R: Wait>(&self, rt: &R) {
+        drop(self.words.lock(rt));
+        self.told.notify_all();
+    }
+
+    /// Waits until something is told there.
+    pub(crate) fn await_word<R: Wait>(&self, rt: &R, mailbox: &Mailbox) -> Word {
+        let mut words = self.words.lock(rt);
+        for _ in rt.forever() {
+            if let Some(word) = mailbox.take(rt) {
+                return word;
+            }
+            words = self.told.wait(rt, words);
+        }
+        unreachable!()
+    }
+
+    /// Whoever leads has to settle, and let the worker come.
+    pub(crate) fn is_turn_over(&self, state: &Resting<K>) -> bool {
+        state.waiting() >= if self.is_each() { 1 } else { MOST_WAITING }
     }
 
     /// Each step is settled by itself.

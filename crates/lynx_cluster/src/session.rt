@@ -30,6 +30,7 @@ impl Model for Session {
 
 impl Session {
     ghost use Rattle.lynx_cluster.specs.Sessions.{new_session};
+    ghost use Rattle.lynx_weave.specs.Told.{greatest_told};
 
     /// The session of that number, which was told nothing. Takes no memory.
     pub(crate) fn new(alloc: Global, number: u64) -> Session
@@ -47,6 +48,13 @@ impl Session {
         ensures { result ≡ self.now.number }
     {
         self.number
+    }
+
+    /// The greatest stamp that it was told, with which it asks; 0 where it was told none.
+    pub(crate) fn greatest_stamp(&self) -> Stamp
+        ensures seen { result ≡ greatest_told self.now.told }
+    {
+        self.greatest
     }
 
     /// All that it was told, in order.

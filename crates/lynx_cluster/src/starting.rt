@@ -54,7 +54,7 @@ fn post_all<K: BatchKeeper + Drop>(
     let mut posts = Vec::new(alloc);
     for server in servers {
         let state = Resting::new(alloc, server);
-        posts.push(Arc::new(alloc, Post::new(state, pace))?)?;
+        posts.push(Arc::new(alloc, Post::new(alloc, state, pace))?)?;
     }
     Ok(Posted { posts, starts })
 }
@@ -85,7 +85,9 @@ impl<K: BatchKeeper + Drop> Opened<K> {
         let stop = Arc::new(alloc, AtomicBool::new(false))?;
         let bells = Arc::new(alloc, Bells::new(alloc, set.servers())?)?;
         let lents = lend_all(alloc, &set, posts.as_slice(), &gate, &bells)?;
-        let workers = start_all(rt, alloc, set.servers(), lents, &bells, &stop)?;
+        let servers = set.servers();
+        let set = Arc::new(alloc, set)?;
+        let workers = start_all(rt, alloc, servers, lents, &bells, &stop)?;
         let front = Front {
             set,
             starts,

@@ -1,112 +1,197 @@
-//! Begins that a session asks together: those of one server under one taking of its lock.
-ghost use Rattle.std.specs.Prelude.{◌≡◌, ◌+◌, ◌<◌, ◌≤◌, ◌++◌, ◌∷◌, [], ℕ, false, true, IfNone, IfOk, IfSome, OnOk, length, vec_capacity, vec_len};
-ghost use Rattle.lynx_entry.specs.declared.answer.Answer.{Answer as AnswerValue};
+//! Begins of a session: those that it asks together at one server are one submission.
+ghost use Rattle.std.specs.Prelude.{◌≡◌, if◌then◌else◌, ◌+◌, ◌<◌, ◌≤◌, ◌++◌, ◌∷◌, [], ℕ, IfNone, IfOk, IfSome, OnErr, OnOk, length, vec_capacity, vec_len};
 ghost use Rattle.lynx_cluster.specs.Calls.{AnswersBegin, AnswersBeginAll};
-ghost use Rattle.lynx_cluster.specs.inner.Asking.{HearsAll};
+ghost use Rattle.lynx_cluster.specs.Clusters.{home_of};
+ghost use Rattle.lynx_cluster.specs.inner.Submitting.{AreFew, BeginAt, seen_after, told_by_all, unanswered};
 ghost use Rattle.lynx_cluster.specs.inner.Together.{BeginsLeading};
-ghost use Rattle.lynx_cluster.specs.Clusters.{IsOf, home_of};
 
-use crate::beginning::UnsettledRun;
-use crate::cluster::{Front, is_of};
-use crate::gate::{Gate, Passage};
+use crate::beginning::note;
+use crate::cluster::Front;
+use crate::gate::Gate;
 use crate::post::Post;
 use crate::session::Session;
-use lynx_entry::{Answer, Request};
+use crate::submission::{Completion, Submission};
+use lynx_entry::{Answer, AnswerRoom, Request};
 use lynx_keep::BatchKeeper;
-use lynx_names::{Memory, ProgramId, ServerId};
-use lynx_resting::Resting;
+use lynx_names::{Memory, ServerId, Stamp};
+use lynx_weave::ToldItem;
 use std::alloc::Global;
 use std::collections::VecDeque;
 use std::sync::Wait;
-use std::time::{Clock, Instant};
+use std::time::Clock;
 
-/// Begins of one server that were asked one after the other, and of which nobody is told yet.
-struct Run {
-    unsettled: UnsettledRun,
-    /// The programs of the requests, in order.
-    programs: Vec<ProgramId>,
-    /// When the first of them began.
-    since: Option<Instant>,
+/// Room for so many answers.
+fn rooms_for(alloc: Global, count: usize) -> Result<Vec<AnswerRoom>, Memory>
+    ensures { IfOk result (λ rooms. length rooms.items ≡ count) }
+{
+    let mut rooms = Vec::with_capacity(alloc, count)?;
+    for _ in 0..count {
+        rooms.push(AnswerRoom::new(alloc)?)?;
+    }
+    Ok(rooms)
 }
 
-impl Run {
-    /// Of none, with room for one, asked by a session that was told so much.
-    fn with_room(alloc: Global, told: usize) -> Result<Run, Memory>
-        ensures none { IfOk result (λ run. run.unsettled.answers.items ≡ []) }
-        ensures told { IfOk result (λ run. run.unsettled.told ≡ told) }
-        ensures reached { IfOk result (λ run. run.unsettled.reached ≡ 0) }
-        ensures room { IfOk result (λ run. vec_len run.unsettled.answers
-            < vec_capacity run.unsettled.answers) }
-        ensures programs { IfOk result (λ run. vec_len run.programs < vec_capacity run.programs) }
-    {
-        let programs = Vec::with_capacity(alloc, 1)?;
-        let unsettled = UnsettledRun::with_room(alloc, told)?;
-        Ok(Run {
-            unsettled,
-            programs,
-            since: None,
-        })
+/// The answer to a request that wasn't begun, since its server stopped or memory was wanting.
+fn unbegun(is_stopped: bool) -> Answer
+    ensures { result ≡ (if is_stopped then Answer.Stopped else Answer.Memory) }
+{
+    if is_stopped {
+        Answer::Stopped
+    } else {
+        Answer::Memory
     }
+}
 
-    /// Makes room for one more.
-    fn reserve(&mut self) -> Result<(), Memory>
-        ensures answers { self.new.unsettled.answers.items ≡ self.old.unsettled.answers.items }
-        ensures told { self.new.unsettled.told ≡ self.old.unsettled.told }
-        ensures reached { self.new.unsettled.reached ≡ self.old.unsettled.reached }
-        ensures room { OnOk result (vec_len self.new.unsettled.answers
-            < vec_capacity self.new.unsettled.answers) }
-        ensures programs { OnOk result (vec_len self.new.programs
-            < vec_capacity self.new.programs) }
-    {
-        self.unsettled.reserve()?;
-        self.programs.reserve(1)?;
-        Ok(())
+/// Gives so many requests one answer each, where none was begun.
+fn answer_none(count: usize, is_stopped: bool, answers: &mut Vec<Answer>)
+    requires room { count + vec_len answers.old ≤ vec_capacity answers.old }
+    ensures answers { answers.new.items ≡ answers.old.items ++ unanswered is_stopped count }
+    ensures len { vec_len answers.new ≡ vec_len answers.old + count }
+    ensures capacity { vec_capacity answers.new ≡ vec_capacity answers.old }
+{
+    for _ in 0..count {
+        answers.push_reserved(unbegun(is_stopped));
     }
+}
 
-    /// Asks one more, on the state of the server.
-    fn ask<K: BatchKeeper>(
-        &mut self,
-        alloc: Global,
-        session: &mut Session,
-        state: &mut Resting<K>,
-        request: Request,
-    )
-        requires room { vec_len self.old.unsettled.answers
-            < vec_capacity self.old.unsettled.answers }
-        requires programs { vec_len self.old.programs < vec_capacity self.old.programs }
-        ensures answers { (answer : AnswerValue)
-            × (self.new.unsettled.answers.items
-            ≡ self.old.unsettled.answers.items ++ answer ∷ [])
-            × (home_of state.old.here.set request ≡ state.old.here.server
-            → AnswersBegin state.old.here.set session.old request answer session.new) }
-        ensures told { self.new.unsettled.told ≡ self.old.unsettled.told }
-        ensures set { state.new.here.set ≡ state.old.here.set }
-        ensures server { state.new.here.server ≡ state.old.here.server }
-    {
-        self.programs.push_reserved(request.program);
-        self.unsettled.add(session.ask_at(alloc, state, request));
+/// Notes that server's answers to requests among what a session was told, which has room for them.
+fn note_all(
+    told: &mut Vec<ToldItem>,
+    greatest: &mut Stamp,
+    server: ServerId,
+    requests: Vec<Request>,
+    given: Vec<Answer>,
+    rooms: Vec<AnswerRoom>,
+    answers: &mut Vec<Answer>,
+)
+    requires told { length requests.items + vec_len told.old ≤ vec_capacity told.old }
+    requires answers { length requests.items + vec_len answers.old ≤ vec_capacity answers.old }
+    requires given { length given.items ≡ length requests.items }
+    requires rooms { length rooms.items ≡ length requests.items }
+    requires few { AreFew given.items }
+    ensures told { told.new.items ≡ told.old.items ++ told_by_all server requests.items
+        given.items }
+    ensures greatest { greatest.new ≡ seen_after greatest.old given.items }
+    ensures answers { answers.new.items ≡ answers.old.items ++ given.items }
+    ensures len { vec_len answers.new ≡ vec_len answers.old + length given.items }
+    ensures capacity { vec_capacity answers.new ≡ vec_capacity answers.old }
+{
+    let mut requests = requests.into_iter();
+    let mut rooms = rooms.into_iter();
+    for answer in given {
+        let Some(request) = requests.next() else {
+            unreachable!()
+        };
+        let Some(room) = rooms.next() else {
+            unreachable!()
+        };
+        note(told, greatest, server, request, &answer, room);
+        answers.push_reserved(answer);
     }
 }
 
 impl<K: BatchKeeper, G: Gate> Front<K, G> {
+    /// Tells the gate of each answer.
+    fn tell_gate<R: Wait>(
+        &self,
+        rt: &R,
+        post: &Post<K>,
+        server: ServerId,
+        requests: &[Request],
+        completion: &Completion,
+    ) {
+        let since = completion.since();
+        for (request, answer) in requests.iter().zip(completion.answers()) {
+            self.gate.answered(server, request.program, answer, since);
+        }
+        let is_stopped = completion.answers().len() < requests.len()
+            || matches!(completion.answers().last(), Some(Answer::Stopped));
+        if is_stopped {
+            let cause = post.look(rt).cause();
+            self.gate.stopped(server, cause);
+        }
+    }
+
+    /// Begins these, in order, at their server, and notes what it answers. All memory for that is
+    /// taken before the server is asked.
+    fn try_begin_run<R: Wait + Clock>(
+        &self,
+        rt: &R,
+        alloc: Global,
+        session: &mut Session,
+        server: ServerId,
+        requests: Vec<Request>,
+        answers: &mut Vec<Answer>,
+    ) -> Result<(), Memory>
+        requires home { BeginAt self.now.set server requests.items }
+        requires room { length requests.items + vec_len answers.old ≤ vec_capacity answers.old }
+        ensures begins { OnOk result (BeginsLeading self.now.set session.old requests.items []
+            answers.old.items answers.new.items session.new) }
+        ensures same_session { OnErr result (session.new ≡ session.old) }
+        ensures same_answers { OnErr result (answers.new.items ≡ answers.old.items) }
+        ensures len { OnOk result (vec_len answers.new ≡ vec_len answers.old
+            + length requests.items) }
+        ensures same_len { OnErr result (vec_len answers.new ≡ vec_len answers.old) }
+        ensures capacity { vec_capacity answers.new ≡ vec_capacity answers.old }
+    {
+        let Some(post) = self.posts.as_slice().get(server.index()) else {
+            answer_none(requests.len(), true, answers);
+            return Ok(());
+        };
+        let seen = session.greatest_stamp();
+        session.told.reserve(requests.len())?;
+        let rooms = rooms_for(alloc, requests.len())?;
+        let submission = Submission::new(alloc, &self.set, server, seen, requests.as_slice())?;
+        let completion = self.exchange(rt, alloc, post, server, submission)?;
+        self.tell_gate(rt, post, server, requests.as_slice(), &completion);
+        if completion.answers_all(&self.set, server, seen, requests.as_slice()) {
+            let given = completion.into_answers();
+            let (told, greatest) = (&mut session.told, &mut session.greatest);
+            note_all(told, greatest, server, requests, given, rooms, answers);
+        } else {
+            answer_none(requests.len(), true, answers);
+        }
+        Ok(())
+    }
+
+    /// Begins these, in order, at their server. Each is answered Memory where that is wanting for
+    /// all of them.
+    fn begin_run<R: Wait + Clock>(
+        &self,
+        rt: &R,
+        alloc: Global,
+        session: &mut Session,
+        server: ServerId,
+        requests: Vec<Request>,
+        answers: &mut Vec<Answer>,
+    )
+        requires home { BeginAt self.now.set server requests.items }
+        requires room { length requests.items + vec_len answers.old ≤ vec_capacity answers.old }
+        ensures begins { BeginsLeading self.now.set session.old requests.items []
+            answers.old.items answers.new.items session.new }
+        ensures len { vec_len answers.new ≡ vec_len answers.old + length requests.items }
+        ensures capacity { vec_capacity answers.new ≡ vec_capacity answers.old }
+    {
+        let count = requests.len();
+        if let Err(Memory) = self.try_begin_run(rt, alloc, session, server, requests, answers) {
+            answer_none(count, false, answers);
+        }
+    }
+
     /// The request that stands next, where it begins at that server, too, and there is room for it.
     fn next_of(
         &self,
         server: ServerId,
         rest: &mut VecDeque<Request>,
-        run: &mut Run,
+        leading: &mut Vec<Request>,
     ) -> Option<Request>
         ensures some { IfSome result (λ request. (rest.old.items ≡ request ∷ rest.new.items)
             × (home_of self.now.set request ≡ server)) }
         ensures none { IfNone result (rest.new.items ≡ rest.old.items) }
-        ensures answers { run.new.unsettled.answers.items ≡ run.old.unsettled.answers.items }
-        ensures told { run.new.unsettled.told ≡ run.old.unsettled.told }
-        ensures room { IfSome result (λ request. vec_len run.new.unsettled.answers
-            < vec_capacity run.new.unsettled.answers) }
-        ensures programs { IfSome result (λ request. vec_len run.new.programs
-            < vec_capacity run.new.programs) }
+        ensures same { leading.new.items ≡ leading.old.items }
+        ensures room { IfSome result (λ request. vec_len leading.new < vec_capacity leading.new) }
     {
-        run.reserve().ok()?;
+        leading.reserve(1).ok()?;
         let next = rest.front()?;
         if self.home_of(next) != server {
             return None;
@@ -114,147 +199,42 @@ impl<K: BatchKeeper, G: Gate> Front<K, G> {
         rest.pop_front()
     }
 
-    /// Asks this request, and those that stand next and begin at that server, too.
-    fn ask_leading(
+    /// Each step of that server is settled by itself.
+    fn is_each(&self, server: ServerId) -> bool {
+        match self.posts.as_slice().get(server.index()) {
+            Some(post) => post.is_each(),
+            None => false,
+        }
+    }
+
+    /// This request, and those that stand next and begin at that server, too; it alone where each
+    /// is settled by itself.
+    fn take_leading(
         &self,
         alloc: Global,
-        session: &mut Session,
-        state: &mut Resting<K>,
         server: ServerId,
         first: Request,
         rest: &mut VecDeque<Request>,
-        run: &mut Run,
-    )
-        requires of { IsOf self.now.set server state.old.here }
+    ) -> Result<Vec<Request>, Memory>
         requires home { home_of self.now.set first ≡ server }
-        requires none { run.old.unsettled.answers.items ≡ [] }
-        requires room { vec_len run.old.unsettled.answers
-            < vec_capacity run.old.unsettled.answers }
-        requires programs { vec_len run.old.programs < vec_capacity run.old.programs }
-        ensures asked { BeginsLeading self.now.set session.old (first ∷ rest.old.items)
-            rest.new.items [] run.new.unsettled.answers.items session.new }
-        ensures told { run.new.unsettled.told ≡ run.old.unsettled.told }
-        ensures count { length run.new.unsettled.answers.items + length rest.new.items
-            ≡ length rest.old.items + 1 }
-        ensures fewer { length rest.new.items ≤ length rest.old.items }
+        ensures split { IfOk result (λ leading. first ∷ rest.old.items
+            ≡ leading.items ++ rest.new.items) }
+        ensures home { IfOk result (λ leading. BeginAt self.now.set server leading.items) }
+        ensures some { IfOk result (λ leading. 1 ≤ length leading.items) }
+        ensures same { OnErr result (rest.new.items ≡ rest.old.items) }
     {
-        run.ask(alloc, session, state, first);
-        while let Some(next) = self.next_of(server, rest, run) {
-            run.ask(alloc, session, state, next);
+        let mut leading = Vec::with_capacity(alloc, 1)?;
+        leading.push_reserved(first);
+        if self.is_each(server) {
+            return Ok(leading);
         }
+        while let Some(next) = self.next_of(server, rest, &mut leading) {
+            leading.push_reserved(next);
+        }
+        Ok(leading)
     }
 
-    /// Asks this request, and those that stand next and begin at that server, too, under one taking
-    /// of its lock. False where the lock has the state of another server: then none was asked.
-    fn ask_run<R: Wait + Clock>(
-        &self,
-        rt: &R,
-        alloc: Global,
-        session: &mut Session,
-        post: &Post<K>,
-        server: ServerId,
-        first: Request,
-        rest: &mut VecDeque<Request>,
-        run: &mut Run,
-    ) -> bool
-        requires home { home_of self.now.set first ≡ server }
-        requires none { run.old.unsettled.answers.items ≡ [] }
-        requires room { vec_len run.old.unsettled.answers
-            < vec_capacity run.old.unsettled.answers }
-        requires programs { vec_len run.old.programs < vec_capacity run.old.programs }
-        ensures asked { result ≡ true → BeginsLeading self.now.set session.old
-            (first ∷ rest.old.items) rest.new.items [] run.new.unsettled.answers.items
-            session.new }
-        ensures none { result ≡ false → (session.new ≡ session.old)
-            × (rest.new.items ≡ rest.old.items) × (run.new.unsettled ≡ run.old.unsettled) }
-        ensures told { run.new.unsettled.told ≡ run.old.unsettled.told }
-        ensures count { result ≡ true → length run.new.unsettled.answers.items
-            + length rest.new.items ≡ length rest.old.items + 1 }
-        ensures fewer { length rest.new.items ≤ length rest.old.items }
-    {
-        let mut state = post.enter_to_begin(rt, alloc, &self.bells, server);
-        self.gate.enter(server, Passage::Begin);
-        run.since = self.gate.now();
-        let is_here = is_of(&state, &self.set, server);
-        if is_here {
-            self.ask_leading(alloc, session, &mut state, server, first, rest, run);
-        }
-        for _ in run.programs.iter() {
-            post.note_begin();
-        }
-        post.give_back(rt, alloc, state);
-        self.gate.leave(server, Passage::Begin);
-        is_here
-    }
-
-    /// Answers a run once all of it is settled, and tells the gate of each answer.
-    fn tell_run<R: Wait>(
-        &self,
-        rt: &R,
-        session: &mut Session,
-        post: &Post<K>,
-        server: ServerId,
-        run: Run,
-        answers: &mut Vec<Answer>,
-    )
-        requires room { length run.unsettled.answers.items + vec_len answers.old
-            ≤ vec_capacity answers.old }
-        ensures hears { (settled : ℕ) × HearsAll run.unsettled settled session.old
-            answers.old.items answers.new.items session.new }
-        ensures len { vec_len answers.new
-            ≡ vec_len answers.old + length run.unsettled.answers.items }
-        ensures capacity { vec_capacity answers.new ≡ vec_capacity answers.old }
-    {
-        let Run {
-            unsettled,
-            programs,
-            since,
-        } = run;
-        let mark = post.await_settled(rt, unsettled.reached());
-        let before = answers.len();
-        session.hear_all(unsettled, &mark, answers);
-        for (program, answer) in programs.iter().zip(answers.iter().skip(before)) {
-            self.gate.answered(server, *program, answer, since);
-            self.follow_up(rt, post, server, *program, answer);
-        }
-    }
-
-    /// Begins this request, and those that stand next and begin at that server, too.
-    fn begin_run<R: Wait + Clock>(
-        &self,
-        rt: &R,
-        alloc: Global,
-        session: &mut Session,
-        post: &Post<K>,
-        server: ServerId,
-        first: Request,
-        rest: &mut VecDeque<Request>,
-        mut run: Run,
-        answers: &mut Vec<Answer>,
-    )
-        requires home { home_of self.now.set first ≡ server }
-        requires none { run.unsettled.answers.items ≡ [] }
-        requires told { run.unsettled.told ≡ length session.old.told }
-        requires reached { run.unsettled.reached ≡ 0 }
-        requires room { vec_len run.unsettled.answers < vec_capacity run.unsettled.answers }
-        requires programs { vec_len run.programs < vec_capacity run.programs }
-        requires places { length rest.old.items + vec_len answers.old < vec_capacity answers.old }
-        ensures begins { BeginsLeading self.now.set session.old (first ∷ rest.old.items)
-            rest.new.items answers.old.items answers.new.items session.new }
-        ensures count { vec_len answers.new + length rest.new.items
-            ≡ vec_len answers.old + length rest.old.items + 1 }
-        ensures fewer { length rest.new.items ≤ length rest.old.items }
-        ensures capacity { vec_capacity answers.new ≡ vec_capacity answers.old }
-    {
-        let is_here = self.ask_run(rt, alloc, session, post, server, first, rest, &mut run);
-        self.tell_run(rt, session, post, server, run, answers);
-        if !is_here {
-            answers.push_reserved(Answer::Stopped);
-        }
-    }
-
-    /// Begins this request, and those that stand next and begin at the same server, too, where
-    /// there is memory for that and each isn't to be settled by itself.
+    /// Begins this request, and those that stand next and begin at the same server, too.
     fn begin_leading<R: Wait + Clock>(
         &self,
         rt: &R,
@@ -273,22 +253,17 @@ impl<K: BatchKeeper, G: Gate> Front<K, G> {
         ensures capacity { vec_capacity answers.new ≡ vec_capacity answers.old }
     {
         let server = self.home_of(&first);
-        if let Some(post) = self.posts.as_slice().get(server.index())
-            && !post.is_each()
-            && let Ok(run) = Run::with_room(alloc, session.told().len())
-        {
-            self.begin_run(rt, alloc, session, post, server, first, rest, run, answers);
-            return;
+        match self.take_leading(alloc, server, first, rest) {
+            Ok(leading) => self.begin_run(rt, alloc, session, server, leading, answers),
+            Err(Memory) => answers.push_reserved(Answer::Memory),
         }
-        let answer = self.begin(rt, alloc, session, first);
-        answers.push_reserved(answer);
     }
 
     /// Begins these in order, as [`Front::begin`] does each of them, and puts each answer behind
     /// those before it, into a list that has room for all. Those that stand side by side and begin
-    /// at one server are begun under one taking of its lock, and share a settling: where the store
-    /// fails in that, each of them is answered Stopped. Each is begun by itself under
-    /// [`Pace::Each`](crate::Pace::Each), and where memory is wanting for the list of them.
+    /// at one server are begun together, and share a settling: where the store fails in that, each
+    /// of them is answered Stopped, and where memory is wanting for all of them, Memory. Each is
+    /// begun by itself under [`Pace::Each`](crate::Pace::Each).
     pub fn begin_all<R: Wait + Clock>(
         &self,
         rt: &R,
@@ -305,6 +280,52 @@ impl<K: BatchKeeper, G: Gate> Front<K, G> {
         let mut rest = VecDeque::from_vec(requests);
         while let Some(first) = rest.pop_front() {
             self.begin_leading(rt, alloc, session, first, &mut rest, answers);
+        }
+    }
+
+    /// One begin, and its answer in a list.
+    fn begin_one<R: Wait + Clock>(
+        &self,
+        rt: &R,
+        alloc: Global,
+        session: &mut Session,
+        request: Request,
+    ) -> Result<Vec<Answer>, Memory>
+        ensures begins { IfOk result (λ answers. BeginsLeading self.now.set session.old
+            (request ∷ []) [] [] answers.items session.new) }
+        ensures same { OnErr result (session.new ≡ session.old) }
+    {
+        let server = self.home_of(&request);
+        let mut answers = Vec::with_capacity(alloc, 1)?;
+        let mut requests = Vec::with_capacity(alloc, 1)?;
+        requests.push_reserved(request);
+        self.begin_run(rt, alloc, session, server, requests, &mut answers);
+        Ok(answers)
+    }
+
+    /// One begin at the origin of the request's program. The session notes the answer where it is
+    /// Begun, Refused, Clash or Full, and the server takes as seen the greatest stamp that the
+    /// session was told. Those who wait for the server have one of them begin for all under its
+    /// lock. It is answered once all is settled that the answer may be read of; where the store
+    /// fails in that, Stopped. Stopped comes also where the lock has the state of another server.
+    /// It costs two walks over the set, two copies of the request, and
+    /// [`Server::begin`](lynx_server::Server::begin); all memory for the note is taken before the
+    /// server is asked.
+    pub fn begin<R: Wait + Clock>(
+        &self,
+        rt: &R,
+        alloc: Global,
+        session: &mut Session,
+        request: Request,
+    ) -> Answer
+        ensures { AnswersBegin self.now.set session.old request result session.new }
+    {
+        match self.begin_one(rt, alloc, session, request) {
+            Ok(mut answers) => match answers.pop() {
+                Some(answer) => answer,
+                None => unreachable!(),
+            },
+            Err(Memory) => Answer::Memory,
         }
     }
 }

@@ -1,1 +1,2 @@
+mod Comparings
 mod Followings

@@ -1,9 +1,10 @@
 -- What a store keeps that follows a server.
-use Rattle.std.specs.Prelude.{◌≡◌, ℕ, length, Result, Ok, Err}
+use Rattle.std.specs.Prelude.{◌≡◌, ◌++◌, ℕ, length, Result, Ok, Err}
 use Rattle.lynx_cells.specs.Database.{ChangeSet, Database, applied}
 use Rattle.lynx_set.specs.Set.{Set}
 use Rattle.lynx_entry.specs.Entry.{History}
-use Rattle.lynx_keep.specs.Kept.{KeptState, Terms}
+use Rattle.lynx_keep.specs.Kept.{HasRisen, KeptState, Terms}
+use Rattle.lynx_keep.specs.declared.fault.KeepFault.TheVariants.{Failed}
 use Rattle.lynx_rules.specs.Tables.{tables_of}
 use Rattle.lynx_server.specs.declared.fault.OpenFault.{OpenFault}
 use Rattle.lynx_server.specs.declared.fault.OpenFault.TheVariants.{Damaged, Store, Memory}
@@ -11,6 +12,7 @@ use Rattle.lynx_server.specs.Keeping.{kept_of}
 use Rattle.lynx_server.specs.Opening.{Finds, FindsFault, FindsNoRoom}
 use Rattle.lynx_follow.specs.declared.following.Follower.{Follower}
 use Rattle.lynx_follow.specs.declared.following.Opened.{Opened}
+use Rattle.lynx_follow.specs.declared.following.Unfollowed.{Unfollowed}
 
 -- where the changes that were noted lead to the cells before, those that are noted now lead to the
 -- cells after
@@ -28,8 +30,8 @@ pub record Follows {K : Type 0} (terms : Terms K) (set : Set) (front : History)
 -- what the keeper kept was found, and is followed on
 pub record IsOpened {K : Type 0} (terms : Terms K) (set : Set) (keeper : K) (opened : Opened K)
     : Type 0 where
-  pub finds : Finds terms keeper opened.follower.keeper (kept_of set opened.entries.items)
-  pub follows : Follows terms set opened.entries.items opened.follower
+  pub finds : Finds terms keeper opened.follower.keeper (kept_of set opened.rest.items)
+  pub follows : Follows terms set opened.rest.items opened.follower
 
 -- behind the entries that were found, the cells aren't those that they leave
 pub record FindsOtherCells {K : Type 0} (terms : Terms K) (set : Set) (old new : K) (place : ℕ)
@@ -49,3 +51,30 @@ IsUnopened terms set old new Memory = FindsNoRoom terms old new
 abbrev pub Opens : {K : Type 0} → Terms K → Set → K → Result (Opened K) OpenFault → Type 0
 Opens terms set keeper (Ok opened) = IsOpened terms set keeper opened
 Opens {K} terms set keeper (Err fault) = (left : K) × IsUnopened terms set keeper left fault
+
+-- a stop meanwhile leaves what the store kept, or that with all of these entries
+pub record LeavesEither {K : Type 0} (terms : Terms K) (set : Set) (old : Follower K)
+    (entries : History) (keeper : K) : Type 0 where
+  pub sound : terms.sound keeper → terms.sound old.keeper
+  pub stop : terms.sound keeper → (front : History) → Follows terms set front old
+      → terms.leaves keeper (kept_of set front) (kept_of set (front ++ entries))
+
+-- the store keeps these entries, too
+pub record HasFollowed {K : Type 0} (terms : Terms K) (set : Set) (old : Follower K)
+    (entries : History) (new : Follower K) : Type 0 where
+  pub follows : (front : History) → Follows terms set front old
+      → Follows terms set (front ++ entries) new
+  pub leaves : LeavesEither terms set old entries new.keeper
+
+-- the store failed, or memory was wanting
+pub record HasNotFollowed {K : Type 0} (terms : Terms K) (set : Set) (old : Follower K)
+    (entries : History) (unfollowed : Unfollowed K) : Type 0 where
+  pub leaves : LeavesEither terms set old entries unfollowed.keeper
+  pub failed : unfollowed.fault ≡ Failed
+      → HasRisen (terms.counted old.keeper) (terms.counted unfollowed.keeper)
+
+-- A store follows on with these entries, all of them; or not, and then its keeper is left.
+abbrev pub FollowsOn : {K : Type 0} → Terms K → Set → Follower K → History
+    → Result (Follower K) (Unfollowed K) → Type 0
+FollowsOn terms set old entries (Ok new) = HasFollowed terms set old entries new
+FollowsOn terms set old entries (Err unfollowed) = HasNotFollowed terms set old entries unfollowed

@@ -1,21 +1,22 @@
 //! A store that follows a server.
-ghost use Rattle.std.specs.Prelude.{◌≡◌, ◌++◌, All, IfOk, IsErrOf, OnOk};
+ghost use Rattle.std.specs.Prelude.{◌≡◌, ◌↔◌, ◌++◌, ◌≤◌, [], All, IfNone, IfOk, IfSome, IsErrOf, IsFalse, IsTrue, OnOk, length, take};
 ghost use Rattle.lynx_codec.specs.Entries.{IsEntryInRange};
 ghost use Rattle.lynx_entry.specs.Entry.{History};
 ghost use Rattle.lynx_keep.specs.Kept.{HasRisen};
 ghost use Rattle.lynx_rules.specs.Tables.{tables_of};
 ghost use Rattle.lynx_server.specs.Keeping.{kept_of};
-ghost use Rattle.lynx_follow.specs.Following.{Follows, Opens};
+ghost use Rattle.lynx_follow.specs.Following.{Follows, FollowsOn, Opens};
 ghost use Rattle.lynx_follow.specs.inner.Reading.{ReadsBack};
 
 use crate::redoing::redo_all;
 use lynx_cells::{Cells, Changes};
 use lynx_entry::Entry;
-use lynx_keep::{BatchKeeper, Cause, KeepFault, Keeper};
+use lynx_keep::{BatchKeeper, KeepFault, Keeper};
 use lynx_names::Memory;
 use lynx_server::{OpenFault, same_cells};
 use lynx_set::ChainSet;
 use std::alloc::Global;
+use std::collections::VecDeque;
 
 /// A store that follows a server, and the cells that its entries leave. It doesn't hold the
 /// entries.
@@ -27,11 +28,20 @@ pub struct Follower<K> {
     pub(crate) count: u64,
 }
 
-/// A store that can follow on, and the entries that it keeps.
+/// A store that was opened to follow a server, and those of its entries that nobody compared yet
+/// with what the server did. It follows once none is left: [`Opened::compare`], then
+/// [`Opened::into_follower`].
 #[derive(Drop)]
 pub struct Opened<K> {
-    pub follower: Follower<K>,
-    pub entries: Vec<Entry>,
+    pub(crate) follower: Follower<K>,
+    pub(crate) rest: VecDeque<Entry>,
+}
+
+/// A store that couldn't follow on: why, and its keeper, which tells the cause and may be closed.
+#[derive(Drop)]
+pub struct Unfollowed<K> {
+    pub fault: KeepFault,
+    pub keeper: K,
 }
 
 /// The cells that entries leave.
@@ -74,9 +84,9 @@ fn read_back<K: Keeper>(
 }
 
 impl<K: BatchKeeper> Follower<K> {
-    /// A store that goes on with what its keeper keeps, and what that is. Damaged, at the count of
-    /// its entries, where its cells aren't those that they leave. The entries are read and gone
-    /// over once, and each takes the work of its hop; whether they are lawful isn't looked at.
+    /// A store that is to go on with what its keeper keeps. Damaged, at the count of its entries,
+    /// where its cells aren't those that they leave. The entries are read and gone over once, and
+    /// each takes the work of its hop; whether they are lawful isn't looked at.
     pub fn open(alloc: Global, set: &ChainSet, mut keeper: K) -> Result<Opened<K>, OpenFault>
     where
         K: Drop,
@@ -90,19 +100,33 @@ impl<K: BatchKeeper> Follower<K> {
         };
         Ok(Opened {
             follower,
-            entries: read.entries,
+            rest: VecDeque::from_vec(read.entries),
         })
     }
 
     /// Keeps what the server did next, all of these entries or none, in one transaction. A stop at
-    /// any moment leaves what was kept, or that with all of them. After an error it is let go, and
-    /// is to be opened again: what it has of the cells may be more than what is kept.
+    /// any moment leaves what was kept, or that with all of them. Where that fails nothing follows
+    /// on: the store is to be opened again, since its cells here may be more than what is kept.
     pub fn follow(
-        &mut self,
+        mut self,
         alloc: Global,
         set: &ChainSet,
         entries: &[Entry],
-    ) -> Result<(), KeepFault>
+    ) -> Result<Follower<K>, Unfollowed<K>>
+        requires range { All IsEntryInRange entries.now }
+        ensures { FollowsOn K.terms set.now self entries.now result }
+    {
+        match self.keep(alloc, set, entries) {
+            Ok(()) => Ok(self),
+            Err(fault) => Err(Unfollowed {
+                fault,
+                keeper: self.keeper,
+            }),
+        }
+    }
+
+    /// Keeps these entries, and has their cells.
+    fn keep(&mut self, alloc: Global, set: &ChainSet, entries: &[Entry]) -> Result<(), KeepFault>
         requires range { All IsEntryInRange entries.now }
         ensures ok { OnOk result ((front : History) → Follows K.terms set.now front self.old
             → Follows K.terms set.now (front ++ entries.now) self.new) }
@@ -131,15 +155,61 @@ impl<K: BatchKeeper> Follower<K> {
         self.count
     }
 
-    /// Why its store failed last, if it has.
-    pub fn cause(&self) -> Option<Cause> {
-        self.keeper.cause()
-    }
-
     /// Gives back the keeper.
     pub fn into_keeper(self) -> K
         ensures { result ≡ self.keeper }
     {
         self.keeper
+    }
+}
+
+/// Whether these are the same entry.
+fn is_same(entry: &Entry, other: &Entry) -> bool
+    ensures { IsTrue result ↔ entry.now ≡ other.now }
+{
+    entry == other
+}
+
+impl<K> Opened<K> {
+    /// How many of its entries nobody compared yet.
+    pub fn left(&self) -> usize
+        ensures { result ≡ length self.now.rest.items }
+    {
+        self.rest.len()
+    }
+
+    /// Whether the entries that are left are those that the server did from there on, as far as
+    /// these go. Those that are the same are left no longer.
+    pub fn compare(&mut self, did: &[Entry]) -> bool
+        ensures same { IsTrue result → self.old.rest.items
+            ≡ take (length self.old.rest.items) did.now ++ self.new.rest.items }
+        ensures other { IsFalse result → (rest : History) → self.old.rest.items
+            ≡ take (length self.old.rest.items) did.now ++ rest → ⊥ }
+        ensures follower { self.new.follower ≡ self.old.follower }
+    {
+        for entry in did {
+            let Some(kept) = self.rest.pop_front() else {
+                return true;
+            };
+            if !is_same(&kept, entry) {
+                return false;
+            }
+        }
+        true
+    }
+
+    /// The store that follows, where no entry is left that nobody compared.
+    pub fn into_follower(self) -> Option<Follower<K>>
+    where
+        K: Drop,
+        ensures some { IfSome result (λ follower. (follower ≡ self.follower)
+            × (self.rest.items ≡ [])) }
+        ensures none { IfNone result (1 ≤ length self.rest.items) }
+    {
+        if self.rest.is_empty() {
+            Some(self.follower)
+        } else {
+            None
+        }
     }
 }

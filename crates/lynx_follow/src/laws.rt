@@ -15,3 +15,13 @@ pub fn a_front_goes_on()
     ensures { (front history : History) (most : ℕ) → IsFront front history
         → IsFront (front ++ take most (drop (length front) history)) history }
 {}
+
+/// What was compared with the entries that the server did from there on is a front of what it did,
+/// with the front that was compared before.
+pub fn what_was_compared_is_a_front()
+    ensures { (front rest left did history : History) → IsFront front history
+        → did ≡ take (length did) (drop (length front) history)
+        → rest ≡ take (length rest) did ++ left
+        → IsFront (front ++ take (length rest) did) history
+        × (front ++ rest ≡ (front ++ take (length rest) did) ++ left) }
+{}

@@ -2,10 +2,8 @@
 //! many entries in one transaction.
 #![tactic(auto)]
 
-pub use following::{Follower, Opened};
-pub use fronts::is_front;
+pub use following::{Follower, Opened, Unfollowed};
 
 pub mod following;
-pub mod fronts;
 pub mod laws;
 mod redoing;

@@ -2,7 +2,7 @@ use Rattle.std.proofs.Common.{◌≡◌, ◌+◌, arith, length, length-append, 
 use Rattle.lynx_keep.specs.Kept.{KeptState}
 use Rattle.lynx_server.specs.Keeping.{kept_of}
 use Rattle.lynx_follow.proofs.Followings.{kept_on, tables_on}
-use Rattle.lynx_follow.proofs.following.Follower.follow.Goals as goal
+use Rattle.lynx_follow.proofs.following.Follower.keep.Goals as goal
 
 pub returns-in_err-commit_all-clause-stop : goal.returns-in_err-commit_all-clause-stop
 returns-in_err-commit_all-clause-stop g c sound front follows =

@@ -1,5 +1,5 @@
 -- Begins that the desk of a client asks together, by those of its session.
-use Rattle.std.proofs.Common.{◌≡◌, ◌∷◌, [], List, ap, sym, subst}
+use Rattle.std.proofs.Common.{◌≡◌, ◌∙◌, ◌++◌, ◌∷◌, [], refl, List, ap, sym, subst, map, append-nil}
 use Rattle.std.specs.Prelude.{All}
 use Rattle.std.proofs.lemmas.List.Elements.{All-nil, All-cons}
 use Rattle.lynx_cluster.specs.Calls.{AnswersBegin, AnswersBeginAll}
@@ -8,6 +8,8 @@ use Rattle.lynx_codec.specs.Ranges.{IsAnswerInRange}
 use Rattle.lynx_entry.specs.declared.answer.Answer.{Answer}
 use Rattle.lynx_entry.specs.declared.request.Request.{Request}
 use Rattle.lynx_port.specs.Desks.{BeginsAll}
+use Rattle.lynx_weave.specs.declared.told.ToldItem.{ToldItem}
+use Rattle.lynx_service.specs.Desks.{stopped}
 use Rattle.lynx_set.specs.Set.{Set}
 
 -- the desk with that session
@@ -31,3 +33,21 @@ all_in_range set old last [] [] a = All-nil IsAnswerInRange
 all_in_range set old last [] (g ∷ given) a = absurd a
 all_in_range set old last (r ∷ requests) [] a = absurd a
 all_in_range set old last (r ∷ requests) (g ∷ given) a = All-cons IsAnswerInRange g given a.1.range (all_in_range set a.0 last requests given a.2)
+
+-- all requests were answered, once none is left
+pub all_stopped : (given : List Answer) (asked rest : List Request) → rest ≡ [] → given ++ map stopped rest ≡ map stopped asked → given ≡ map stopped asked
+all_stopped given asked rest ended so_far = sym (append-nil given) ∙ ap (λ (end : List Request). given ++ map stopped end) (sym ended) ∙ so_far
+
+-- a request that is answered so tells the session nothing
+pub stops : (set : Set) (session : SessionState) (request : Request) → AnswersBegin set session request (stopped request) session
+stops set session request = record {
+  told = ap (λ (told : List ToldItem). record session { told = told }) (sym (append-nil session.told));
+  above = tt;
+  fits = tt;
+  range = tt;
+}
+
+-- and so do all
+pub stops_all : (set : Set) (session : SessionState) (requests : List Request) → AnswersBeginAll set session requests (map stopped requests) session
+stops_all set session [] = refl
+stops_all set session (r ∷ requests) = (session, stops set session r, stops_all set session requests)

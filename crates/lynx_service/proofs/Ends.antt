@@ -1,6 +1,6 @@
 -- How a service ends well.
-use Rattle.std.proofs.Common.{◌≡◌, ◌∙◌, ◌++◌, ℕ, List, Option, Result, Ok, Err, sym, subst}
-use Rattle.std.specs.Prelude.{IfOk, OnOk}
+use Rattle.std.proofs.Common.{◌≡◌, ◌∙◌, ◌++◌, ℕ, Bool, List, Option, Result, Ok, Err, sym, subst}
+use Rattle.std.specs.Prelude.{IfOk, OnOk, codes}
 use Rattle.std.specs.Io.KnownBytes.{Appends}
 use Rattle.std.proofs.KnownBytes.{Appends-trans}
 use Rattle.lynx_order.specs.declared.explained.Explained.{Explained}
@@ -23,18 +23,18 @@ use Rattle.lynx_weave.specs.Servers.{histories_of}
 use Rattle.lynx_world.specs.Legal.{IsLegal}
 use Rattle.lynx_world.specs.Worlds.{WorldState}
 use Rattle.lynx_service.specs.declared.fault.ServeFault.{ServeFault}
-use Rattle.lynx_service.specs.Services.{AppendsSome, HasServed, IsEnded, last_lines}
+use Rattle.lynx_service.specs.Services.{AppendsListening, HasServed, IsEnded, closing_lines}
 
 -- what holds where a result is Ok
 pub of_ok : {T : Type 0} {E : Type 0} (result : Result T E) (value : T) (fact : Type 0) → result ≡ Ok value → OnOk result fact → fact
 of_ok result value fact same given = subst (λ r. OnOk r fact) same given
 
 -- a cluster of opened servers that was halted as it was and closed, and the end over its world, behind what was written before
-pub ends_well : {K : Type 0} (terms : Terms K) (stores : StoreTerms K) (folder : List ℕ) (set opened_set : Set) (before : List K) (servers : List (Serving K)) (cluster halted : ClusterState) (sessions : List SessionState) (keepers : List K)
+pub ends_well : {K : Type 0} (terms : Terms K) (stores : StoreTerms K) (folder : List ℕ) (apart : Bool) (set opened_set : Set) (before : List K) (servers : List (Serving K)) (cluster halted : ClusterState) (sessions : List SessionState) (keepers : List K)
     (old middle new : Option (List ℕ)) (world : WorldState) (result : Result Explained ServeFault) →
     opened_set ≡ set → AreOpened terms set before servers → StandIn stores folder set before → AreAllSent opened_set (histories_of servers) → Starts opened_set servers cluster → halted ≡ cluster → IsClosed terms halted sessions world keepers →
-    AppendsSome old middle → IfOk result (IsEnded world middle new) → OnOk result (AreClosed stores.closed keepers) → IfOk result (HasServed terms stores folder set old new)
-ends_well terms stores folder set opened_set before servers cluster halted sessions keepers old middle new world (Ok explained) same opened stood sent began still ended_so first ended let_go =
+    AppendsListening old middle → IfOk result (IsEnded world apart middle new) → OnOk result (AreClosed stores.closed keepers) → IfOk result (HasServed terms stores folder apart set old new)
+ends_well terms stores folder apart set opened_set before servers cluster halted sessions keepers old middle new world (Ok explained) same opened stood sent began still ended_so first ended let_go =
     let closed : IsClosed terms cluster sessions world keepers = subst (λ state. IsClosed terms state sessions world keepers) still ended_so in
     let started : Starts set servers cluster = subst (λ s. Starts s servers cluster) same began in
     let of_set : world.set ≡ set = closed.woven.set_is ∙ started.set_is in
@@ -55,7 +55,7 @@ ends_well terms stores folder set opened_set before servers cluster halted sessi
       promises = λ is. promised set world.list is legal;
       right = ended.right;
       ordered = λ is accepted. ended.right.accepted (subst AreLiteralsHome (sym of_set) (literals_home set is)) (subst IsAccepted (sym of_set) accepted);
-      first = first.0;
-      written = Appends-trans old middle new first.0 (last_lines explained) first.1 ended.written;
+      place = first.0;
+      written = Appends-trans old middle new (codes "listening " ++ first.0) (closing_lines apart explained) first.1 ended.written;
     }
-ends_well terms stores folder set opened_set before servers cluster halted sessions keepers old middle new world (Err fault) same opened stood sent began still ended_so first ended let_go = tt
+ends_well terms stores folder apart set opened_set before servers cluster halted sessions keepers old middle new world (Err fault) same opened stood sent began still ended_so first ended let_go = tt

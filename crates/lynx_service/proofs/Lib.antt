@@ -1,3 +1,4 @@
 mod Begun
 mod Ends
 mod Opened
+mod Talked

@@ -1,5 +1,5 @@
 -- How a service ends well.
-use Rattle.std.specs.Prelude.{◌≡◌, ◌++◌, ℕ, List, Option, codes}
+use Rattle.std.specs.Prelude.{◌≡◌, ◌++◌, ℕ, Bool, true, false, List, Option, codes}
 use Rattle.std.specs.Io.KnownBytes.{Appends}
 use Rattle.lynx_cluster.specs.Closing.{IsClosed}
 use Rattle.lynx_cluster.specs.Clusters.{ClusterState}
@@ -24,10 +24,15 @@ use Rattle.lynx_weave.specs.Servers.{histories_of}
 use Rattle.lynx_lex.specs.Lines.{with_feed}
 use Rattle.lynx_world.specs.Worlds.{WorldState}
 
--- the last lines of a service: that it is closed, and the order of all chains, or a cycle
+-- what is said of an end: that it is one, and the order of all chains, or a cycle
 abbrev pub last_lines : Explained → List ℕ
 last_lines (Order chains) = codes "closed\n" ++ with_feed (codes "order" ++ chains_text chains)
 last_lines (Cycle chains) = codes "closed\n" ++ with_feed (codes "cycle" ++ chains_text chains)
+
+-- the last lines of a service: those, or `closed` alone where its order goes to a file of its own
+abbrev pub closing_lines : Bool → Explained → List ℕ
+closing_lines false explained = last_lines explained
+closing_lines true explained = codes "closed\n"
 
 -- The world is explained so: an order of its chains gives all that they did, or each of some chains
 -- precedes the next, around a cycle, which is never told of an accepted set.
@@ -36,23 +41,25 @@ pub record IsExplainedBy (world : WorldState) (explained : Explained) : Type 0 w
   pub cycle : CycleIsRight world.set world.list explained
   pub accepted : AreLiteralsHome world.set → IsAccepted world.set → GivesOrder explained
 
--- The end of a service over that world: it is explained so, and that is written.
-pub record IsEnded (world : WorldState) (old new : Option (List ℕ)) (explained : Explained) : Type
-    0 where
+-- The end of a service over that world: it is explained so, and that is written, the order apart
+-- where that is asked for.
+pub record IsEnded (world : WorldState) (apart : Bool) (old new : Option (List ℕ))
+    (explained : Explained) : Type 0 where
   pub right : IsExplainedBy world explained
-  pub written : Appends old new (last_lines explained)
+  pub written : Appends old new (closing_lines apart explained)
 
--- some bytes were written
-abbrev pub AppendsSome : Option (List ℕ) → Option (List ℕ) → Type 0
-AppendsSome old new = (some : List ℕ) × Appends old new some
+-- it is written that clients are listened to, and where
+abbrev pub AppendsListening : Option (List ℕ) → Option (List ℕ) → Type 0
+AppendsListening old new = (place : List ℕ) × Appends old new (codes "listening " ++ place)
 
 -- A service over that set. Its servers were opened over the keepers of their stores in that folder,
 -- of which none was lost, each with a lawful history, and all that ran there was sent; a cluster of
 -- them was started, and closed: its world is just what the keepers keep then, and all that the
--- sessions were told stands in it. The keepers were let go, each well. That world has all promises,
--- and what explains it is written last, behind whatever was written before.
+-- sessions were told stands in it. The keepers were let go, each well. That world has all promises.
+-- It is written where clients are listened to, and behind that what explains that world, unless
+-- that goes to a file of its own.
 pub record HasServed {K : Type 0} (terms : Terms K) (stores : StoreTerms K) (folder : List ℕ)
-    (set : Set) (old new : Option (List ℕ)) (explained : Explained) : Type 0 where
+    (apart : Bool) (set : Set) (old new : Option (List ℕ)) (explained : Explained) : Type 0 where
   pub before : List K
   pub stood : StandIn stores folder set before
   pub servers : List (Serving K)
@@ -68,5 +75,5 @@ pub record HasServed {K : Type 0} (terms : Terms K) (stores : StoreTerms K) (fol
   pub promises : IsSet set → KeepsPromises set world.list
   pub right : IsExplainedBy world explained
   pub ordered : IsSet set → IsAccepted set → GivesOrder explained
-  pub first : List ℕ
-  pub written : Appends old new (first ++ last_lines explained)
+  pub place : List ℕ
+  pub written : Appends old new ((codes "listening " ++ place) ++ closing_lines apart explained)

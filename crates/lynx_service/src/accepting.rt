@@ -1,21 +1,25 @@
 //! Accepting clients, so many at a time, and beside them those that watch.
 ghost use Rattle.std.specs.Thread.{IsSend, IsSync};
 
+use crate::connections::{Admission, Connections};
 use crate::copy_room::CopyRoom;
 use crate::copying::Copier;
-use crate::hall::Hall;
-use crate::limits::RETRY_MILLIS;
-use crate::log::Log;
+use crate::limits::{ACCEPT_MILLIS, RETRY_MILLIS};
+use crate::log::{Log, Want};
+use crate::metrics::Metrics;
+use crate::readiness::can_read;
 use crate::status::Status;
-use crate::talking::{knock, talk};
-use crate::tally::Tally;
+use crate::store_files::StoreFiles;
+use crate::talking::talk;
 use crate::watching::{WatchPort, watch_all};
 use lynx_cluster::{Front, Session};
 use lynx_keep::BatchKeeper;
 use lynx_notice::Board;
 use lynx_store_files::Stores;
 use std::alloc::Global;
+use std::io::ErrorKind;
 use std::net::{Net, SocketAddr, TcpListener, TcpStream};
+use std::os::fd::AsRawFd;
 use std::sync::Wait;
 use std::thread::Threads;
 use std::time::{Clock, Duration};
@@ -38,53 +42,79 @@ impl Ports {
     }
 }
 
-/// The stream of a client that came, if it is let in.
-fn let_in<R: Wait + Clock>(
-    rt: &R,
-    hall: &Hall,
-    log: Log,
-    came: io::Result<TcpStream>,
-) -> Option<TcpStream> {
-    let Ok(stream) = came else {
-        thread::sleep(rt, Duration::from_millis(RETRY_MILLIS));
-        return None;
-    };
-    if !hall.enter(rt) {
-        log.refused(hall.clients(rt));
+/// Who comes to a listener that doesn't block, within the time after which a thread looks whether
+/// it has to end. No file handle is taken for one who doesn't come.
+pub(crate) fn next_to_come(listener: &TcpListener) -> Option<io::Result<TcpStream>> {
+    if !can_read(listener.as_raw_fd(), ACCEPT_MILLIS) {
         return None;
     }
-    Some(stream)
+    match listener.accept() {
+        Ok((stream, _)) => Some(Ok(stream)),
+        Err(error) => Some(Err(error)),
+    }
+}
+
+/// One who came can't be taken, which the system tells so: it is tried again a moment later.
+fn leave_untaken<R: Wait + Clock>(rt: &R, connections: &Connections, log: &Log, error: &io::Error) {
+    if error.kind() != ErrorKind::WouldBlock && connections.note_turned_away() {
+        log.untaken(error);
+    }
+    thread::sleep(rt, Duration::from_millis(RETRY_MILLIS));
+}
+
+/// A client was hung up on for want of that.
+pub(crate) fn turn_away(connections: &Connections, log: &Log, want: Want) {
+    if connections.note_turned_away() {
+        log.turned_away(want);
+    }
+}
+
+/// The stream of a client, if one came and is let in.
+fn let_in<R: Wait + Clock>(
+    rt: &R,
+    connections: &Connections,
+    log: &Log,
+    came: Option<io::Result<TcpStream>>,
+) -> Option<TcpStream> {
+    let stream = match came? {
+        Ok(stream) => stream,
+        Err(error) => {
+            leave_untaken(rt, connections, log, &error);
+            return None;
+        }
+    };
+    match connections.admit(rt) {
+        Admission::Admitted => Some(stream),
+        Admission::Full => {
+            log.refused(connections.clients(rt));
+            None
+        }
+        Admission::Memory => {
+            turn_away(connections, log, Want::Memory);
+            None
+        }
+    }
 }
 
 /// There is no thread that would copy.
-fn tell_uncopied(log: Log, copies: Option<&CopyRoom>) {
+fn tell_uncopied(log: &Log, copies: Option<&CopyRoom>) {
     log.no_copy_thread();
     if let Some(room) = copies {
         room.leave_all();
     }
 }
 
-/// Nobody is let in any more, nor told that there is a service; whoever accepts those that watch is
-/// knocked at until it sees so.
-fn close_doors<R: Wait + Clock + Net<Listener = TcpListener, Stream = TcpStream>>(
-    rt: &R,
-    hall: &Hall,
-    board: &Board<'_>,
-    address: SocketAddr,
-    watched_at: Option<SocketAddr>,
-) {
+/// Nobody is let in any more, nor told that there is a service.
+fn stop_accepting(connections: &Connections, board: &Board<'_>, address: SocketAddr) {
     board.take_down(address);
-    hall.door().close();
-    if let Some(address) = watched_at {
-        knock(rt, hall.watch_door(), address);
-    }
+    connections.close();
 }
 
 /// Serves clients at the listener until one asks for the end and all have gone, and gives their
 /// sessions back. Each has a thread of its own. One for which there is no thread is hung up on, and
 /// so is each beyond [`MAX_CLIENTS`](crate::limits::MAX_CLIENTS). Beside them those are answered
-/// that watch, and the folder that follows gets what servers did. Once the end is asked for, the
-/// board's notice is taken down.
+/// that watch, the folder that follows gets what servers did, and it is looked whether the files of
+/// the stores are there. Once the end is asked for, the board's notice is taken down.
 pub(crate) fn serve_clients<
     'x,
     R: Threads + Wait + Clock + Copy + Sync + Net<Listener = TcpListener, Stream = TcpStream>,
@@ -93,20 +123,20 @@ pub(crate) fn serve_clients<
 >(
     rt: &'x R,
     alloc: Global,
-    front: &'x Front<K, Tally<R>>,
+    front: &'x Front<K, Metrics<R>>,
     ports: &Ports,
     board: &Board<'x>,
-    log: Log,
+    log: &'x Log,
+    files: &'x StoreFiles,
     copier: Option<&'x Copier<'x, K, S>>,
 ) -> Vec<Session>
 where
     R: Send,
 {
-    let shared = Hall::new(alloc);
-    let hall = &shared;
-    let port = ports.address;
+    let shared = Connections::new(alloc);
+    let open = &shared;
     let copies = copier.map(|copier| copier.folder.room);
-    let status = Status::new(rt, alloc, front, hall, copies, board.set);
+    let status = Status::new(rt, alloc, front, open, files, log, copies, board.set);
     thread::scope(
         thread::scope_env(),
         rt,
@@ -114,29 +144,32 @@ where
             requires { IsSync R.row × IsSend R.row × IsSend K.row × IsSync S.row }
         {
             if let Some(copier) = copier
-                && scope.spawn(move || copier.run(rt, front, hall)).is_err()
+                && scope.spawn(move || copier.run(rt, front, open)).is_err()
             {
                 tell_uncopied(log, copies);
             }
-            let mut watched_at = None;
+            if scope.spawn(move || files.guard(rt, open, log)).is_err() {
+                log.no_guard_thread();
+            }
             if let Some(watch) = &ports.watch {
                 let shared = status.share();
-                let started = scope.spawn(move || watch_all(rt, alloc, shared, watch));
-                watched_at = started.is_ok().then_some(watch.address);
+                let _ = scope.spawn(move || watch_all(rt, alloc, shared, watch));
             }
-            for came in ports.listener.incoming() {
-                if hall.ending().is_asked() {
+            for _ in rt.forever() {
+                let came = next_to_come(&ports.listener);
+                if open.ending().is_asked() {
                     break;
                 }
-                let Some(stream) = let_in(rt, hall, log, came) else {
+                let Some(stream) = let_in(rt, open, log, came) else {
                     continue;
                 };
-                let started = scope.spawn(move || talk(rt, alloc, front, stream, hall, port, log));
+                let started = scope.spawn(move || talk(rt, alloc, front, stream, open, files, log));
                 if started.is_err() {
-                    hall.leave(rt, None);
+                    open.release(rt, None);
+                    turn_away(open, log, Want::Thread);
                 }
             }
-            close_doors(rt, hall, board, port, watched_at);
+            stop_accepting(open, board, ports.address);
         },
     );
     shared.into_sessions()

@@ -1,7 +1,7 @@
 //! The end of a service.
-ghost use Rattle.std.specs.Prelude.{◌≡◌, IfOk, OnOk};
+ghost use Rattle.std.specs.Prelude.{◌≡◌, ◌++◌, IfOk, OnOk, codes, string_bytes};
 ghost use Rattle.lynx_store_files.specs.Closed.{AreClosed};
-ghost use Rattle.lynx_service.specs.Services.{IsEnded, IsExplainedBy, last_lines};
+ghost use Rattle.lynx_service.specs.Services.{IsEnded, IsExplainedBy, closing_lines, last_lines};
 
 use crate::fault::ServeFault;
 use lynx_cluster::{CloseFault, Closed};
@@ -10,7 +10,7 @@ use lynx_lines::{chains_line, write_bytes};
 use lynx_order::{Explained, explain};
 use lynx_store_files::{Stores, close_all};
 use lynx_world::World;
-use std::alloc::Global;
+use std::alloc::{AllocError, Global};
 use std::io::Write;
 
 /// Lets go of the keepers of all servers, also behind one that fails. The first fault is told.
@@ -33,15 +33,23 @@ fn explained_by(alloc: Global, world: &World) -> Result<Explained, ServeFault>
     Ok(explain(alloc, world)?)
 }
 
+/// The line of the order or of the cycle, as it stands behind `closed`.
+pub fn order_line(alloc: Global, explained: &Explained) -> Result<String, AllocError>
+    ensures { IfOk result (λ line. codes "closed\n" ++ string_bytes line
+        ≡ last_lines explained.now) }
+{
+    match explained {
+        Explained::Order(chains) => chains_line(alloc, "order", chains.as_slice()),
+        Explained::Cycle(chains) => chains_line(alloc, "cycle", chains.as_slice()),
+    }
+}
+
 /// The last lines: `closed`, and that of the order or of the cycle.
 fn last_lines(alloc: Global, explained: &Explained) -> Result<Vec<u8>, ServeFault>
     ensures { IfOk result (λ lines. lines.items ≡ last_lines explained.now) }
 {
     let mut lines = Vec::from_slice(alloc, b"closed\n")?;
-    let line = match explained {
-        Explained::Order(chains) => chains_line(alloc, "order", chains.as_slice())?,
-        Explained::Cycle(chains) => chains_line(alloc, "cycle", chains.as_slice())?,
-    };
+    let line = order_line(alloc, explained)?;
     lines.extend_from_slice(line.as_bytes())?;
     Ok(lines)
 }
@@ -56,6 +64,15 @@ pub fn last_words(alloc: Global, world: &World) -> Result<(Explained, Vec<u8>), 
     Ok((explained, lines))
 }
 
+/// What a service writes last, of those last lines: `closed` alone where its order goes to a file
+/// of its own.
+fn lines_here<'a>(explained: &Explained, lines: &'a [u8], is_apart: bool) -> &'a [u8]
+    requires { lines.now ≡ last_lines explained.now }
+    ensures { result.now ≡ closing_lines is_apart explained.now }
+{
+    if is_apart { b"closed\n" } else { lines }
+}
+
 /// Lets go of the keepers of a service that can't say that it listens.
 pub(crate) fn end_unheard<K: BatchKeeper + Drop, S: Stores<K>>(
     stores: &S,
@@ -66,23 +83,24 @@ pub(crate) fn end_unheard<K: BatchKeeper + Drop, S: Stores<K>>(
     }
 }
 
-/// Lets go of the keepers of a service, in any case, and then writes how it ended: nobody who reads
-/// slowly keeps a store locked.
+/// Lets go of the keepers of a service, in any case, and then writes how it ended, the order apart
+/// where that is asked for: nobody who reads slowly keeps a store locked.
 pub(crate) fn end<K: BatchKeeper + Drop, S: Stores<K>, W: Write>(
     alloc: Global,
     stores: &S,
     closed: Closed<K>,
+    is_apart: bool,
     writer: &mut W,
 ) -> Result<Explained, ServeFault>
     ensures ended { IfOk result
-        (IsEnded closed.world (W.contents writer.old) (W.contents writer.new)) }
+        (IsEnded closed.world is_apart (W.contents writer.old) (W.contents writer.new)) }
     ensures let_go { OnOk result (AreClosed S.store_terms.closed closed.keepers.items) }
 {
     let Closed { world, keepers } = closed;
     let words = last_words(alloc, &world);
     let closed = close_keepers(stores, keepers);
     let (explained, lines) = words?;
-    write_bytes(writer, lines.as_slice())?;
+    write_bytes(writer, lines_here(&explained, lines.as_slice(), is_apart))?;
     closed?;
     Ok(explained)
 }

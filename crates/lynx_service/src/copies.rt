@@ -1,30 +1,37 @@
 //! The stores of the folder that follows: opened, compared with what the servers did, gone on with,
 //! and closed.
+ghost use Rattle.std.specs.Prelude.{All};
+ghost use Rattle.lynx_codec.specs.Entries.{IsEntryInRange};
+
 use crate::copy_room::CopyRoom;
 use crate::fault::{CopyWord, ServeFault};
 use crate::limits::{COPY_RETRY_SECONDS, MOST_COPIED};
 use crate::log::Log;
-use crate::tally::Tally;
+use crate::metrics::Metrics;
+use crate::store_files::StoreFile;
 use lynx_cluster::Front;
-use lynx_follow::{Follower, Opened, is_front};
+use lynx_entry::Entry;
+use lynx_follow::{Follower, Opened, Unfollowed};
 use lynx_keep::{BatchKeeper, KeepFault};
 use lynx_names::ServerId;
 use lynx_server::Server;
 use lynx_set::ChainSet;
 use lynx_store_files::Stores;
 use std::alloc::Global;
+use std::rt::HostRuntime;
 use std::sync::Wait;
 use std::time::{Clock, Duration, Instant};
 
 /// The folder that follows, the set whose servers it follows, and who is told of it.
 #[derive(Drop)]
 pub(crate) struct CopyFolder<'a, S> {
+    pub(crate) host: &'a HostRuntime,
     pub(crate) alloc: Global,
     pub(crate) stores: &'a S,
     pub(crate) set: &'a ChainSet,
     pub(crate) folder: &'a str,
     pub(crate) room: &'a CopyRoom,
-    pub(crate) log: Log,
+    pub(crate) log: &'a Log,
 }
 
 /// The store that follows a server, while it does.
@@ -32,6 +39,11 @@ pub(crate) struct CopyFolder<'a, S> {
 pub(crate) struct Copy<K> {
     server: ServerId,
     follower: Option<Follower<K>>,
+    /// The file that it has, or had until it was closed. None where it failed: another file may
+    /// stand there once it is opened again.
+    file: Option<StoreFile>,
+    /// Its file was found gone: it isn't opened again before it was paused.
+    is_gone: bool,
     /// When it failed last, or was last tried in vain.
     failed: Option<Instant>,
     /// It couldn't be closed as it ought to be: its log may lie beside its file.
@@ -67,24 +79,37 @@ fn open_store<K: BatchKeeper + Drop, S: Stores<K>>(
     Ok(Follower::open(folder.alloc, folder.set, keeper)?)
 }
 
+/// The store that follows a server, where what it keeps is a front of what the server did.
+fn open_beside<K: BatchKeeper + Drop, S: Stores<K>>(
+    folder: &CopyFolder<'_, S>,
+    server: &Server<K>,
+) -> Result<Follower<K>, CopyWord> {
+    let mut opened: Opened<K> = open_store(folder, server.server())?;
+    if !opened.compare(server.history()) {
+        return Err(CopyWord::OtherHistory);
+    }
+    opened.into_follower().ok_or(CopyWord::OtherHistory)
+}
+
 /// The store that follows a server that runs, where what it keeps is a front of what the server
 /// did: its history is asked for in parts, so that nobody who begins there waits for all of it.
 fn open_behind<R: Wait + Clock, K: BatchKeeper + Drop, S: Stores<K>>(
     rt: &R,
-    front: &Front<K, Tally<R>>,
+    front: &Front<K, Metrics<R>>,
     folder: &CopyFolder<'_, S>,
     server: ServerId,
 ) -> Result<Follower<K>, CopyWord> {
-    let opened: Opened<K> = open_store(folder, server)?;
-    let mut from: usize = 0;
-    for part in opened.entries.as_slice().chunks(MOST_COPIED) {
-        let did = front.entries_from(rt, folder.alloc, server, from, part.len())?;
-        if !is_front(part, did.as_slice()) {
+    let mut opened: Opened<K> = open_store(folder, server)?;
+    let all = opened.left();
+    for _ in 0..=all / MOST_COPIED {
+        let from = all.saturating_sub(opened.left());
+        let count = opened.left().min(MOST_COPIED);
+        let did = front.entries_from(rt, folder.alloc, server, from, count)?;
+        if !opened.compare(did.as_slice()) {
             return Err(CopyWord::OtherHistory);
         }
-        from = from.saturating_add(part.len());
     }
-    Ok(opened.follower)
+    opened.into_follower().ok_or(CopyWord::OtherHistory)
 }
 
 impl<K: BatchKeeper + Drop> Copy<K> {
@@ -95,20 +120,19 @@ impl<K: BatchKeeper + Drop> Copy<K> {
         server: &Server<K>,
     ) -> Result<Copy<K>, ServeFault> {
         let number = server.server();
-        let opened: Opened<K> = match open_store(folder, number) {
-            Ok(opened) => opened,
+        let follower = match open_beside(folder, server) {
+            Ok(follower) => follower,
             Err(word) => return Err(ServeFault::of_copy(number, word)),
         };
-        if !is_front(opened.entries.as_slice(), server.history()) {
-            return Err(ServeFault::of_copy(number, CopyWord::OtherHistory));
-        }
         let mut copy = Copy {
             server: number,
             follower: None,
+            file: None,
+            is_gone: false,
             failed: None,
             is_unclosed: false,
         };
-        copy.begin(folder, opened.follower);
+        copy.begin(folder, follower);
         Ok(copy)
     }
 
@@ -116,6 +140,8 @@ impl<K: BatchKeeper + Drop> Copy<K> {
     fn begin<S>(&mut self, folder: &CopyFolder<'_, S>, follower: Follower<K>) {
         folder.room.note(self.server, follower.count());
         folder.log.copying(self.server, follower.count());
+        let file = StoreFile::of(folder.host, folder.alloc, folder.folder, self.server);
+        self.file = file.ok();
         self.follower = Some(follower);
         self.failed = None;
         self.is_unclosed = false;
@@ -125,10 +151,10 @@ impl<K: BatchKeeper + Drop> Copy<K> {
     pub(crate) fn open_again<R: Wait + Clock, S: Stores<K>>(
         &mut self,
         rt: &R,
-        front: &Front<K, Tally<R>>,
+        front: &Front<K, Metrics<R>>,
         folder: &CopyFolder<'_, S>,
     ) {
-        if self.follower.is_some() || is_too_soon(rt, self.failed) {
+        if self.follower.is_some() || self.is_gone || is_too_soon(rt, self.failed) {
             return;
         }
         match open_behind(rt, front, folder, self.server) {
@@ -146,7 +172,7 @@ impl<K: BatchKeeper + Drop> Copy<K> {
     pub(crate) fn catch_up<R: Wait + Clock, S: Stores<K>>(
         &mut self,
         rt: &R,
-        front: &Front<K, Tally<R>>,
+        front: &Front<K, Metrics<R>>,
         folder: &CopyFolder<'_, S>,
     ) {
         self.failed = None;
@@ -158,18 +184,41 @@ impl<K: BatchKeeper + Drop> Copy<K> {
         }
     }
 
-    /// The server, where the store lacks something of what it did. One that doesn't follow is taken
-    /// to lack something.
+    /// What is wrong with the store in the end, with its server: it lacks something of what that
+    /// did. One that doesn't follow is taken to lack something.
     pub(crate) fn lacking<R: Wait + Clock>(
         &self,
         rt: &R,
-        front: &Front<K, Tally<R>>,
-    ) -> Option<ServerId> {
+        front: &Front<K, Metrics<R>>,
+    ) -> Option<(ServerId, CopyWord)> {
         let has_all = match (&self.follower, front.glance(rt, self.server)) {
             (Some(follower), Some(glance)) => follower.count() >= glance.entries,
             _ => false,
         };
-        (!has_all).then_some(self.server)
+        (!has_all).then_some((self.server, CopyWord::Behind))
+    }
+
+    /// Looks whether the file of the store is still there, and lets go of the store where it isn't,
+    /// which is told. What is wrong with it then, with its server.
+    pub(crate) fn look<S>(&mut self, folder: &CopyFolder<'_, S>) -> Option<(ServerId, CopyWord)> {
+        let is_gone = self.is_gone
+            || self
+                .file
+                .as_ref()
+                .is_some_and(|file| file.is_gone(folder.host));
+        if is_gone && !self.is_gone {
+            self.is_gone = true;
+            self.follower = None;
+            folder.log.copy_failed(self.server, CopyWord::Gone, None);
+            folder.room.note_gone(self.server);
+        }
+        is_gone.then_some((self.server, CopyWord::Gone))
+    }
+
+    /// It may be opened again, and its file be another one then.
+    pub(crate) fn forget_file(&mut self) {
+        self.file = None;
+        self.is_gone = false;
     }
 
     /// Appends what the server did behind what the store has, so much at a time at most. Whether
@@ -177,30 +226,38 @@ impl<K: BatchKeeper + Drop> Copy<K> {
     pub(crate) fn follow<R: Wait + Clock, S>(
         &mut self,
         rt: &R,
-        front: &Front<K, Tally<R>>,
+        front: &Front<K, Metrics<R>>,
         folder: &CopyFolder<'_, S>,
     ) -> bool {
         let server = self.server;
-        let Some(follower) = &mut self.follower else {
+        let Some(follower) = &self.follower else {
             return false;
         };
         let from = follower.count() as usize;
         let Ok(did) = front.entries_from(rt, folder.alloc, server, from, MOST_COPIED) else {
             return false;
         };
-        if did.is_empty() {
+        !did.is_empty() && self.append(rt, folder, did.as_slice()) && did.len() == MOST_COPIED
+    }
+
+    /// Appends these entries behind what the store has. Whether it follows on.
+    fn append<R: Clock, S>(&mut self, rt: &R, folder: &CopyFolder<'_, S>, did: &[Entry]) -> bool
+        requires range { All IsEntryInRange did.now }
+    {
+        let Some(follower) = self.follower.take() else {
             return false;
-        }
-        match follower.follow(folder.alloc, folder.set, did.as_slice()) {
-            Ok(()) => {
-                folder.room.note(server, follower.count());
-                did.len() == MOST_COPIED
+        };
+        match follower.follow(folder.alloc, folder.set, did) {
+            Ok(follower) => {
+                folder.room.note(self.server, follower.count());
+                self.follower = Some(follower);
+                true
             }
-            Err(fault) => {
-                let cause = follower.cause();
-                folder.log.copy_failed(server, word_of(fault), cause);
-                folder.room.leave(server);
-                self.follower = None;
+            Err(Unfollowed { fault, keeper }) => {
+                let word = word_of(fault);
+                folder.log.copy_failed(self.server, word, keeper.cause());
+                folder.room.leave(self.server);
+                self.file = None;
                 self.failed = Instant::now(rt).ok();
                 false
             }

@@ -13,6 +13,8 @@ use std::time::{Clock, Duration};
 struct Place {
     entries: AtomicU64,
     follows: AtomicBool,
+    /// Its file was found gone.
+    is_gone: AtomicBool,
 }
 
 /// How far the folder that follows is, and whether it is to pause.
@@ -37,6 +39,7 @@ impl CopyRoom {
             places.push(Place {
                 entries: AtomicU64::new(0),
                 follows: AtomicBool::new(false),
+                is_gone: AtomicBool::new(false),
             })?;
         }
         Ok(CopyRoom {
@@ -53,6 +56,7 @@ impl CopyRoom {
         if let Some(place) = self.places.as_slice().get(server.index()) {
             place.entries.store(entries, Ordering::SeqCst);
             place.follows.store(true, Ordering::SeqCst);
+            place.is_gone.store(false, Ordering::SeqCst);
         }
     }
 
@@ -68,6 +72,14 @@ impl CopyRoom {
         if let Some(place) = self.places.as_slice().get(server.index()) {
             place.entries.store(0, Ordering::SeqCst);
             place.follows.store(false, Ordering::SeqCst);
+        }
+    }
+
+    /// The file of the store of that server is gone.
+    pub(crate) fn note_gone(&self, server: ServerId) {
+        self.lose(server);
+        if let Some(place) = self.places.as_slice().get(server.index()) {
+            place.is_gone.store(true, Ordering::SeqCst);
         }
     }
 
@@ -111,6 +123,7 @@ impl CopyRoom {
             server,
             follows: place.follows.load(Ordering::SeqCst),
             behind: entries.saturating_sub(place.entries.load(Ordering::SeqCst)),
+            is_there: !place.is_gone.load(Ordering::SeqCst),
         })
     }
 

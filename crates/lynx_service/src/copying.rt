@@ -1,16 +1,29 @@
 //! The thread that copies: what servers add is appended to stores of their own in another folder.
+use crate::connections::Connections;
 use crate::copies::{Copy, CopyFolder};
 use crate::fault::{CopyWord, ServeFault};
-use crate::hall::Hall;
-use crate::limits::COPY_MILLIS;
-use crate::tally::Tally;
+use crate::limits::{COPY_LOOK_MILLIS, COPY_MILLIS};
+use crate::metrics::Metrics;
 use lynx_cluster::Front;
 use lynx_keep::BatchKeeper;
+use lynx_names::ServerId;
 use lynx_server::Server;
 use lynx_store_files::Stores;
 use std::sync::{Mutex, Wait};
 use std::thread;
-use std::time::{Clock, Duration};
+use std::time::{Clock, Duration, Instant};
+
+/// Whether a second has gone by since the files of the stores were looked at. So it is where no
+/// clock can tell.
+fn is_due<R: Clock>(rt: &R, looked: Option<Instant>) -> bool {
+    let Some(looked) = looked else {
+        return true;
+    };
+    match looked.elapsed(rt) {
+        Ok(elapsed) => elapsed >= Duration::from_millis(COPY_LOOK_MILLIS),
+        Err(_) => true,
+    }
+}
 
 /// The stores that follow the servers of a cluster.
 #[derive(Drop)]
@@ -36,10 +49,20 @@ impl<'a, K: BatchKeeper + Drop, S: Stores<K>> Copier<'a, K, S> {
 
     /// Copies until nobody is served any more: a turn each tenth of a second, and at once after one
     /// that had more to do.
-    pub(crate) fn run<R: Wait + Clock>(&self, rt: &R, front: &Front<K, Tally<R>>, hall: &Hall) {
+    pub(crate) fn run<R: Wait + Clock>(
+        &self,
+        rt: &R,
+        front: &Front<K, Metrics<R>>,
+        connections: &Connections,
+    ) {
+        let mut looked = None;
         for _ in rt.forever() {
-            if hall.door().is_closed() && hall.clients(rt) == 0 {
+            if connections.are_closed() && connections.clients(rt) == 0 {
                 break;
+            }
+            if is_due(rt, looked) {
+                self.look(rt);
+                looked = Instant::now(rt).ok();
             }
             if !self.turn(rt, front) {
                 thread::sleep(rt, Duration::from_millis(COPY_MILLIS));
@@ -47,9 +70,19 @@ impl<'a, K: BatchKeeper + Drop, S: Stores<K>> Copier<'a, K, S> {
         }
     }
 
+    /// Looks whether the files of the stores are still there. The first that isn't is told.
+    fn look<R: Wait>(&self, rt: &R) -> Option<(ServerId, CopyWord)> {
+        let mut gone = None;
+        let mut copies = self.copies.lock(rt);
+        for copy in copies.iter_mut() {
+            gone = gone.or(copy.look(&self.folder));
+        }
+        gone
+    }
+
     /// One turn: the stores are closed where they are to be, or those that don't follow are opened
     /// again, and all get what their servers did meanwhile. Whether some may have more.
-    fn turn<R: Wait + Clock>(&self, rt: &R, front: &Front<K, Tally<R>>) -> bool {
+    fn turn<R: Wait + Clock>(&self, rt: &R, front: &Front<K, Metrics<R>>) -> bool {
         if let Some(number) = self.folder.room.pause() {
             self.pause(rt, number);
             return false;
@@ -70,6 +103,7 @@ impl<'a, K: BatchKeeper + Drop, S: Stores<K>> Copier<'a, K, S> {
             return;
         }
         if self.close(rt) {
+            self.forget_files(rt);
             room.note_pause(number);
             self.folder.log.copy_paused();
         } else {
@@ -77,25 +111,46 @@ impl<'a, K: BatchKeeper + Drop, S: Stores<K>> Copier<'a, K, S> {
         }
     }
 
+    /// Other files may stand there once the stores are opened again.
+    fn forget_files<R: Wait>(&self, rt: &R) {
+        let mut copies = self.copies.lock(rt);
+        for copy in copies.iter_mut() {
+            copy.forget_file();
+        }
+    }
+
+    /// Has the stores that aren't paused follow to the end. Those that don't follow are opened
+    /// before. The first whose store lacks something then is told.
+    fn catch_up<R: Wait + Clock>(
+        &self,
+        rt: &R,
+        front: &Front<K, Metrics<R>>,
+    ) -> Option<(ServerId, CopyWord)> {
+        if self.folder.room.pause().is_some() {
+            return None;
+        }
+        let mut lacking = None;
+        let mut copies = self.copies.lock(rt);
+        for copy in copies.iter_mut() {
+            copy.catch_up(rt, front, &self.folder);
+            lacking = lacking.or(copy.lacking(rt, front));
+        }
+        lacking
+    }
+
     /// Appends the rest of what all servers did, once they do nothing more, and closes the stores.
-    /// Those that don't follow are opened before, unless they are paused. The first server whose
-    /// store lacks something then is told.
+    /// The first server whose store is gone then is told, or else the first whose store lacks
+    /// something.
     pub(crate) fn finish<R: Wait + Clock>(
         &self,
         rt: &R,
-        front: &Front<K, Tally<R>>,
+        front: &Front<K, Metrics<R>>,
     ) -> Result<(), ServeFault> {
-        let mut lacking = None;
-        if self.folder.room.pause().is_none() {
-            let mut copies = self.copies.lock(rt);
-            for copy in copies.iter_mut() {
-                copy.catch_up(rt, front, &self.folder);
-                lacking = lacking.or(copy.lacking(rt, front));
-            }
-        }
+        self.look(rt);
+        let lacking = self.catch_up(rt, front);
         self.close(rt);
-        match lacking {
-            Some(server) => Err(ServeFault::of_copy(server, CopyWord::Behind)),
+        match self.look(rt).or(lacking) {
+            Some((server, word)) => Err(ServeFault::of_copy(server, word)),
             None => Ok(()),
         }
     }

@@ -1,5 +1,9 @@
 //! The desk of one client: its session with a cluster.
+ghost use Rattle.std.specs.Prelude.{◌≡◌, ◌≤◌, [], length, map, vec_capacity};
+ghost use Rattle.lynx_service.specs.Desks.{stopped};
+
 use crate::ending::Ending;
+use crate::store_files::StoreFiles;
 use lynx_cluster::{Front, Gate, Session};
 use lynx_codec::Looked;
 use lynx_entry::{Answer, Request};
@@ -10,14 +14,33 @@ use std::alloc::Global;
 use std::sync::Wait;
 use std::time::Clock;
 
-/// A client's session, the cluster that it asks, and the ending that it may ask for. It must be
-/// taken apart, since the session must be spent.
+/// What is answered to a request where all servers stopped.
+fn stopped(_request: Request) -> Answer
+    ensures { result ≡ stopped _request }
+{
+    Answer::Stopped
+}
+
+/// Answers each of these requests so.
+fn stop_all(requests: Vec<Request>, answers: &mut Vec<Answer>)
+    requires empty { answers.old.items ≡ [] }
+    requires room { length requests.items ≤ vec_capacity answers.old }
+    ensures { answers.new.items ≡ map stopped requests.items }
+{
+    for request in requests {
+        answers.push_reserved(stopped(request));
+    }
+}
+
+/// A client's session, the cluster that it asks, the ending that it may ask for, and the files of
+/// the stores. It must be taken apart, since the session must be spent.
 pub struct ClientDesk<'a, R: Wait + Clock, K: BatchKeeper, G: Gate> {
     pub rt: &'a R,
     pub alloc: Global,
     pub front: &'a Front<K, G>,
     pub session: Session,
     pub ending: &'a Ending,
+    pub files: &'a StoreFiles,
 }
 
 impl<'a, R: Wait + Clock, K: BatchKeeper, G: Gate> Desk for ClientDesk<'a, R, K, G> {
@@ -31,11 +54,18 @@ impl<'a, R: Wait + Clock, K: BatchKeeper, G: Gate> Desk for ClientDesk<'a, R, K,
         found new.session };
 
     fn begin(&mut self, request: Request) -> Answer {
+        if self.files.are_gone() {
+            return Answer::Stopped;
+        }
         self.front
             .begin(self.rt, self.alloc, &mut self.session, request)
     }
 
     fn begin_all(&mut self, requests: Vec<Request>, answers: &mut Vec<Answer>) {
+        if self.files.are_gone() {
+            stop_all(requests, answers);
+            return;
+        }
         self.front
             .begin_all(self.rt, self.alloc, &mut self.session, requests, answers);
     }

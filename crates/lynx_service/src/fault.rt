@@ -35,6 +35,9 @@ pub enum StoreWord {
     Damaged(Damage),
     #[error("store")]
     Store,
+    /// Its name leads to nothing any more, or to another file than the one that is served.
+    #[error("gone")]
+    Gone,
 }
 
 /// Why a store can't follow a server.
@@ -54,6 +57,9 @@ pub enum CopyWord {
     /// In the end it lacks something of what the server did.
     #[error("behind")]
     Behind,
+    /// Its name leads to nothing any more, or to another file than the one that follows.
+    #[error("gone")]
+    Gone,
     #[error("memory")]
     Memory,
 }

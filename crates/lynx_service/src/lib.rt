@@ -3,34 +3,42 @@
 //! is closed, which audits what all were told.
 #![tactic(auto)]
 
-pub use closing::last_words;
+pub use closing::{last_words, order_line};
 pub use desk::ClientDesk;
 pub use ending::Ending;
 pub use fault::{CloseWord, CopyWord, Damage, ServeFault, StoreWord};
 pub use limits::{
-    COPY_RETRY_SECONDS, MAX_CLIENTS, MAX_CLOSING_SECONDS, MAX_IDLE_SECONDS, MAX_SHUT_SECONDS,
-    MAX_WATCH_SECONDS, MAX_WATCHERS, MAX_WRITE_SECONDS, MOST_COPIED,
+    BRIEF_MILLIS, COPY_RETRY_SECONDS, MAX_BRIEF_WATCHERS, MAX_CLIENTS, MAX_CLOSING_SECONDS,
+    MAX_IDLE_SECONDS, MAX_SHUT_SECONDS, MAX_WATCH_SECONDS, MAX_WATCHERS, MAX_WRITE_SECONDS,
+    MOST_COPIED,
 };
-pub use log::Log;
+pub use log::{Log, LogFault, LogPlace};
 pub use progress::Progress;
 pub use service::{Service, StatusPort, serve_stores};
+pub use store_files::StoreFiles;
 
 mod accepting;
 pub mod closing;
+mod connections;
 mod copies;
 mod copy_room;
 mod copying;
 pub mod desk;
 pub mod ending;
 pub mod fault;
-mod hall;
+mod file_limit;
+mod identity;
 pub mod limits;
+mod line_place;
 pub mod log;
+mod log_file;
+mod metrics;
 mod opening;
 mod patience;
 pub mod progress;
+mod readiness;
 pub mod service;
 mod status;
+pub mod store_files;
 mod talking;
-mod tally;
 mod watching;

@@ -1,11 +1,15 @@
-//! The log of a service: a line on standard error for each event of its life.
+//! The log of a service: a line for each event of its life.
 use crate::fault::CopyWord;
+use crate::line_place::{LinePlace, SharedLines, StandardError};
+use crate::log_file::LogFile;
 use jiff::Timestamp;
 use lynx_keep::Cause;
-use lynx_names::ServerId;
+use lynx_names::{Memory, ServerId};
 use std::alloc::AllocError;
+use std::io;
 use std::net::SocketAddr;
 use std::rt::HostRuntime;
+use std::sync::Arc;
 use std::time::{Duration, SystemTime};
 
 /// Why a client's connection ended.
@@ -39,19 +43,118 @@ impl Leave {
     }
 }
 
-/// What befalls a service, told on standard error where that is wanted: a line for each event, its
-/// time first (RFC 3339, in UTC), then `event=WORD` and `key=value` words. What can't be written is
-/// not told.
+/// Why a client couldn't be taken.
 #[derive(Clone, Copy)]
+pub(crate) enum Want {
+    /// No thread could be made for it.
+    Thread,
+    /// Memory was wanting for it.
+    Memory,
+}
+
+impl Want {
+    /// What is said of it in the log.
+    fn words(self) -> &'static str {
+        match self {
+            Want::Thread => "no thread",
+            Want::Memory => "out of memory",
+        }
+    }
+}
+
+/// Where the log of a service goes.
+#[derive(Clone, Copy, Debug, PartialEq, Eq)]
+pub enum LogPlace<'a> {
+    /// No log is kept.
+    Nowhere,
+    /// On standard error.
+    StandardError,
+    /// At the end of the file of that name.
+    File(&'a str),
+}
+
+/// Why a service can't have its log.
+#[derive(Clone, Copy, Debug, PartialEq, Eq)]
+pub enum LogFault {
+    /// Its file can't be opened, or is no regular file.
+    File,
+    /// Want of memory.
+    Memory,
+}
+
+impl From<Memory> for LogFault {
+    fn from(_: Memory) -> LogFault {
+        LogFault::Memory
+    }
+}
+
+/// The place, as threads share it.
+fn shared<P: LinePlace + Drop>(rt: HostRuntime, place: P) -> Result<Arc<SharedLines<P>>, Memory> {
+    Ok(Arc::new(rt.alloc(), SharedLines::new(rt, place))?)
+}
+
+/// The lines of the file of that name.
+fn lines_of_file(rt: HostRuntime, name: &str) -> Result<Arc<SharedLines<LogFile>>, LogFault> {
+    let Ok(path) = String::from_str(rt.alloc(), name) else {
+        return Err(LogFault::Memory);
+    };
+    let Ok(file) = LogFile::open(&rt, path) else {
+        return Err(LogFault::File);
+    };
+    Ok(shared(rt, file)?)
+}
+
+/// The events of a service, each told by a line: its time first (RFC 3339, in UTC), then
+/// `event=WORD` and `key=value` words. A line that can't be written within a second is dropped, and
+/// counted.
+#[derive(Drop)]
 pub struct Log {
     rt: HostRuntime,
     is_kept: bool,
+    errors: Arc<SharedLines<StandardError>>,
+    /// Where a file takes the lines.
+    file: Option<Arc<SharedLines<LogFile>>>,
 }
 
 impl Log {
-    /// Of this program; silent where no log is wanted.
-    pub fn new(rt: HostRuntime, is_kept: bool) -> Log {
-        Log { rt, is_kept }
+    /// Of this program, at that place. A file is made where there is none.
+    pub fn new(rt: HostRuntime, place: LogPlace<'_>) -> Result<Log, LogFault> {
+        let errors = shared(rt, StandardError::new())?;
+        let file = match place {
+            LogPlace::Nowhere | LogPlace::StandardError => None,
+            LogPlace::File(name) => Some(lines_of_file(rt, name)?),
+        };
+        let is_kept = place != LogPlace::Nowhere;
+        Ok(Log {
+            rt,
+            is_kept,
+            errors,
+            file,
+        })
+    }
+
+    /// The same, for one more thread.
+    pub(crate) fn share(&self) -> Result<Log, Memory> {
+        let errors = self.errors.clone()?;
+        let file = match &self.file {
+            Some(file) => Some(file.clone()?),
+            None => None,
+        };
+        Ok(Log {
+            rt: self.rt,
+            is_kept: self.is_kept,
+            errors,
+            file,
+        })
+    }
+
+    /// How many lines were dropped.
+    pub(crate) fn dropped(&self) -> u64 {
+        let dropped = self.errors.dropped();
+        match &self.file {
+            Some(file) => dropped.saturating_add(file.dropped()),
+            None => dropped,
+        }
     }
 
     /// Writes a line of these words, in one piece, so that lines of threads don't mix.
@@ -65,8 +168,34 @@ impl Log {
         let Ok(time) = Timestamp::try_from(now) else {
             return;
         };
-        if let Ok(line) = format!(in self.rt.alloc(); "{time} {words}\n") {
-            let _ = eprint!(self.rt; "{line}");
+        let Ok(line) = format!(in self.rt.alloc(); "{time} {words}\n") else {
+            return;
+        };
+        match &self.file {
+            Some(file) => file.write(line.as_str()),
+            None => self.errors.write(line.as_str()),
+        }
+    }
+
+    /// Writes a line of these words on standard error where no log is kept, since nothing else
+    /// tells them.
+    fn write_bare(&self, words: Result<String, AllocError>) {
+        let Ok(words) = words else {
+            return;
+        };
+        if let Ok(line) = format!(in self.rt.alloc(); "lynx: {words}\n") {
+            self.errors.write(line.as_str());
+        }
+    }
+
+    /// No file can grow beyond so many bytes: the write that would make one greater ends this
+    /// program, and nothing can be told then.
+    pub(crate) fn bounded(&self, bytes: u64) {
+        let alloc = self.rt.alloc();
+        if self.is_kept {
+            self.write(format!(in alloc; "event=file-limit bytes={bytes}"));
+        } else {
+            self.write_bare(format!(in alloc; "no file can grow beyond {bytes} bytes"));
         }
     }
 
@@ -104,6 +233,19 @@ impl Log {
         self.write(format!(in alloc; "event=full-house clients={clients}"));
     }
 
+    /// A client couldn't be taken, which the system tells so. The first is told, until one could.
+    pub(crate) fn untaken(&self, error: &io::Error) {
+        let alloc = self.rt.alloc();
+        self.write(format!(in alloc; "event=turned-away cause=\"{error}\""));
+    }
+
+    /// The same, of one that was hung up on for want of that.
+    pub(crate) fn turned_away(&self, want: Want) {
+        let alloc = self.rt.alloc();
+        let words = want.words();
+        self.write(format!(in alloc; "event=turned-away cause=\"{words}\""));
+    }
+
     /// A client went, which leaves so many.
     pub(crate) fn gone(&self, leave: Leave, clients: u64) {
         let alloc = self.rt.alloc();
@@ -124,6 +266,19 @@ impl Log {
         self.write(words);
     }
 
+    /// The name of that server's store leads to nothing, or to another file: no server answers a
+    /// begin any more.
+    pub(crate) fn store_gone(&self, server: ServerId) {
+        let alloc = self.rt.alloc();
+        let server = server.number();
+        self.write(format!(in alloc; "event=store-gone server={server} file=server-{server}.lynx"));
+    }
+
+    /// There is no thread that would look whether the stores are still there.
+    pub(crate) fn no_guard_thread(&self) {
+        self.write(format!(in self.rt.alloc(); "event=unguarded fault=no-thread"));
+    }
+
     /// The store that follows the server does, from so many entries on.
     pub(crate) fn copying(&self, server: ServerId, entries: u64) {
         let alloc = self.rt.alloc();
@@ -137,7 +292,7 @@ impl Log {
         if self.is_kept {
             self.write(format!(in self.rt.alloc(); "event=copy-failed fault=no-thread"));
         } else {
-            let _ = eprintln!(self.rt; "lynx: copy: no thread");
+            self.write_bare(format!(in self.rt.alloc(); "copy: no thread"));
         }
     }
 
@@ -152,7 +307,7 @@ impl Log {
         let alloc = self.rt.alloc();
         let server = server.number();
         if !self.is_kept {
-            let _ = eprintln!(self.rt; "lynx: copy {server}: {word}");
+            self.write_bare(format!(in alloc; "copy {server}: {word}"));
             return;
         }
         let words = match cause {

@@ -208,13 +208,14 @@ fn listen_to_watchers<R: Net<Listener = TcpListener, Stream = TcpStream>>(
     })
 }
 
-/// Listens at the port of this machine itself, and gives the address, in which a port 0 is one that
-/// was free.
+/// Listens at the port of this machine itself, without blocking, and gives the address, in which a
+/// port 0 is one that was free.
 fn listen<R: Net<Listener = TcpListener, Stream = TcpStream>>(
     rt: &R,
     port: u16,
 ) -> io::Result<(TcpListener, SocketAddr)> {
     let listener = TcpListener::bind(rt, (Ipv4Addr::LOCALHOST, port))?;
+    listener.set_nonblocking(true)?;
     let address = listener.local_addr()?;
     Ok((listener, address))
 }

@@ -1,4 +1,6 @@
 //! Reading what a client sends and writing what it is answered, with patience that ends.
+ghost use Rattle.std.specs.Prelude.{◌≡◌};
+
 use crate::ending::Ending;
 use crate::limits::{
     MAX_IDLE_SECONDS, MAX_SHUT_SECONDS, MAX_WATCH_SECONDS, MAX_WRITE_SECONDS, TICK_MILLIS,
@@ -29,20 +31,16 @@ fn is_tick(error: &io::Error) -> bool {
 /// What a client sends over a stream whose reads end after [`TICK_MILLIS`]. Where the client is
 /// silent for too long, or the service ended long enough ago, its input has ended.
 #[derive(Drop)]
-pub(crate) struct PatientReader<'a, R> {
+pub(crate) struct PatientReader<'a, R, I> {
     rt: &'a R,
-    stream: &'a TcpStream,
+    stream: I,
     ending: &'a Ending,
     is_over: bool,
 }
 
-impl<'a, R> PatientReader<'a, R> {
+impl<'a, R, I> PatientReader<'a, R, I> {
     /// Of this stream, in a service of that ending.
-    pub(crate) fn new(
-        rt: &'a R,
-        stream: &'a TcpStream,
-        ending: &'a Ending,
-    ) -> PatientReader<'a, R> {
+    pub(crate) fn new(rt: &'a R, stream: I, ending: &'a Ending) -> PatientReader<'a, R, I> {
         PatientReader {
             rt,
             stream,
@@ -57,14 +55,13 @@ impl<'a, R> PatientReader<'a, R> {
     }
 }
 
-impl<R: Wait + Clock> Read for PatientReader<'_, R> {
+impl<R: Wait + Clock, I: Read> Read for PatientReader<'_, R, I> {
     fn read(&mut self, buf: &mut [u8]) -> io::Result<usize> {
         for tick in 0..IDLE_TICKS {
             if self.ending.is_over(self.rt) {
                 break;
             }
-            let mut stream = self.stream;
-            match stream.read(buf) {
+            match self.stream.read(buf) {
                 Err(error) if is_tick(&error) => {
                     if tick >= SHUT_TICKS && self.ending.is_asked() {
                         break;
@@ -86,16 +83,24 @@ pub(crate) struct BriefReader<'a, R> {
     stream: &'a TcpStream,
     ending: &'a Ending,
     since: Option<Instant>,
+    /// For how long it is read.
+    most: Duration,
 }
 
 impl<'a, R: Clock> BriefReader<'a, R> {
-    /// Of this stream, in a service of that ending, from now on.
-    pub(crate) fn new(rt: &'a R, stream: &'a TcpStream, ending: &'a Ending) -> BriefReader<'a, R> {
+    /// Of this stream, in a service of that ending, for so long from now on.
+    pub(crate) fn new(
+        rt: &'a R,
+        stream: &'a TcpStream,
+        ending: &'a Ending,
+        most: Duration,
+    ) -> BriefReader<'a, R> {
         BriefReader {
             rt,
             stream,
             ending,
             since: Instant::now(rt).ok(),
+            most,
         }
     }
 
@@ -105,7 +110,7 @@ impl<'a, R: Clock> BriefReader<'a, R> {
             return true;
         };
         match since.elapsed(self.rt) {
-            Ok(elapsed) => elapsed >= Duration::from_secs(MAX_WATCH_SECONDS),
+            Ok(elapsed) => elapsed >= self.most,
             Err(_) => true,
         }
     }
@@ -130,35 +135,50 @@ impl<R: Clock> Read for BriefReader<'_, R> {
 /// What a client is sent over a stream whose writes end after [`TICK_MILLIS`]. Where bytes that it
 /// is to take don't go for too long, or the service ended long enough ago, no more can be written.
 #[derive(Drop)]
-pub(crate) struct PatientWriter<'a, R> {
+pub(crate) struct PatientWriter<'a, R, W> {
     rt: &'a R,
-    stream: &'a TcpStream,
+    stream: W,
     ending: &'a Ending,
     /// Bytes that went, of all who write.
     told: &'a AtomicU64,
     /// When the first byte didn't go, where some still don't.
     since: Option<Instant>,
+    /// For how long bytes may not go.
+    most: Duration,
 }
 
-impl<'a, R: Wait + Clock> PatientWriter<'a, R> {
-    /// Of this stream, in a service of that ending.
+impl<'a, R: Wait + Clock, W: Write> PatientWriter<'a, R, W> {
+    /// Of this stream, in a service of that ending. Bytes may not go for so long at most.
     pub(crate) fn new(
         rt: &'a R,
-        stream: &'a TcpStream,
+        stream: W,
         ending: &'a Ending,
         told: &'a AtomicU64,
-    ) -> PatientWriter<'a, R> {
+        most: Duration,
+    ) -> PatientWriter<'a, R, W>
+        ensures { result.stream ≡ stream }
+    {
         PatientWriter {
             rt,
             stream,
             ending,
             told,
             since: None,
+            most,
         }
     }
 
+    /// The stream, out of it.
+    pub(crate) fn into_stream(self) -> W
+        ensures { result ≡ self.entry.stream }
+    {
+        self.stream
+    }
+
     /// Notes whether all bytes of a write went.
-    fn note(&mut self, all_went: bool) {
+    fn note(&mut self, all_went: bool)
+        ensures { self.new.stream ≡ self.old.stream }
+    {
         if all_went {
             self.since = None;
         } else if self.since.is_none() {
@@ -171,7 +191,7 @@ impl<'a, R: Wait + Clock> PatientWriter<'a, R> {
         match self.since {
             Some(since) => {
                 let is_long = match since.elapsed(self.rt) {
-                    Ok(elapsed) => elapsed >= Duration::from_secs(MAX_WRITE_SECONDS),
+                    Ok(elapsed) => elapsed >= self.most,
                     Err(_) => true,
                 };
                 is_long || self.ending.is_over(self.rt)
@@ -181,14 +201,15 @@ impl<'a, R: Wait + Clock> PatientWriter<'a, R> {
     }
 }
 
-impl<R: Wait + Clock> Write for PatientWriter<'_, R> {
+impl<R: Wait + Clock, W: Write> Write for PatientWriter<'_, R, W> {
+    ghost contents = { λ writer. W.contents writer.stream };
+
     fn write(&mut self, buf: &[u8]) -> io::Result<usize> {
         for _ in 0..=WRITE_TICKS {
             if self.is_over() {
                 break;
             }
-            let mut stream = self.stream;
-            match stream.write(buf) {
+            match self.stream.write(buf) {
                 Ok(count) => {
                     self.told.fetch_add(count as u64, Ordering::SeqCst);
                     self.note(count >= buf.len());
@@ -202,6 +223,6 @@ impl<R: Wait + Clock> Write for PatientWriter<'_, R> {
     }
 
     fn flush(&mut self) -> io::Result<()> {
-        Ok(())
+        self.stream.flush()
     }
 }

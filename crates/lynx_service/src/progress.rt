@@ -24,14 +24,14 @@ struct Way {
 #[derive(Drop)]
 pub struct Progress<'a> {
     rt: &'a HostRuntime,
-    log: Log,
+    log: &'a Log,
     is_shown: bool,
     way: Mutex<Way>,
 }
 
 impl<'a> Progress<'a> {
     /// Of this program, and of what is about to begin.
-    pub fn new(rt: &'a HostRuntime, log: Log) -> Progress<'a> {
+    pub fn new(rt: &'a HostRuntime, log: &'a Log) -> Progress<'a> {
         Progress {
             rt,
             log,

@@ -4,7 +4,7 @@ ghost use Rattle.lynx_cluster.specs.Starting.{AreOpened};
 ghost use Rattle.lynx_store_files.specs.Folders.{StandIn};
 ghost use Rattle.lynx_weave.specs.Senders.{AreAllSent};
 ghost use Rattle.lynx_weave.specs.Servers.{AreServersOf, histories_of};
-ghost use Rattle.lynx_service.specs.Services.{AppendsSome, HasServed};
+ghost use Rattle.lynx_service.specs.Services.{AppendsListening, HasServed};
 
 use crate::accepting::{Ports, serve_clients};
 use crate::closing::{end, end_unheard};
@@ -12,10 +12,12 @@ use crate::copies::CopyFolder;
 use crate::copy_room::CopyRoom;
 use crate::copying::Copier;
 use crate::fault::ServeFault;
+use crate::file_limit::file_limit;
 use crate::log::Log;
+use crate::metrics::Metrics;
 use crate::opening::{find_all, judge, keepers, listen_at_all};
 use crate::progress::Progress;
-use crate::tally::Tally;
+use crate::store_files::StoreFiles;
 use lynx_cluster::{Cluster, Host, Opened, Pace, Session};
 use lynx_keep::BatchKeeper;
 use lynx_lines::write_bytes;
@@ -24,10 +26,11 @@ use lynx_order::Explained;
 use lynx_server::Server;
 use lynx_set::ChainSet;
 use lynx_store_files::Stores;
-use std::alloc::Global;
+use std::alloc::{AllocError, Global};
 use std::hash::RandomState;
 use std::io::{ErrorKind, Write};
 use std::net::{Net, TcpListener, TcpStream};
+use std::rt::HostRuntime;
 use std::sync::Wait;
 use std::thread::Threads;
 use std::time::Instant;
@@ -45,6 +48,8 @@ pub struct Service<'a> {
     pub copy: Option<&'a str>,
     /// How many steps of a server share a transaction of its store.
     pub pace: Pace,
+    /// The line of the order isn't written: whoever serves writes it to a file of its own.
+    pub is_order_apart: bool,
 }
 
 /// A port of 127.0.0.1 at which a service tells its status over HTTP.
@@ -57,6 +62,14 @@ pub struct StatusPort {
     pub version: &'static str,
 }
 
+/// Where clients are listened to, and where the status is told, in lines.
+fn places(alloc: Global, ports: &Ports) -> Result<String, AllocError> {
+    match ports.watch_address() {
+        Some(status) => format!(in alloc; "{}\nstatus {status}\n", ports.address),
+        None => format!(in alloc; "{}\n", ports.address),
+    }
+}
+
 /// Tells clients that they are listened to, and where: by the board, and by a line; and by another
 /// where the status is told.
 fn write_listening<W: Write>(
@@ -65,7 +78,7 @@ fn write_listening<W: Write>(
     board: &Board<'_>,
     writer: &mut W,
 ) -> Result<(), ServeFault>
-    ensures { OnOk result (AppendsSome (W.contents writer.old) (W.contents writer.new)) }
+    ensures { OnOk result (AppendsListening (W.contents writer.old) (W.contents writer.new)) }
 {
     let status = ports.watch_address();
     match board.put_up(ports.address, status) {
@@ -73,11 +86,8 @@ fn write_listening<W: Write>(
         Err(error) if error.kind() == ErrorKind::OutOfMemory => return Err(ServeFault::Memory),
         Err(_) => return Err(ServeFault::Board),
     }
-    let mut lines = format!(in alloc; "listening {}\n", ports.address)?;
-    if let Some(status) = status {
-        let line = format!(in alloc; "status {status}\n")?;
-        lines.push_str(line.as_str())?;
-    }
+    let mut lines = String::from_str(alloc, "listening ")?;
+    lines.push_str(places(alloc, ports)?.as_str())?;
     write_bytes(writer, lines.as_bytes())?;
     match writer.flush() {
         Ok(()) => Ok(()),
@@ -95,21 +105,22 @@ fn serve_when_told<
 >(
     rt: &R,
     alloc: Global,
-    cluster: &Cluster<K, Tally<R>>,
+    cluster: &Cluster<K, Metrics<R>>,
     ports: &Ports,
     board: &Board<'_>,
-    log: Log,
+    log: &Log,
+    files: &StoreFiles,
     copier: Option<&Copier<'_, K, S>>,
     writer: &mut W,
 ) -> (Vec<Session>, Result<(), ServeFault>)
-    ensures { OnOk result.1 (AppendsSome (W.contents writer.old) (W.contents writer.new)) }
+    ensures { OnOk result.1 (AppendsListening (W.contents writer.old) (W.contents writer.new)) }
 {
     let written = write_listening(alloc, ports, board, writer);
     let sessions = match written {
         Ok(()) => {
             log.listening(ports.address, ports.watch_address());
-            let sessions = serve_clients(rt, alloc, cluster.front(), ports, board, log, copier);
             let front = cluster.front();
+            let sessions = serve_clients(rt, alloc, front, ports, board, log, files, copier);
             log.closing(front.gate().all_owed(front.set()));
             sessions
         }
@@ -154,8 +165,15 @@ fn open_all<
     Ok((opened, ports))
 }
 
+/// Tells that files can't grow beyond a limit, where that is so.
+fn tell_file_limit(log: &Log) {
+    if let Some(bytes) = file_limit() {
+        log.bounded(bytes);
+    }
+}
+
 /// Tells which servers go on, and behind how much.
-fn tell_opened<K: BatchKeeper>(log: Log, servers: &[Server<K>]) {
+fn tell_opened<K: BatchKeeper>(log: &Log, servers: &[Server<K>]) {
     for server in servers {
         log.opened(server.server(), server.history().len());
     }
@@ -163,18 +181,20 @@ fn tell_opened<K: BatchKeeper>(log: Log, servers: &[Server<K>]) {
 
 /// The stores of the folder that is to follow, if one is, opened behind these servers.
 fn open_copier<'a, K: BatchKeeper + Drop, S: Stores<K>>(
+    host: &'a HostRuntime,
     alloc: Global,
     set: &'a ChainSet,
     stores: &'a S,
     service: Service<'a>,
     servers: &[Server<K>],
     room: &'a CopyRoom,
-    log: Log,
+    log: &'a Log,
 ) -> Result<Option<Copier<'a, K, S>>, ServeFault> {
     let Some(folder) = service.copy else {
         return Ok(None);
     };
     let folder = CopyFolder {
+        host,
         alloc,
         stores,
         set,
@@ -190,7 +210,7 @@ fn open_copier<'a, K: BatchKeeper + Drop, S: Stores<K>>(
 fn finish<R: Host, K: BatchKeeper + Send + Drop, S: Stores<K>>(
     rt: &R,
     alloc: Global,
-    cluster: &mut Cluster<K, Tally<R>>,
+    cluster: &mut Cluster<K, Metrics<R>>,
     copier: Option<Copier<'_, K, S>>,
 ) -> Result<(), ServeFault>
     ensures { cluster.new ≡ cluster.old }
@@ -202,13 +222,25 @@ fn finish<R: Host, K: BatchKeeper + Send + Drop, S: Stores<K>>(
     }
 }
 
+/// Looks once more whether all stores are where their names lead, now that nothing more is stored.
+/// The first that isn't is told, or else what is wrong with the folder that follows.
+fn check_kept<R: Host>(
+    rt: &R,
+    files: &StoreFiles,
+    log: &Log,
+    copied: Result<(), ServeFault>,
+) -> Result<(), ServeFault> {
+    files.check(rt, log)?;
+    copied
+}
+
 /// Serves clients over the stores of a folder, until one of them asks for the end: opens the stores
 /// that are there, side by side; listens at the port; makes the stores of a new folder; looks
 /// whether all stores fit together; tells on the board where it listens and what it serves, and
 /// writes `listening 127.0.0.1:PORT`, and where its status is told `status 127.0.0.1:PORT`; takes
 /// the board's notice down as soon as a shut was read; and writes in the end `closed` and the line
-/// of the order that explains all that the stores hold, or of a cycle. It gives that order or
-/// cycle. docs/FORMATS.md has what clients send and are sent,
+/// of the order that explains all that the stores hold, or of a cycle, unless that goes apart. It
+/// gives that order or cycle. docs/FORMATS.md has what clients send and are sent,
 /// [`limits`](crate::limits) what a client may cost. The set is not judged.
 ///
 /// Stores that no one run left together are a mismatch, before anybody is served: one that is an
@@ -221,6 +253,11 @@ fn finish<R: Host, K: BatchKeeper + Send + Drop, S: Stores<K>>(
 /// before anybody is served, and left as it is. One that fails later is told in the log, and opened
 /// again a minute later; the service goes on. One that isn't paused and lacks something in the end
 /// is told behind all that is written.
+///
+/// Each second it is looked whether the names of the stores still lead to the files that it serves.
+/// Once one doesn't, each begin is answered that its server stopped, and in the end that is told
+/// behind all that is written; so it is of a store of the folder that follows, which follows no
+/// more.
 ///
 /// The close takes about as long, and as much memory, as opening the stores did; the answers of a
 /// session, and what its looks found, are kept until then.
@@ -238,23 +275,25 @@ pub fn serve_stores<
     writer: &mut W,
     progress: &Progress<'_>,
     board: &Board<'_>,
-    log: Log,
+    log: &Log,
 ) -> Result<Explained, ServeFault>
-    ensures { IfOk result (HasServed K.terms S.store_terms service.entry.folder.now set.now
-        (W.contents writer.old) (W.contents writer.new)) }
+    ensures { IfOk result (HasServed K.terms S.store_terms service.entry.folder.now
+        service.entry.is_order_apart set.now (W.contents writer.old) (W.contents writer.new)) }
 {
+    tell_file_limit(log);
     let opened = open_all(&rt, alloc, set, stores, service, progress);
     progress.ends();
     let (opened, ports) = opened?;
     tell_opened(log, opened.servers());
     let room = CopyRoom::new(alloc, set.servers())?;
     let servers = opened.servers();
-    let copier = open_copier(alloc, set, stores, service, servers, &room, log)?;
-    let tally = Tally::of(rt, alloc, log, opened.servers())?;
-    let mut cluster = opened.start(rt, alloc, tally, service.pace)?;
+    let copier = open_copier(board.rt, alloc, set, stores, service, servers, &room, log)?;
+    let files = StoreFiles::of(board.rt, alloc, service.folder, set)?;
+    let metrics = Metrics::of(rt, alloc, log, opened.servers())?;
+    let mut cluster = opened.start(rt, alloc, metrics, service.pace)?;
     let copying = copier.as_ref();
     let (sessions, written) = serve_when_told(
-        &rt, alloc, &cluster, &ports, board, log, copying, writer,
+        &rt, alloc, &cluster, &ports, board, log, &files, copying, writer,
     );
     drop(ports);
     progress.closes();
@@ -270,8 +309,8 @@ pub fn serve_stores<
     match closed {
         Ok(closed) => {
             log.audited(true, took);
-            let explained = end(alloc, stores, closed, writer)?;
-            copied?;
+            let explained = end(alloc, stores, closed, service.is_order_apart, writer)?;
+            check_kept(&rt, &files, log, copied)?;
             Ok(explained)
         }
         Err(fault) => {

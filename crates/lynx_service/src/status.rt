@@ -1,9 +1,11 @@
 //! What is known of a running service by whoever watches it.
 ghost use Rattle.std.specs.Prelude.{ℕ, List};
 
+use crate::connections::Connections;
 use crate::copy_room::CopyRoom;
-use crate::hall::Hall;
-use crate::tally::Tally;
+use crate::log::Log;
+use crate::metrics::Metrics;
+use crate::store_files::StoreFiles;
 use lynx_cluster::Front;
 use lynx_codec::Looked;
 use lynx_entry::Entry;
@@ -21,13 +23,15 @@ use std::time::{Clock, Instant};
 /// How many entries are shown of all servers together.
 const MOST_RECENT: usize = 100;
 
-/// A service that is watched: its cluster, its counts, and who is in.
+/// A service that is watched: its cluster, its counts, and who is connected.
 #[derive(Drop)]
 pub(crate) struct Status<'a, R: Wait + Clock, K: BatchKeeper> {
     pub(crate) rt: &'a R,
     pub(crate) alloc: Global,
-    pub(crate) front: &'a Front<K, Tally<R>>,
-    pub(crate) hall: &'a Hall,
+    pub(crate) front: &'a Front<K, Metrics<R>>,
+    pub(crate) connections: &'a Connections,
+    pub(crate) files: &'a StoreFiles,
+    pub(crate) log: &'a Log,
     /// Of the folder that follows, if one does.
     pub(crate) copies: Option<&'a CopyRoom>,
     /// The text of its set.
@@ -41,8 +45,10 @@ impl<'a, R: Wait + Clock, K: BatchKeeper> Status<'a, R, K> {
     pub(crate) fn new(
         rt: &'a R,
         alloc: Global,
-        front: &'a Front<K, Tally<R>>,
-        hall: &'a Hall,
+        front: &'a Front<K, Metrics<R>>,
+        connections: &'a Connections,
+        files: &'a StoreFiles,
+        log: &'a Log,
         copies: Option<&'a CopyRoom>,
         set: &'a [u8],
     ) -> Status<'a, R, K> {
@@ -50,7 +56,9 @@ impl<'a, R: Wait + Clock, K: BatchKeeper> Status<'a, R, K> {
             rt,
             alloc,
             front,
-            hall,
+            connections,
+            files,
+            log,
             copies,
             set,
             since: Instant::now(rt).ok(),
@@ -63,7 +71,9 @@ impl<'a, R: Wait + Clock, K: BatchKeeper> Status<'a, R, K> {
             rt: self.rt,
             alloc: self.alloc,
             front: self.front,
-            hall: self.hall,
+            connections: self.connections,
+            files: self.files,
+            log: self.log,
             copies: self.copies,
             set: self.set,
             since: self.since,
@@ -89,16 +99,16 @@ impl<'a, R: Wait + Clock, K: BatchKeeper> Status<'a, R, K> {
 
     /// The figures of one server. None where the cluster has no such server.
     fn server_figures(&self, server: ServerId) -> Option<ServerFigures> {
-        let tally = self.front.gate();
+        let metrics = self.front.gate();
         let glance = self.front.glance(self.rt, server)?;
-        let counts = tally.counts(server)?;
+        let counts = metrics.counts(server)?;
         Some(ServerFigures {
             server,
-            is_running: glance.is_running,
+            is_running: glance.is_running && !self.files.are_gone(),
             entries: glance.entries,
             clock: glance.clock,
             held: glance.held,
-            owed: tally.owed(self.front.set(), server),
+            owed: metrics.owed(self.front.set(), server),
             begins: counts.begins,
             deliveries: counts.deliveries,
             commits: counts.commits,
@@ -194,10 +204,11 @@ impl<R: Wait + Clock, K: BatchKeeper> Watched for Status<'_, R, K> {
         Ok(Figures {
             servers,
             copies,
-            connections: self.hall.clients(self.rt),
-            sessions: self.hall.sessions(),
-            told_bytes: self.hall.told_bytes(),
+            connections: self.connections.clients(self.rt),
+            sessions: self.connections.sessions(),
+            told_bytes: self.connections.told_bytes(),
             uptime_seconds: self.uptime_seconds(),
+            log_dropped: self.log.dropped(),
         })
     }
 
@@ -245,6 +256,6 @@ impl<R: Wait + Clock, K: BatchKeeper> Watched for Status<'_, R, K> {
     }
 
     fn is_ending(&self) -> bool {
-        self.hall.ending().is_asked()
+        self.connections.ending().is_asked()
     }
 }

@@ -1,17 +1,20 @@
 //! One client's connection, from its first byte to its end.
+ghost use Rattle.lynx_service.specs.Talks.{HasTalked};
+
+use crate::accepting::turn_away;
+use crate::connections::Connections;
 use crate::desk::ClientDesk;
-use crate::hall::{Door, Hall};
-use crate::limits::{RETRY_MILLIS, TICK_MILLIS};
-use crate::log::{Leave, Log};
+use crate::limits::{MAX_WRITE_SECONDS, TICK_MILLIS};
+use crate::log::{Leave, Log, Want};
 use crate::patience::{PatientReader, PatientWriter};
+use crate::store_files::StoreFiles;
 use lynx_cluster::{Front, Gate, Session};
 use lynx_keep::BatchKeeper;
 use lynx_port::{Desk, PortFault, Served, serve};
 use std::alloc::Global;
-use std::io::Read;
-use std::net::{Net, Shutdown, SocketAddr, TcpListener, TcpStream};
+use std::io::{Read, Write};
+use std::net::{Shutdown, TcpStream};
 use std::sync::Wait;
-use std::thread;
 use std::time::{Clock, Duration};
 
 /// Reads that are made of a client that has been told goodbye, at most, so that what it sent beyond
@@ -53,22 +56,43 @@ fn leave_of(done: Result<Served, PortFault>, was_silent: bool) -> Leave {
     }
 }
 
-/// Serves one client over its stream, and tells why that ended.
-fn serve_stream<R: Wait + Clock, D: Desk>(
+/// Serves one client that sends over one stream and is answered over another, which for a
+/// connection are the same. Gives back the other, and why that ended.
+fn serve_stream<R: Wait + Clock, I: Read, O: Write, D: Desk>(
+    rt: &R,
+    alloc: Global,
+    input: I,
+    output: O,
+    connections: &Connections,
+    desk: &mut D,
+) -> (O, Leave)
+where
+    I: Drop,
+    ensures { HasTalked D.begins D.looks desk.old desk.new (O.contents output)
+        (O.contents result.0) }
+{
+    let mut reader = PatientReader::new(rt, input, connections.ending());
+    let most = Duration::from_secs(MAX_WRITE_SECONDS);
+    let mut writer = PatientWriter::new(rt, output, connections.ending(), connections.told(), most);
+    let done = serve(alloc, &mut reader, &mut writer, desk);
+    let leave = leave_of(done, reader.is_over());
+    (writer.into_stream(), leave)
+}
+
+/// Serves one client over its connection, and tells why that ended.
+fn serve_connection<R: Wait + Clock, D: Desk>(
     rt: &R,
     alloc: Global,
     stream: &TcpStream,
-    hall: &Hall,
+    connections: &Connections,
     desk: &mut D,
 ) -> Leave {
     if !set_limits(stream) {
         return Leave::Limit;
     }
-    let mut reader = PatientReader::new(rt, stream, hall.ending());
-    let mut writer = PatientWriter::new(rt, stream, hall.ending(), hall.told());
-    let done = serve(alloc, &mut reader, &mut writer, desk);
+    let (stream, leave) = serve_stream(rt, alloc, stream, stream, connections, desk);
     hang_up(stream);
-    leave_of(done, reader.is_over())
+    leave
 }
 
 /// Serves one client by that session, which is given back, and tells why that ended.
@@ -78,69 +102,49 @@ fn serve_by<R: Wait + Clock, K: BatchKeeper + Drop, G: Gate + Drop>(
     front: &Front<K, G>,
     session: Session,
     stream: &TcpStream,
-    hall: &Hall,
+    connections: &Connections,
+    files: &StoreFiles,
 ) -> (Session, Leave) {
-    let ending = hall.ending();
+    let ending = connections.ending();
     let mut desk = ClientDesk {
         rt,
         alloc,
         front,
         session,
         ending,
+        files,
     };
-    let leave = serve_stream(rt, alloc, stream, hall, &mut desk);
+    let leave = serve_connection(rt, alloc, stream, connections, &mut desk);
     let ClientDesk {
         rt: _,
         alloc: _,
         front: _,
         session,
         ending: _,
+        files: _,
     } = desk;
     (session, leave)
 }
 
-/// Knocks at the port until its door is closed, so that who accepts sees that the service is
-/// to end. A knock takes a file handle, so it is made again where none is left: those of the other
-/// clients are given back within [`MAX_CLOSING_SECONDS`](crate::limits::MAX_CLOSING_SECONDS).
-pub(crate) fn knock<R: Wait + Clock + Net<Listener = TcpListener, Stream = TcpStream>>(
-    rt: &R,
-    door: &Door,
-    port: SocketAddr,
-) {
-    for _ in rt.forever() {
-        if door.is_closed() {
-            break;
-        }
-        let _ = rt.connect(port);
-        thread::sleep(rt, Duration::from_millis(RETRY_MILLIS));
-    }
-}
-
-/// Serves one client to its end. Once the end of the service was asked for, by whomever, it knocks
-/// at the port when its own stream is closed. A client for which there is no session is hung up on.
-pub(crate) fn talk<
-    R: Wait + Clock + Net<Listener = TcpListener, Stream = TcpStream>,
-    K: BatchKeeper + Drop,
-    G: Gate + Drop,
->(
+/// Serves one client to its end. A client for which there is no session is hung up on.
+pub(crate) fn talk<R: Wait + Clock, K: BatchKeeper + Drop, G: Gate + Drop>(
     rt: &R,
     alloc: Global,
     front: &Front<K, G>,
     stream: TcpStream,
-    hall: &Hall,
-    port: SocketAddr,
-    log: Log,
+    connections: &Connections,
+    files: &StoreFiles,
+    log: &Log,
 ) {
-    let Some(session) = hall.session(rt, alloc, front) else {
-        hall.leave(rt, None);
+    let Some(session) = connections.session(rt, alloc, front) else {
+        connections.release(rt, None);
+        turn_away(connections, log, Want::Memory);
         return;
     };
-    log.taken(hall.clients(rt));
-    let (session, leave) = serve_by(rt, alloc, front, session, &stream, hall);
+    connections.note_taken();
+    log.taken(connections.clients(rt));
+    let (session, leave) = serve_by(rt, alloc, front, session, &stream, connections, files);
     drop(stream);
-    hall.leave(rt, Some(session));
-    log.gone(leave, hall.clients(rt));
-    if hall.ending().is_asked() {
-        knock(rt, hall.door(), port);
-    }
+    connections.release(rt, Some(session));
+    log.gone(leave, connections.clients(rt));
 }

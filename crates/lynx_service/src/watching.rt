@@ -1,6 +1,8 @@
 //! The port at which a service tells its status: so many connections at a time, each for a while.
 ghost use Rattle.std.specs.Thread.{IsSend, IsSync};
 
+use crate::accepting::next_to_come;
+use crate::connections::WatchTime;
 use crate::limits::RETRY_MILLIS;
 use crate::patience::{BriefReader, PatientWriter};
 use crate::status::Status;
@@ -34,13 +36,20 @@ fn answer<R: Wait + Clock, K: BatchKeeper>(
     status: Status<'_, R, K>,
     stream: &TcpStream,
     port: &WatchPort,
+    time: WatchTime,
 ) {
     if !set_limits(stream) {
         return;
     }
-    let hall = status.hall;
-    let mut reader = BriefReader::new(rt, stream, hall.ending());
-    let mut writer = PatientWriter::new(rt, stream, hall.ending(), hall.shown());
+    let connections = status.connections;
+    let mut reader = BriefReader::new(rt, stream, connections.ending(), time.reading());
+    let mut writer = PatientWriter::new(
+        rt,
+        stream,
+        connections.ending(),
+        connections.shown(),
+        time.writing(),
+    );
     let mut connection = Connection::new(alloc, port.keys, Config::default());
     let mut desk = StatusDesk::new(alloc, status, port.version);
     let _ = http_server::serve(&mut connection, &mut desk, &mut reader, &mut writer);
@@ -53,16 +62,18 @@ fn watch<R: Wait + Clock, K: BatchKeeper>(
     status: Status<'_, R, K>,
     stream: TcpStream,
     port: &WatchPort,
+    time: WatchTime,
 ) {
-    let hall = status.hall;
-    answer(rt, alloc, status, &stream, port);
+    let connections = status.connections;
+    answer(rt, alloc, status, &stream, port, time);
     drop(stream);
-    hall.unwatch();
+    connections.unwatch();
 }
 
 /// Answers those who watch until clients are let in no more. Each has a thread of its own; one for
-/// which there is none is hung up on, and so is each beyond
-/// [`MAX_WATCHERS`](crate::limits::MAX_WATCHERS), unread.
+/// which there is none is hung up on. Beyond [`MAX_WATCHERS`](crate::limits::MAX_WATCHERS) so many
+/// more are let in for a moment as [`MAX_BRIEF_WATCHERS`](crate::limits::MAX_BRIEF_WATCHERS) says,
+/// and each beyond these is hung up on unread.
 pub(crate) fn watch_all<R: Threads + Wait + Clock + Sync, K: BatchKeeper + Send + Drop>(
     rt: &R,
     alloc: Global,
@@ -72,31 +83,33 @@ pub(crate) fn watch_all<R: Threads + Wait + Clock + Sync, K: BatchKeeper + Send 
 where
     R: Send,
 {
-    let hall = status.hall;
+    let connections = status.connections;
     thread::scope(
         thread::scope_env(),
         rt,
         |scope| -> ()
             requires { IsSync R.row × IsSend R.row × IsSend K.row }
         {
-            for stream in port.listener.incoming() {
-                if hall.door().is_closed() {
+            for _ in rt.forever() {
+                if connections.are_closed() {
                     break;
                 }
-                let Ok(stream) = stream else {
+                let Some(came) = next_to_come(&port.listener) else {
+                    continue;
+                };
+                let Ok(stream) = came else {
                     thread::sleep(rt, Duration::from_millis(RETRY_MILLIS));
                     continue;
                 };
-                if !hall.watch() {
+                let Some(time) = connections.watch() else {
                     continue;
-                }
+                };
                 let shared = status.share();
-                let started = scope.spawn(move || watch(rt, alloc, shared, stream, port));
+                let started = scope.spawn(move || watch(rt, alloc, shared, stream, port, time));
                 if started.is_err() {
-                    hall.unwatch();
+                    connections.unwatch();
                 }
             }
-            hall.watch_door().close();
         },
     );
 }

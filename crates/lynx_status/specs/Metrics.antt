@@ -42,6 +42,9 @@ service_text figures =
     (codes "Bytes of the answers that clients were told.") figures.told_bytes
     ++ single (codes "lynx_uptime_seconds") (codes "gauge")
     (codes "Seconds since the service listens.") figures.uptime_seconds
+    ++ single (codes "lynx_log_dropped_total") (codes "counter")
+    (codes "Lines of the log that were dropped, since nobody read those before them.")
+    figures.log_dropped
 
 -- the sixteen digits of a hash
 unfoldable pub hash_text : ℕ → List ℕ

@@ -83,7 +83,8 @@ module _ {W : Type 0} (tells : Tells W) (finds : Finds W) (set_of : W → List �
   Replies version old (Err why) reply new = IsRefusal why reply × (new ≡ old)
   Replies version old (Ok Health) reply new =
       (figures : Figures) × tells old figures new
-      × IsReply (health_status figures.servers.items) Text (health_text figures.servers.items) reply
+      × IsReply (health_status figures.servers.items figures.copies.items) Text
+      (health_text figures.servers.items figures.copies.items) reply
   Replies version old (Ok Metrics) reply new =
       (figures : Figures) × tells old figures new
       × IsReply 200 MetricsText (metrics_text figures (set_hash (set_of new)) version) reply

@@ -21,12 +21,12 @@ use std::alloc::Global;
 
 fn health<W: Watched>(alloc: Global, watched: &mut W) -> Result<Reply, Memory>
     ensures { IfOk result (λ reply. (figures : Told) × W.tells watched.old figures watched.new
-        × IsReply (health_status figures.servers.items) Content.Text
-        (health_text figures.servers.items) reply) }
+        × IsReply (health_status figures.servers.items figures.copies.items) Content.Text
+        (health_text figures.servers.items figures.copies.items) reply) }
 {
     let figures = watched.figures()?;
     let body = health_text(alloc, &figures)?;
-    let status = if figures.all_run() {
+    let status = if figures.is_well() {
         StatusCode::OK
     } else {
         StatusCode::SERVICE_UNAVAILABLE

@@ -16,6 +16,8 @@ pub struct CopyFigures {
     pub follows: bool,
     /// Entries of the server that it doesn't have yet.
     pub behind: u64,
+    /// Whether its file is there: its folder wasn't removed, moved or replaced.
+    pub is_there: bool,
 }
 
 /// What is to be done with the folder that follows.

@@ -1,6 +1,6 @@
 //! The figures of a service.
 ghost use Rattle.std.specs.Prelude.{◌≡◌};
-ghost use Rattle.lynx_status.specs.Figures.{all_run};
+ghost use Rattle.lynx_status.specs.Figures.{all_run, all_there, is_well};
 
 use crate::begins::Begins;
 use crate::commits::CommitTimes;
@@ -23,6 +23,8 @@ pub struct Figures {
     pub told_bytes: u64,
     /// Seconds since it listens.
     pub uptime_seconds: u64,
+    /// Lines of its log that were dropped, since nobody read those before them.
+    pub log_dropped: u64,
 }
 
 /// What one server has done since it was opened, and how it is.
@@ -50,5 +52,19 @@ impl Figures {
         ensures { result ≡ all_run self.now.servers.items }
     {
         self.servers.iter().all(|server| server.is_running)
+    }
+
+    /// Whether no store that follows a server is gone.
+    fn all_there(&self) -> bool
+        ensures { result ≡ all_there self.now.copies.items }
+    {
+        self.copies.iter().all(|copy| copy.is_there)
+    }
+
+    /// Whether no server is stopped, and no store that follows one is gone.
+    pub fn is_well(&self) -> bool
+        ensures { result ≡ is_well self.now.servers.items self.now.copies.items }
+    {
+        self.all_run() && self.all_there()
     }
 }

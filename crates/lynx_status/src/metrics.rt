@@ -90,6 +90,14 @@ fn put_service(text: &mut String, figures: &Figures) -> Result<(), AllocError>
         help,
         figures.uptime_seconds,
     )?;
+    let help = "Lines of the log that were dropped, since nobody read those before them.";
+    put_single(
+        text,
+        "lynx_log_dropped_total",
+        "counter",
+        help,
+        figures.log_dropped,
+    )?;
     Ok(())
 }
 

@@ -3,5 +3,5 @@ use Rattle.lynx_status.proofs.metrics.put_service.Goals as goal
 
 pub returns : goal.returns
 returns c =
-    c.in_ok-put_single-4.ensures
-    ∙ simp (c.in_ok-put_single-3.ensures, c.in_ok-put_single-2.ensures, c.in_ok-put_single.ensures, append_assoc)
+    c.in_ok-put_single-5.ensures
+    ∙ simp (c.in_ok-put_single-4.ensures, c.in_ok-put_single-3.ensures, c.in_ok-put_single-2.ensures, c.in_ok-put_single.ensures, append_assoc)

@@ -117,29 +117,30 @@ impl Counts {
 /// The counts of all servers. It is what a cluster tells of its steps, so that each is counted
 /// under its server's lock.
 #[derive(Drop)]
-pub(crate) struct Tally<R> {
+pub(crate) struct Metrics<R> {
     rt: R,
     log: Log,
     servers: Vec<Mutex<Counts>>,
 }
 
-impl<R: Wait + Clock + Copy> Tally<R> {
+impl<R: Wait + Clock + Copy> Metrics<R> {
     /// Of servers that go on after their histories, which are gone over once.
     pub(crate) fn of<K: Keeper>(
         rt: R,
         alloc: Global,
-        log: Log,
+        log: &Log,
         opened: &[Server<K>],
-    ) -> Result<Tally<R>, Memory> {
+    ) -> Result<Metrics<R>, Memory> {
         let mut servers = Vec::with_capacity(alloc, opened.len())?;
         for server in opened {
             servers.push(Mutex::new(Counts::of(server.history())))?;
         }
-        Ok(Tally { rt, log, servers })
+        let log = log.share()?;
+        Ok(Metrics { rt, log, servers })
     }
 }
 
-impl<R: Wait + Clock> Tally<R> {
+impl<R: Wait + Clock> Metrics<R> {
     /// The counts of that server now.
     pub(crate) fn counts(&self, server: ServerId) -> Option<Counts> {
         let counts = self.servers.as_slice().get(server.index())?;
@@ -176,7 +177,7 @@ impl<R: Wait + Clock> Tally<R> {
     }
 }
 
-impl<R: Wait + Clock> Gate for Tally<R> {
+impl<R: Wait + Clock> Gate for Metrics<R> {
     fn enter(&self, _server: ServerId, _passage: Passage) {}
 
     fn leave(&self, _server: ServerId, _passage: Passage) {}

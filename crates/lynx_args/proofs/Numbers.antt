@@ -5,7 +5,7 @@ use Rattle.std.specs.Str.Parse.{ParsesUnsigned}
 use Rattle.clap.specs.declared.parser.matches.Found.{Found}
 use Rattle.clap.specs.Words.{ReadsOne, one_of, one_text, rows_of}
 use Rattle.clap.proofs.WalkLemmas.{one_text-rows}
-use Rattle.lynx_args.specs.Jobs.{IsNumber, IsPort, IsReadFrom}
+use Rattle.lynx_args.specs.Jobs.{IsChoice, IsNumber, IsPort, IsReadFrom}
 
 -- what is given of a text says that it is read as a number of so many bits
 module _ {E : Type 0} (Gives : List ℕ → Result ℕ E → Type 0) (bits : ℕ)
@@ -28,4 +28,12 @@ pub found_port : {E : Type 0} (Gives : List ℕ → Result ℕ E → Type 0) →
 found_port Gives parses words name found none value = record {
   none = λ gone. none (one_text-rows words name ∙ gone);
   some = λ text there. read_from Gives 16 parses text found (value text (one_text-rows words name ∙ there));
+}
+
+pub found_choice : {E : Type 0} (Gives : List ℕ → Result ℕ E → Type 0) → ((text : List ℕ) (read : Result ℕ E) → Gives text read → ParsesUnsigned 8 10 text read)
+    → (words : Found) (name : List ℕ) (found : Option ℕ) → (one_text words name ≡ None → found ≡ None)
+    → ((text : List ℕ) → one_text words name ≡ Some text → ReadsOne Gives text found) → IsChoice name (rows_of words) found
+found_choice Gives parses words name found none value = record {
+  none = λ gone. none (one_text-rows words name ∙ gone);
+  some = λ text there. read_from Gives 8 parses text found (value text (one_text-rows words name ∙ there));
 }

@@ -3,7 +3,7 @@ use Rattle.std.specs.Prelude.{◌≡◌, ◌≢◌, ◌⊎◌, ℕ, List, Option
 use Rattle.std.specs.Str.Parse.{ParsesUnsigned}
 use Rattle.clap.specs.Words.{Row, Text, first_of, one_of}
 use Rattle.lynx_args.specs.declared.job.Job.{Job}
-use Rattle.lynx_args.specs.declared.job.Job.TheVariants.{Ask, AskFolder, Audit, Chart, Check, Draw, Extend, Owed, Restore, Run, RunInput, RunStores, Sample, Serve, Show, Upgrade}
+use Rattle.lynx_args.specs.declared.job.Job.TheVariants.{Ask, AskFolder, Audit, Chart, Check, Draw, Extend, Mend, Owed, Restore, Run, RunInput, RunStores, Sample, Serve, Show, Upgrade}
 use Rattle.lynx_args.specs.declared.job.RestorePlace.{RestorePlace}
 use Rattle.lynx_args.specs.declared.job.RunFlags.{RunFlags}
 use Rattle.lynx_args.specs.declared.job.SampleFlags.{SampleFlags}
@@ -57,6 +57,7 @@ DrawsAs set script walk late other = ⊥
 -- the command that asks for a job; standard input is asked for by no command at all, or by `run`
 abbrev pub AskedBy : Option (List ℕ) → Result Job CommandFault → Type 0
 AskedBy command (Ok (Check set why)) = command ≡ Some (codes "check")
+AskedBy command (Ok (Mend set write)) = command ≡ Some (codes "mend")
 AskedBy command (Ok (Draw set shown)) = command ≡ Some (codes "draw")
 AskedBy command (Ok (Chart set script)) = command ≡ Some (codes "draw")
 AskedBy command (Ok (Sample set flags)) = command ≡ Some (codes "sample")
@@ -86,6 +87,7 @@ AskedBy command (Err NoCommand) =
     × (command ≢ Some (codes "extend")) × (command ≢ Some (codes "serve"))
     × (command ≢ Some (codes "ask")) × (command ≢ Some (codes "audit"))
     × (command ≢ Some (codes "owed")) × (command ≢ Some (codes "restore"))
+    × (command ≢ Some (codes "mend"))
 AskedBy command (Err NotUtf8) = ⊥
 
 -- the text that was found under a name, `-` where none was
@@ -128,6 +130,11 @@ pub record IsPort (name : Text) (rows : List Row) (port : Option ℕ) : Type 0 w
   pub none : one_of name rows ≡ None → port ≡ None
   pub some : (text : Text) → one_of name rows ≡ Some text → IsReadFrom 16 text port
 
+-- the number of a change that was found under a name, none where none was
+pub record IsChoice (name : Text) (rows : List Row) (choice : Option ℕ) : Type 0 where
+  pub none : one_of name rows ≡ None → choice ≡ None
+  pub some : (text : Text) → one_of name rows ≡ Some text → IsReadFrom 8 text choice
+
 -- the folders of a restoring are those that were found
 pub record IsRestorePlace (rows : List Row) (place : RestorePlace) : Type 0 where
   pub from : place.from.now ≡ text_at (codes "FROM") rows
@@ -139,6 +146,8 @@ pub record AreServeFlags (rows : List Row) (flags : ServeFlags) : Type 0 where
   pub status : IsPort (codes "status") rows flags.status
   pub copy : option_map (λ own. own.now) flags.copy ≡ first_of (codes "copy") rows
   pub log : IsFlag (codes "log") rows flags.log
+  pub log_file : option_map (λ own. own.now) flags.log_file ≡ first_of (codes "log-file") rows
+  pub order : option_map (λ own. own.now) flags.order ≡ first_of (codes "order") rows
   pub sync_each : IsFlag (codes "sync-each") rows flags.sync_each
 
 -- a run of the files and the folder that were found, with the flags that were
@@ -161,6 +170,8 @@ pub record DrawsFound (rows : List Row) (job : Result Job CommandFault) : Type 0
 abbrev pub TakesFound : List Row → Result Job CommandFault → Type 0
 TakesFound rows (Ok (Check set why)) =
     (set.now ≡ text_at (codes "SET") rows) × IsFlag (codes "why") rows why
+TakesFound rows (Ok (Mend set write)) =
+    (set.now ≡ text_at (codes "SET") rows) × IsChoice (codes "write") rows write
 TakesFound rows (Ok (Draw set shown)) = DrawsFound rows (Ok (Draw set shown))
 TakesFound rows (Ok (Chart set script)) = DrawsFound rows (Ok (Chart set script))
 TakesFound rows (Ok (Sample set flags)) =

@@ -49,8 +49,12 @@ pub struct ServeFlags<'a> {
     pub status: Option<u16>,
     /// The folder whose stores follow those that are served.
     pub copy: Option<&'a str>,
-    /// What befalls it is told on standard error, a line for each event.
+    /// Its events are told on standard error, a line each.
     pub log: bool,
+    /// The file whose end takes these lines.
+    pub log_file: Option<&'a str>,
+    /// The file that takes the line of the order with which it ends.
+    pub order: Option<&'a str>,
     /// Each step has a transaction of its own.
     pub sync_each: bool,
 }
@@ -72,6 +76,11 @@ pub enum Job<'a> {
     Chart {
         set: &'a str,
         script: &'a str,
+    },
+    /// Tell what makes the set of a file accepted, or print it with the change of that number.
+    Mend {
+        set: &'a str,
+        write: Option<u8>,
     },
     /// Make a random script for the set of a file.
     Sample {

@@ -7,6 +7,7 @@ pub use parser::{VERSION, command, job_of, wants_hints};
 mod commands;
 mod draw_words;
 pub mod job;
+mod mend_words;
 pub mod parser;
 mod sample_words;
 mod serve_words;

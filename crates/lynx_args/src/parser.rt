@@ -10,6 +10,7 @@ use crate::draw_words::{DRAW, job_of_drawing};
 use crate::job::{
     CommandFault, INPUT, Job, NO_FLAGS, RestorePlace, RunFlags, SampleFlags, job_of_run,
 };
+use crate::mend_words::{MEND, job_of_mending};
 use crate::sample_words::{BEGINS, CYCLE, EFFORT, SAMPLE, SEED};
 use crate::serve_words::{ASK, SERVE, job_of_ask, port_of, serve_flags_of};
 use crate::words::{CommandText, HINTS, SCRIPT, command_of};
@@ -19,7 +20,7 @@ use std::alloc::{AllocError, Global};
 /// The statuses that the program ends with, and the words of faults, as the help tells them at its
 /// end.
 const STATUSES_AND_FAULTS: &str =
-    "Statuses:\n  0  done: the set is accepted, an order explains the run\n  1  the set offends, or the run ends with a cycle\n  2  faulty words or a faulty text\n  3  out of memory\n  4  a file, a store, a socket or a thread fails, or the audit at the end of a service\n\nA faulty text is told with its line and one of these words: too-long, bad-version, bad-line,\nbad-name, bad-number, repeated, unknown, need-not-first, limit-passed, literal-elsewhere,\nshard-gap, shard-overlap, shard-server. With --hints, and on a terminal, the place is shown.";
+    "Statuses:\n  0  done: the set is accepted, an order explains the run\n  1  the set offends, or the run ends with a cycle, or no mending was found\n  2  faulty words or a faulty text\n  3  out of memory\n  4  a file, a store, a socket or a thread fails, or the audit at the end of a service\n\nA faulty text is told with its line and one of these words: too-long, bad-version, bad-line,\nbad-name, bad-number, repeated, unknown, need-not-first, limit-passed, literal-elsewhere,\nshard-gap, shard-overlap, shard-server. With --hints, and on a terminal, the place is shown.";
 
 /// The version of the program.
 pub const VERSION: &str = "0.1.0";
@@ -35,7 +36,7 @@ fn bare_command<'a>(alloc: Global) -> Command<'a> {
     Command::new(alloc, "lynx")
         .version(VERSION)
         .about(
-            "A transaction-chain store: judges, draws and runs sets of chain programs, makes scripts for them, serves them to\nclients, and lists, audits, upgrades and extends stores",
+            "A transaction-chain store: judges, mends, draws and runs sets of chain programs, makes scripts for them, serves them to\nclients, and lists, audits, upgrades and extends stores",
         )
         .after_help(STATUSES_AND_FAULTS)
 }
@@ -52,6 +53,7 @@ fn with<'a>(
 /// The command line with what is done with sets and scripts.
 fn with_texts<'a>(alloc: Global, command: Command<'a>) -> Result<Command<'a>, AllocError> {
     let command = with(alloc, command, &CHECK)?;
+    let command = with(alloc, command, &MEND)?;
     let command = with(alloc, command, &DRAW)?;
     let command = with(alloc, command, &RUN)?;
     with(alloc, command, &SAMPLE)
@@ -157,6 +159,7 @@ fn job_of_command<'a>(name: &str, words: &ArgMatches<'a>) -> Result<Job<'a>, Com
             why: flag_at(words, WHY),
         }),
         "draw" => job_of_drawing(words),
+        "mend" => Ok(job_of_mending(words)),
         "sample" => Ok(Job::Sample {
             set,
             flags: sample_flags_of(words),

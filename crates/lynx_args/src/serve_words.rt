@@ -17,8 +17,14 @@ const STATUS: &str = "status";
 /// The folder that follows a service.
 const COPY: &str = "copy";
 
-/// The option by which a service tells what befalls it.
+/// The option by which a service tells its events.
 const LOG: &str = "log";
+
+/// The file that takes what a service tells of its events.
+const LOG_FILE: &str = "log-file";
+
+/// The file that takes the order with which a service ends.
+const ORDER: &str = "order";
 
 /// The option by which each step of a service has a transaction of its own.
 const SYNC_EACH: &str = "sync-each";
@@ -26,7 +32,7 @@ const SYNC_EACH: &str = "sync-each";
 pub(crate) const SERVE: CommandText = CommandText {
     name: "serve",
     about: "Serve clients at a port, over the stores of a folder, until one asks for the end",
-    after: "An offending set is refused as by check, and nothing is opened. The end checks all that clients were\ntold. Clients: lynx ask, clients/python/lynx.py; docs/FORMATS.md has the bytes.\nExample: lynx serve payment.set stores 7000 --status 7001",
+    after: "An offending set is refused as by check, and nothing is opened. The end checks all that clients were\ntold. Clients: lynx ask, and clients/; docs/FORMATS.md has the bytes.\nExample: lynx serve payment.set stores 7000 --status 7001",
     words: &[
         SET_FILE,
         Word {
@@ -52,7 +58,17 @@ pub(crate) const SERVE: CommandText = CommandText {
         Word {
             name: LOG,
             place: Place::Flag,
-            help: "Tell on standard error what befalls the service, a line with its time for each event",
+            help: "Tell the events of the service on standard error, a line with its time for each",
+        },
+        Word {
+            name: LOG_FILE,
+            place: Place::Value("FILE", Reads::Text),
+            help: "Add these lines to a file, which is made where it isn't there, and made anew once it was moved away",
+        },
+        Word {
+            name: ORDER,
+            place: Place::Value("FILE", Reads::Text),
+            help: "Write the order with which the service ends to a file instead of standard output",
         },
         Word {
             name: SYNC_EACH,
@@ -109,6 +125,8 @@ pub(crate) fn serve_flags_of<'a>(words: &ArgMatches<'a>) -> ServeFlags<'a>
         status: status_of(words),
         copy: found_at(words, COPY),
         log: flag_at(words, LOG),
+        log_file: found_at(words, LOG_FILE),
+        order: found_at(words, ORDER),
         sync_each: flag_at(words, SYNC_EACH),
     }
 }

@@ -17,6 +17,8 @@ pub(crate) enum Reads {
     Port,
     /// 1 to 100.
     Hundred,
+    /// 1 to 10.
+    Ten,
 }
 
 /// Where a word stands, whether it may be left out, and what it may be.
@@ -77,6 +79,7 @@ fn parsed<'a>(arg: Arg<'a>, reads: Reads) -> Arg<'a> {
         Reads::Number => arg.value_parser(value_parser!(u64)),
         Reads::Port => arg.value_parser(value_parser!(u16).range(1..=65535)),
         Reads::Hundred => arg.value_parser(value_parser!(u8).range(1..=100)),
+        Reads::Ten => arg.value_parser(value_parser!(u8).range(1..=10)),
     }
 }
 

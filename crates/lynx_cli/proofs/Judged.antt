@@ -94,9 +94,9 @@ extended_so stores folder state_of OpenedAt DatabaseClosed text (Ok status) old 
     (text, inr (subst (λ before. HasGivenText stores folder state_of OpenedAt DatabaseClosed text before new status) kept done))
 
 -- clients are served over a text's set, which is accepted
-pub served_so : {K : Type 0} (terms : Terms K) (stores : StoreTerms K) (folder : List ℕ) (text : List ℕ) (result : Result ℕ Fault) (old mid new : Option (List ℕ)) →
-    mid ≡ old → IfOk result (HasServedText terms stores folder text mid new) →
-    IfOk result (λ status. (read : List ℕ) × HasServedJudged terms stores folder read old new status)
-served_so terms stores folder text (Err fault) old mid new kept done = tt
-served_so terms stores folder text (Ok status) old mid new kept done =
-    (text, inr (subst (λ before. HasServedText terms stores folder text before new status) kept done))
+pub served_so : {K : Type 0} (terms : Terms K) (stores : StoreTerms K) (folder : List ℕ) (apart : Bool) (text : List ℕ) (result : Result ℕ Fault) (old mid new : Option (List ℕ)) →
+    mid ≡ old → IfOk result (λ status. (explained : Explained) × HasServedText terms stores folder apart text explained mid new status) →
+    IfOk result (λ status. (read : List ℕ) × HasServedJudged terms stores folder apart read old new status)
+served_so terms stores folder apart text (Err fault) old mid new kept done = tt
+served_so terms stores folder apart text (Ok status) old mid new kept done =
+    (text, inr (done.0, subst (λ before. HasServedText terms stores folder apart text done.0 before new status) kept done.1))

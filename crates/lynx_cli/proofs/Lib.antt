@@ -1,2 +1,3 @@
 mod InputLemmas
 mod Judged
+mod Mended

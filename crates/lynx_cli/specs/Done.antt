@@ -134,22 +134,23 @@ HasRerun terms stores folder flags set script old new status = MatchBool flags.c
     (HasRerunJudged terms stores folder (options_of flags) set script old new status)
     (HasRerunTexts terms stores folder (options_of flags) set script old new status)
 
--- a service over the text's set, which is accepted, ran to its end: its last line is an order, and
--- the status is 0
+-- a service over the text's set, which is accepted, ran to its end, which that order explains: it
+-- is its last line, unless it goes to a file of its own, and the status is 0
 pub record HasServedText {K : Type 0} (terms : Terms K) (stores : StoreTerms K) (folder : List ℕ)
-    (text : List ℕ) (old new : Option (List ℕ)) (status : ℕ) : Type 0 where
+    (apart : Bool) (text : List ℕ) (explained : Explained) (old new : Option (List ℕ)) (status : ℕ)
+    : Type 0 where
   pub chains : Set
   pub accepts : Accepts text chains
-  pub explained : Explained
-  pub served : HasServed terms stores folder chains old new explained
+  pub served : HasServed terms stores folder apart chains old new explained
   pub order : GivesOrder explained
   pub status_is : status ≡ 0
 
 -- a set that offends is refused, and over another clients are served
-abbrev pub HasServedJudged : {K : Type 0} → Terms K → StoreTerms K → List ℕ → List ℕ
+abbrev pub HasServedJudged : {K : Type 0} → Terms K → StoreTerms K → List ℕ → Bool → List ℕ
     → Option (List ℕ) → Option (List ℕ) → ℕ → Type 0
-HasServedJudged terms stores folder text old new status =
-    HasRefused text old new status ⊎ HasServedText terms stores folder text old new status
+HasServedJudged terms stores folder apart text old new status = HasRefused text old new status
+    ⊎ ((explained : Explained)
+    × HasServedText terms stores folder apart text explained old new status)
 
 -- the stores of a folder are given to the text's set, which is accepted, and the status is 0
 pub record HasGivenText {K C : Type 0} (stores : StoreTerms K) (folder : List ℕ)

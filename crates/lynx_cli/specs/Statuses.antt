@@ -1,7 +1,7 @@
 -- The exit statuses.
 use Rattle.std.specs.Prelude.{ℕ, Bool, false, Result, Ok, Err}
 use Rattle.lynx_cli.specs.declared.fault.Fault.{Fault}
-use Rattle.lynx_cli.specs.declared.fault.Fault.TheVariants.{Ask, Command, Memory, NoSeparator, NoService, NoStatus, Occupied, OtherSet, Sample, Script, Serve, Set, Store, Unread, Write}
+use Rattle.lynx_cli.specs.declared.fault.Fault.TheVariants.{Ask, Command, Memory, NoMending, NoSeparator, NoService, NoStatus, Occupied, OtherSet, Sample, Script, Serve, Set, Store, Unread, Unwritten, Write}
 use Rattle.lynx_sample.specs.declared.fault.SampleFault.{SampleFault}
 use Rattle.lynx_sample.specs.declared.fault.SampleFault.TheVariants.{NoCycle, TooLong, Run as Stopped}
 use Rattle.lynx_report.specs.declared.run.RunFault.{RunFault}
@@ -25,11 +25,13 @@ status_of_sampling NoCycle = 1
 status_of_sampling TooLong = 2
 status_of_sampling (Stopped fault) = status_of_run fault
 
--- 2: the words or a text. 3: want of memory. 4: what can't be read or written
+-- 1: no mending was found. 2: the words or a text. 3: want of memory. 4: what can't be read or
+-- written
 abbrev pub status_of : Fault → ℕ
 status_of (Command fault) = 2
 status_of NoSeparator = 2
 status_of (Unread name) = 4
+status_of (Unwritten name) = 4
 status_of (Set fault) = 2
 status_of (Script fault) = 2
 status_of (Store fault) = 4
@@ -40,6 +42,7 @@ status_of NoStatus = 4
 status_of OtherSet = 4
 status_of Occupied = 4
 status_of (Sample fault) = status_of_sampling fault
+status_of NoMending = 1
 status_of Write = 4
 status_of Memory = 3
 

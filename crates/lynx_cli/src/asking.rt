@@ -1,4 +1,5 @@
 //! Asking a service what the lines of standard input ask.
+use crate::causes::are_held;
 use crate::comparing::{compare_sets, connected};
 use crate::fault::Fault;
 use crate::hints::{Hints, Named};
@@ -215,8 +216,9 @@ fn told_in<'a>(host: &HostRuntime, folder: &str) -> Result<Option<Vec<u8>>, Faul
 }
 
 /// Asks the service over the stores of the folder what the lines of standard input ask, by the set
-/// that it serves. What the folder tells may be left by a service that was killed, so the set is
-/// compared where the port of a status is told.
+/// that it serves. What the folder tells may be left by a service that was killed, and whoever
+/// listens at its port now be another: nobody is asked who doesn't have the stores of the folder
+/// open, and the set is compared where the port of a status is told.
 pub(crate) fn ask_folder<'a, R: Net<Listener = TcpListener, Stream = TcpStream>, W: Write>(
     host: &HostRuntime,
     rt: &R,
@@ -240,5 +242,10 @@ pub(crate) fn ask_folder<'a, R: Net<Listener = TcpListener, Stream = TcpStream>,
     if let Some(status) = notice.status {
         compare_sets(host, rt, &set, status, hints)?;
     }
-    ask_at(host, rt, &set, notice.port, hints, writer)
+    let stream = connected(host, rt, notice.port, hints)?;
+    if !are_held(host, folder) {
+        hints.note_left_over(host.alloc(), folder);
+        return Err(Fault::NoService);
+    }
+    ask_by(host, &set, stream, hints, writer)
 }

@@ -1,6 +1,7 @@
 //! Audits of the stores of a folder, by copies in memory: the stores are only read.
 ghost use Rattle.std.specs.Prelude.{◌≡◌, ◌⊎◌, IfOk, OnOk, length};
 ghost use Rattle.lynx_service.specs.Faults.{missing_fault, store_fault};
+ghost use Rattle.lynx_cli.specs.Folders.{HasAuditedKeepers, HasListedOwed, status_of_explained};
 ghost use Rattle.lynx_cli.specs.Stopped.{copy_fault, serving_fault};
 
 use crate::fault::Fault;
@@ -8,6 +9,7 @@ use crate::hints::Hints;
 use crate::storing::{WIPED, tell};
 use crate::texts::{DONE, OFFENDING};
 use lynx_audit::{audit, list_owed};
+use lynx_keep::Keeper;
 use lynx_names::ServerId;
 use lynx_order::Explained;
 use lynx_service::ServeFault;
@@ -17,6 +19,7 @@ use lynx_sql::schema::is_empty;
 use lynx_store::{SqlKeeper, StoreFault, inspect};
 use lynx_store_files::{Copies, CopyFault, store_path};
 use sqlite::Connection;
+use std::alloc::Global;
 use std::fs;
 use std::io::{ErrorKind, Write};
 
@@ -142,6 +145,50 @@ pub(crate) fn copied_of<'a, C: Rising + Drop, S: Copies<Connection<C>>>(
     Ok(Copied { set, keepers })
 }
 
+/// The status of an audit that found this.
+fn status_of_explained(explained: &Explained) -> u8
+    ensures { result ≡ status_of_explained explained.now }
+{
+    match explained {
+        Explained::Order(_) => DONE,
+        Explained::Cycle(_) => OFFENDING,
+    }
+}
+
+/// Audits what these keepers keep.
+fn audit_kept<'a, K: Keeper + Drop, W: Write>(
+    alloc: Global,
+    copied: Copied<K>,
+    writer: &mut W,
+) -> Result<u8, Fault<'a>>
+    requires { length copied.keepers.items ≡ copied.set.servers }
+    ensures { IfOk result (HasAuditedKeepers K.terms copied.set copied.keepers.items
+        (W.contents writer.old) (W.contents writer.new)) }
+{
+    let Copied { set, keepers } = copied;
+    match audit(alloc, &set, keepers, writer) {
+        Ok(explained) => Ok(status_of_explained(&explained)),
+        Err(fault) => Err(Fault::of_serving(fault)),
+    }
+}
+
+/// Lists what is owed by what these keepers keep.
+fn list_owed_by<'a, K: Keeper + Drop, W: Write>(
+    alloc: Global,
+    copied: Copied<K>,
+    writer: &mut W,
+) -> Result<u8, Fault<'a>>
+    requires { length copied.keepers.items ≡ copied.set.servers }
+    ensures { IfOk result (HasListedOwed K.terms copied.set copied.keepers.items
+        (W.contents writer.old) (W.contents writer.new)) }
+{
+    let Copied { set, keepers } = copied;
+    match list_owed(alloc, &set, keepers, writer) {
+        Ok(()) => Ok(DONE),
+        Err(fault) => Err(Fault::of_serving(fault)),
+    }
+}
+
 /// Audits copies of the stores of the folder.
 fn audit_copies<'a, C: Rising + Drop, S: Copies<Connection<C>>, W: Write>(
     rt: &HostRuntime,
@@ -149,12 +196,8 @@ fn audit_copies<'a, C: Rising + Drop, S: Copies<Connection<C>>, W: Write>(
     folder: &str,
     writer: &mut W,
 ) -> Result<u8, Fault<'a>> {
-    let Copied { set, keepers } = copied_of(rt, copies, folder)?;
-    match audit(rt.alloc(), &set, keepers, writer) {
-        Ok(Explained::Order(_)) => Ok(DONE),
-        Ok(Explained::Cycle(_)) => Ok(OFFENDING),
-        Err(fault) => Err(Fault::of_serving(fault)),
-    }
+    let copied = copied_of(rt, copies, folder)?;
+    audit_kept(rt.alloc(), copied, writer)
 }
 
 /// Lists what is owed in copies of the stores of the folder.
@@ -164,11 +207,8 @@ fn list_owed_of<'a, C: Rising + Drop, S: Copies<Connection<C>>, W: Write>(
     folder: &str,
     writer: &mut W,
 ) -> Result<u8, Fault<'a>> {
-    let Copied { set, keepers } = copied_of(rt, copies, folder)?;
-    match list_owed(rt.alloc(), &set, keepers, writer) {
-        Ok(()) => Ok(DONE),
-        Err(fault) => Err(Fault::of_serving(fault)),
-    }
+    let copied = copied_of(rt, copies, folder)?;
+    list_owed_by(rt.alloc(), copied, writer)
 }
 
 /// Audits the stores of the folder, and tells a person at a terminal so meanwhile.

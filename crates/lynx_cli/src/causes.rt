@@ -51,6 +51,21 @@ fn cause_of_lock(
     Ok(Some(line?))
 }
 
+/// Whether a process may have the stores of the folder open: that of server 0 is locked, or can't
+/// be looked at.
+pub(crate) fn are_held(host: &HostRuntime, folder: &str) -> bool {
+    let Ok(path) = path_of(host.alloc(), folder, 0) else {
+        return true;
+    };
+    match fs::open(host, path.as_str()) {
+        Ok(opened) => {
+            let handle = opened.as_raw_fd();
+            os::try_lock_range(handle, RangeLock::Shared, LOCKED, LOCKED_BYTES) != 0
+        }
+        Err(error) => error.kind() != ErrorKind::NotFound,
+    }
+}
+
 /// What keeps a file of a store from being opened for reading and writing, in a line; none where
 /// nothing does.
 fn cause_of_file(
@@ -160,6 +175,16 @@ pub(crate) fn cause_of_store(
 const BEHIND: &str =
     " lacks what its server did last: the log says why; serve once more, and it goes on from there";
 
+/// What is known of a store whose name led to it no more.
+const GONE: &str =
+    " was removed, moved or replaced, or a folder above it was, while the service had it open";
+
+/// That the name of the store of that number led to it no more, in a line.
+pub(crate) fn cause_of_gone(alloc: Global, folder: &str, server: u8) -> Result<String, AllocError> {
+    let path = path_of(alloc, folder, server)?;
+    line_of(alloc, path.as_str(), GONE)
+}
+
 /// Why a store keeps what its server didn't do, in a line.
 fn line_of_history(alloc: Global, file: &str, server: u8) -> Result<String, AllocError> {
     let shown = Shown { name: file };
@@ -190,6 +215,7 @@ pub(crate) fn cause_of_copy(
             None => line_of(alloc, file, " is damaged: take an empty folder"),
         },
         CopyWord::Behind => line_of(alloc, file, BEHIND),
+        CopyWord::Gone => line_of(alloc, file, GONE),
         CopyWord::Store | CopyWord::Memory => cause_of_store(host, alloc, folder, server),
     }
 }

@@ -32,6 +32,9 @@ pub enum Fault<'a> {
     /// A file that can't be read, or `-` for standard input.
     #[error("cannot read {0}")]
     Unread(Shown<'a>),
+    /// A file that can't be made or written, or is no regular file.
+    #[error("cannot write {0}")]
+    Unwritten(Shown<'a>),
     /// A set text that is faulty; never for want of memory.
     #[error("set {0}")]
     Set(TextFault),
@@ -63,6 +66,9 @@ pub enum Fault<'a> {
     /// No script was made; never for what stops a run too.
     #[error("{0}")]
     Sample(SampleFault),
+    /// Nothing was found that makes a set accepted.
+    #[error("no mending was found")]
+    NoMending,
     /// Standard output takes no more.
     #[error("cannot write")]
     Write,
@@ -201,16 +207,18 @@ impl<'a> Fault<'a> {
         }
     }
 
-    /// The exit status: 1 where no run ended with a cycle that was looked for, 2 for faulty words
-    /// or texts, 3 for want of memory, 4 for what can't be read or written.
+    /// The exit status: 1 where no run ended with a cycle that was looked for, or no mending was
+    /// found, 2 for faulty words or texts, 3 for want of memory, 4 for what can't be read or
+    /// written.
     pub fn status(&self) -> u8
         ensures { result ≡ status_of self.now }
     {
         match self {
             Fault::Command(_) | Fault::NoSeparator | Fault::Set(_) | Fault::Script(_) => 2,
-            Fault::Unread(_) | Fault::Store(_) | Fault::Serve(_) | Fault::Ask(_) => 4,
+            Fault::Unread(_) | Fault::Unwritten(_) => 4,
+            Fault::Store(_) | Fault::Serve(_) | Fault::Ask(_) => 4,
             Fault::NoService | Fault::NoStatus | Fault::OtherSet | Fault::Occupied => 4,
-            Fault::Sample(SampleFault::NoCycle) => 1,
+            Fault::Sample(SampleFault::NoCycle) | Fault::NoMending => 1,
             Fault::Sample(SampleFault::TooLong) => 2,
             Fault::Sample(SampleFault::Run(fault)) => status_of_run(*fault),
             Fault::Memory => 3,

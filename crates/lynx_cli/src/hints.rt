@@ -1,9 +1,10 @@
 //! The lines behind the one that tells a fault, where they are wanted: where in a text it is and
 //! what was expected, or why the system refused.
-use crate::causes::{cause_of_copy, cause_of_damage, cause_of_store};
+use crate::causes::{cause_of_copy, cause_of_damage, cause_of_gone, cause_of_store};
 use crate::fault::Fault;
 use crate::foreign::foreign_lines;
 use crate::input::split_input;
+use crate::mending::mending_lines;
 use crate::reading::is_named_pipe;
 use crate::shown::Shown;
 use crate::spots::spot_of;
@@ -13,7 +14,6 @@ use lynx_args::INPUT;
 use lynx_ask::AskFault;
 use lynx_hints::{Part, begin_hints, hint, separator_hint};
 use lynx_lex::TextFault;
-use lynx_reasons::mends;
 use lynx_restore::Undone;
 use lynx_service::{CopyWord, Damage, ServeFault, StoreWord};
 use lynx_set::ChainSet;
@@ -22,6 +22,7 @@ use lynx_store_files::Copies;
 use lynx_text::parse;
 use sqlite::Connection;
 use std::alloc::{AllocError, Global};
+use std::fs::OpenOptions;
 use std::io::Read;
 use std::net::{Ipv4Addr, Net, TcpListener, TcpStream};
 use std::rt::Files;
@@ -62,6 +63,17 @@ fn reading_error<R: Files + AllocGlobal>(rt: &R, name: &str) -> Option<io::Error
         Ok(mut file) => file.read(&mut [0u8]).err(),
         Err(error) => Some(error),
     }
+}
+
+/// The error with which a file can't be opened to be written. A pipe isn't opened, which would
+/// wait.
+fn writing_error<R: Files + AllocGlobal>(rt: &R, name: &str) -> Option<io::Error> {
+    if is_named_pipe(rt, name) {
+        return None;
+    }
+    let mut options = OpenOptions::new();
+    options.write(true);
+    options.open(rt, name).err()
 }
 
 impl Hints {
@@ -121,7 +133,7 @@ impl Hints {
         }
     }
 
-    /// Notes what might mend a set that was found to offend.
+    /// Notes what mends a set that was found to offend, or what might.
     pub(crate) fn note_mends(
         &mut self,
         alloc: Global,
@@ -131,11 +143,8 @@ impl Hints {
         if !self.is_wanted || !matches!(done, Ok(OFFENDING)) {
             return;
         }
-        let Ok(set) = parse(alloc, set.text) else {
-            return;
-        };
-        if let Ok(lines) = mends(alloc, &set) {
-            self.lines = String::from_utf8(lines).ok();
+        if let Ok(set) = parse(alloc, set.text) {
+            self.lines = mending_lines(alloc, &set).ok();
         }
     }
 
@@ -213,6 +222,9 @@ impl Hints {
         match word {
             StoreWord::Store => {
                 self.lines = cause_of_store(host, host.alloc(), folder, *server).ok();
+            }
+            StoreWord::Gone => {
+                self.lines = cause_of_gone(host.alloc(), folder, *server).ok();
             }
             StoreWord::Damaged(Damage::Somewhere) => {
                 if let Ok(lines) = cause_of_damage(host, host.alloc(), folder, *server) {
@@ -293,6 +305,15 @@ impl Hints {
         }
     }
 
+    /// Notes that what the folder tells was left by a service that has ended.
+    pub(crate) fn note_left_over(&mut self, alloc: Global, folder: &str) {
+        if self.is_wanted {
+            self.lines = format!(in alloc;
+                "  {folder}/service was left by a service that was killed, and another one has its port now: no process has {folder}/server-0.lynx open\n"
+            ).ok();
+        }
+    }
+
     /// Notes the requests whose answers are void, since they were cut off.
     pub(crate) fn note_undone(&mut self, alloc: Global, undone: &[Undone]) {
         if self.is_wanted {
@@ -309,20 +330,22 @@ impl Hints {
         }
     }
 
-    /// Notes why a file can't be read that a job named, as the system tells it.
-    pub(crate) fn note_unread<T, R: Files + AllocGlobal>(
+    /// Notes why a file can't be read or written that a job named, as the system tells it.
+    pub(crate) fn note_file<T, R: Files + AllocGlobal>(
         &mut self,
         rt: &R,
         alloc: Global,
         done: &Result<T, Fault<'_>>,
     ) {
-        let Err(Fault::Unread(shown)) = done else {
-            return;
-        };
-        if !self.is_wanted || shown.name == INPUT {
+        if !self.is_wanted {
             return;
         }
-        if let Some(error) = reading_error(rt, shown.name) {
+        let error = match done {
+            Err(Fault::Unread(shown)) if shown.name != INPUT => reading_error(rt, shown.name),
+            Err(Fault::Unwritten(shown)) => writing_error(rt, shown.name),
+            _ => None,
+        };
+        if let Some(error) = error {
             self.lines = format!(in alloc; "  {error}\n").ok();
         }
     }

@@ -7,6 +7,7 @@ use crate::auditing::{audit_folder, list_owed_in};
 use crate::extending::extend_folder;
 use crate::fault::Fault;
 use crate::hints::{Hints, Named};
+use crate::mending::mend_set;
 use crate::reading::text_of;
 use crate::restoring::restore_folder;
 use crate::serving::{ServePlace, serve_file};
@@ -43,7 +44,7 @@ pub fn do_job<
         return Err(Fault::Memory);
     };
     let done = do_to(host, rt, stores, job, hints, &mut writer);
-    hints.note_unread(host, host.alloc(), &done);
+    hints.note_file(host, host.alloc(), &done);
     let flushed = writer.flush().is_ok();
     finished(done, flushed)
 }
@@ -66,6 +67,7 @@ fn do_to<
 ) -> Result<u8, Fault<'a>> {
     match job {
         Job::Check { set, why } => check_file(host, set, why, hints, writer),
+        Job::Mend { set, write } => mend_file(host, set, write, hints, writer),
         Job::Draw { set, shown } => draw_file(host, set, shown, hints, writer),
         Job::Chart { set, script } => chart_files(host, set, script, hints, writer),
         Job::Sample { set, flags } => sample_file(host, set, flags, hints, writer),
@@ -126,6 +128,21 @@ fn check_file<'a, R: Files + AllocGlobal, W: Write>(
     if why {
         hints.note_mends(rt.alloc(), Named::new(set, text), &done);
     }
+    done
+}
+
+/// Tells what makes the set of a file accepted.
+fn mend_file<'a, R: Files + AllocGlobal, W: Write>(
+    rt: &R,
+    set: &'a str,
+    write: Option<u8>,
+    hints: &mut Hints,
+    writer: &mut W,
+) -> Result<u8, Fault<'a>> {
+    let read = text_of(rt, set)?;
+    let text = read.as_slice();
+    let done = mend_set(rt.alloc(), text, write, writer);
+    hints.note_set(rt.alloc(), Named::new(set, text), &done);
     done
 }
 

@@ -6,6 +6,7 @@ pub use fault::Fault;
 pub use hints::Hints;
 pub use input::split_input;
 pub use jobs::do_job;
+pub use mending::mend_set;
 pub use source::{InputFault, MAX_FILE_BYTES, MAX_INPUT_BYTES, read_all};
 pub use texts::{chart_script, check_set, draw_set, run_input, run_script, sample_set};
 
@@ -21,6 +22,8 @@ pub mod hints;
 pub mod input;
 pub mod jobs;
 pub mod laws;
+pub mod mending;
+mod order_file;
 mod reading;
 mod restoring;
 mod salvaged;

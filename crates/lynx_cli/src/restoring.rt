@@ -1,4 +1,7 @@
 //! New stores of what copies of stores hold together.
+ghost use Rattle.std.specs.Prelude.{IfOk};
+ghost use Rattle.lynx_cli.specs.Folders.{HasToldRestored};
+
 use crate::auditing::{Copied, READING, copied_of};
 use crate::fault::Fault;
 use crate::hints::Hints;
@@ -230,7 +233,10 @@ fn write_restored<'a, W: Write>(
     rt: &HostRuntime,
     restored: &Restored,
     writer: &mut W,
-) -> Result<u8, Fault<'a>> {
+) -> Result<u8, Fault<'a>>
+    ensures { IfOk result (HasToldRestored restored.now.servers.items (W.contents writer.old)
+        (W.contents writer.new)) }
+{
     let Ok(lines) = restored_lines(rt.alloc(), restored.servers.as_slice()) else {
         return Err(Fault::Memory);
     };

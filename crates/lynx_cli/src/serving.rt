@@ -1,23 +1,28 @@
 //! Serving clients.
-ghost use Rattle.std.specs.Prelude.{◌≡◌, ℕ, IfErr, IfOk, IfNone, IfSome, List};
+ghost use Rattle.std.specs.Prelude.{◌≡◌, ℕ, IfErr, IfOk, IfNone, IfSome, List, is_some};
 ghost use Rattle.lynx_set.specs.Rules.{IsSet};
 ghost use Rattle.lynx_set.specs.Text.{text_of};
 ghost use Rattle.lynx_report.specs.Refusals.{Accepts};
 ghost use Rattle.lynx_order.specs.Explained.{GivesOrder};
+ghost use Rattle.lynx_order.specs.declared.explained.Explained.{Explained};
 ghost use Rattle.lynx_cli.specs.Done.{HasRefused, HasServedJudged, HasServedText};
 ghost use Rattle.lynx_cli.specs.Stopped.{StopsJudging};
 
 use crate::copied::check_apart;
 use crate::fault::Fault;
 use crate::hints::{Hints, Named};
+use crate::order_file::OrderFile;
 use crate::reading::text_of;
+use crate::shown::Shown;
 use crate::texts::{DONE, OFFENDING};
 use lynx_args::{ServeFlags, VERSION};
 use lynx_cluster::{Host, Pace};
 use lynx_keep::BatchKeeper;
 use lynx_notice::Board;
 use lynx_order::Explained;
-use lynx_service::{Log, Progress, ServeFault, Service, StatusPort, serve_stores};
+use lynx_service::{
+    Log, LogFault, LogPlace, Progress, ServeFault, Service, StatusPort, serve_stores,
+};
 use lynx_set::ChainSet;
 use lynx_sql::Rising;
 use lynx_store_files::{Copies, Stores};
@@ -76,7 +81,8 @@ fn service_of<'a, 'b>(
     place: ServePlace<'b>,
     flags: ServeFlags<'b>,
 ) -> Result<Service<'b>, Fault<'a>>
-    ensures { IfOk result (λ service. service.folder.now ≡ place.entry.folder.now) }
+    ensures folder { IfOk result (λ service. service.folder.now ≡ place.entry.folder.now) }
+    ensures order { IfOk result (λ service. service.is_order_apart ≡ is_some flags.entry.order) }
 {
     check_apart(host, place.folder, flags.copy)?;
     Ok(Service {
@@ -85,7 +91,37 @@ fn service_of<'a, 'b>(
         status: status_port(host, flags.status)?,
         copy: flags.copy,
         pace: pace_of(flags),
+        is_order_apart: flags.order.is_some(),
     })
+}
+
+/// Where the log of a service goes.
+fn log_place<'b>(flags: ServeFlags<'b>) -> LogPlace<'b> {
+    match flags.log_file {
+        Some(name) => LogPlace::File(name),
+        None if flags.log => LogPlace::StandardError,
+        None => LogPlace::Nowhere,
+    }
+}
+
+/// The log of a service.
+fn log_of<'a>(host: &HostRuntime, flags: ServeFlags<'a>) -> Result<Log, Fault<'a>> {
+    match (Log::new(*host, log_place(flags)), flags.log_file) {
+        (Ok(log), _) => Ok(log),
+        (Err(LogFault::File), Some(name)) => Err(Fault::Unwritten(Shown { name })),
+        (Err(_), _) => Err(Fault::Memory),
+    }
+}
+
+/// The file that takes the order, where one is named.
+fn order_file<'a>(
+    host: &HostRuntime,
+    flags: ServeFlags<'a>,
+) -> Result<Option<OrderFile<'a>>, Fault<'a>> {
+    match flags.order {
+        Some(name) => Ok(Some(OrderFile::open(host, name)?)),
+        None => Ok(None),
+    }
 }
 
 /// How many steps of a server share a transaction of its store.
@@ -120,7 +156,7 @@ fn note_copy(host: &HostRuntime, service: Service<'_>, fault: ServeFault, hints:
     }
 }
 
-/// The status of a service whose last line is an order.
+/// The status of a service that an order explains.
 fn status_of_order(explained: &Explained) -> u8
     requires { GivesOrder explained.now }
     ensures { result ≡ 0 }
@@ -131,7 +167,8 @@ fn status_of_order(explained: &Explained) -> u8
     }
 }
 
-/// Serves clients over an accepted set, until one of them asks for the end.
+/// Serves clients over an accepted set, until one of them asks for the end. It gives the status,
+/// and what explains all that was done.
 fn serve_accepted<
     R: Host + Net<Listener = TcpListener, Stream = TcpStream>,
     K: BatchKeeper + Send + Drop + 'static,
@@ -144,12 +181,13 @@ fn serve_accepted<
     text: &[u8],
     set: &ChainSet,
     service: Service<'_>,
-    log: Log,
+    log: &Log,
     writer: &mut W,
-) -> Result<u8, ServeFault>
+) -> Result<(u8, Explained), ServeFault>
     requires accepts { Accepts text.now set.now }
-    ensures { IfOk result (HasServedText K.terms S.store_terms service.entry.folder.now text.now
-        (W.contents writer.old) (W.contents writer.new)) }
+    ensures { IfOk result (λ ended. HasServedText K.terms S.store_terms service.entry.folder.now
+        service.entry.is_order_apart text.now ended.1 (W.contents writer.old)
+        (W.contents writer.new) ended.0) }
 {
     let progress = Progress::new(host, log);
     let board = Board {
@@ -161,7 +199,31 @@ fn serve_accepted<
     let explained = serve_stores(
         rt, alloc, set, stores, service, writer, &progress, &board, log,
     )?;
-    Ok(status_of_order(&explained))
+    Ok((status_of_order(&explained), explained))
+}
+
+/// Why a service couldn't be, or didn't end well, which is noted.
+fn noted_fault<
+    'a,
+    R: Net<Listener = TcpListener, Stream = TcpStream>,
+    C: Rising + Drop,
+    S: Copies<Connection<C>>,
+>(
+    host: &HostRuntime,
+    rt: &R,
+    stores: &S,
+    set: &ChainSet,
+    service: Service<'_>,
+    fault: ServeFault,
+    hints: &mut Hints,
+) -> Fault<'a> {
+    note_ports(host, rt, service, fault, hints);
+    note_copy(host, service, fault, hints);
+    let told = Fault::of_serving(fault);
+    let done: Result<(), Fault<'_>> = Err(told);
+    hints.note_store(host, service.folder, &done);
+    hints.note_foreign(host.alloc(), stores, service.folder, set, &done);
+    told
 }
 
 /// Serves clients over an accepted set, until one of them asks for the end. Why it can't be served
@@ -180,26 +242,26 @@ fn serve_set<
     text: &[u8],
     set: &ChainSet,
     place: ServePlace<'_>,
-    flags: ServeFlags<'_>,
+    flags: ServeFlags<'a>,
     hints: &mut Hints,
     writer: &mut W,
 ) -> Result<u8, Fault<'a>>
     requires accepts { Accepts text.now set.now }
-    ensures { IfOk result (HasServedText K.terms S.store_terms place.entry.folder.now text.now
-        (W.contents writer.old) (W.contents writer.new)) }
+    ensures { IfOk result (λ status. (explained : Explained)
+        × HasServedText K.terms S.store_terms place.entry.folder.now (is_some flags.entry.order)
+        text.now explained (W.contents writer.old) (W.contents writer.new) status) }
 {
     let service = service_of(host, place, flags)?;
-    let log = Log::new(*host, flags.log);
-    match serve_accepted(host, rt, stores, text, set, service, log, writer) {
-        Ok(status) => Ok(status),
-        Err(fault) => {
-            note_ports(host, &rt, service, fault, hints);
-            note_copy(host, service, fault, hints);
-            let done = Err(Fault::of_serving(fault));
-            hints.note_store(host, service.folder, &done);
-            hints.note_foreign(host.alloc(), stores, service.folder, set, &done);
-            done
+    let log = log_of(host, flags)?;
+    let order = order_file(host, flags)?;
+    match serve_accepted(host, rt, stores, text, set, service, &log, writer) {
+        Ok((status, explained)) => {
+            if let Some(order) = order {
+                order.write(host.alloc(), &explained)?;
+            }
+            Ok(status)
         }
+        Err(fault) => Err(noted_fault(host, &rt, stores, set, service, fault, hints)),
     }
 }
 
@@ -218,13 +280,13 @@ pub(crate) fn serve_file<
     stores: &S,
     name: &'a str,
     place: ServePlace<'_>,
-    flags: ServeFlags<'_>,
+    flags: ServeFlags<'a>,
     hints: &mut Hints,
     writer: &mut W,
 ) -> Result<u8, Fault<'a>>
     ensures { IfOk result (λ status. (text : List ℕ)
-        × HasServedJudged K.terms S.store_terms place.entry.folder.now text (W.contents writer.old)
-        (W.contents writer.new) status) }
+        × HasServedJudged K.terms S.store_terms place.entry.folder.now (is_some flags.entry.order)
+        text (W.contents writer.old) (W.contents writer.new) status) }
 {
     let read = text_of(host, name)?;
     let text = read.as_slice();

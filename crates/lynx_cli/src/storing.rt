@@ -1,6 +1,7 @@
 //! Stores by their files: listed, and upgraded. Both look at a copy first, so that nothing is
 //! written to what is no store, or is only read.
-ghost use Rattle.std.specs.Prelude.{◌≡◌};
+ghost use Rattle.std.specs.Prelude.{◌≡◌, IfOk};
+ghost use Rattle.std.specs.Io.KnownBytes.{Keeps};
 
 use crate::fault::Fault;
 use crate::hints::Hints;
@@ -33,7 +34,9 @@ fn uncopied<'a>(store: &'a str, fault: CopyFault) -> Fault<'a>
 }
 
 /// A copy of the store of a file, as it is before anything is done to it.
-fn copied<'a, C, S: Copies<C>>(copies: &S, store: &'a str) -> Result<C, Fault<'a>> {
+fn copied<'a, C, S: Copies<C>>(copies: &S, store: &'a str) -> Result<C, Fault<'a>>
+    ensures { IfOk result (S.copied_from store.entry.now) }
+{
     match copies.copy(store) {
         Ok(copy) => Ok(copy),
         Err(fault) => Err(uncopied(store, fault)),
@@ -67,7 +70,9 @@ fn hint_unlawful<C: Rising + Drop, S: Copies<Connection<C>>, W: Write>(
     store: &str,
     hints: &Hints,
     writer: &mut W,
-) {
+)
+    ensures { Keeps (W.contents writer.old) (W.contents writer.new) }
+{
     if !hints.are_wanted() {
         return;
     }

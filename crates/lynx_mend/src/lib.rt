@@ -20,6 +20,7 @@ pub mod marks;
 pub mod mending;
 mod moves;
 mod offenders;
+mod places;
 mod programs;
 pub mod proposing;
 mod ranges;

@@ -6,6 +6,7 @@ use crate::cuts::second_name;
 use crate::marks::{ProgramMarks, TableMarks};
 use crate::mending::Mending;
 use crate::moves::hop_at;
+use crate::places::put_place;
 use crate::roles::Roles;
 use lynx_names::limits::{MAX_PROGRAMS, MAX_TABLES};
 use lynx_names::{Memory, ProgramId, ServerId, TableId};
@@ -13,7 +14,7 @@ use lynx_set::{ChainSet, Interval};
 use lynx_text::printing::{put_interval, put_number, put_word};
 use std::alloc::Global;
 
-fn put(out: &mut Vec<u8>, words: &str) -> Result<(), Memory> {
+pub(crate) fn put(out: &mut Vec<u8>, words: &str) -> Result<(), Memory> {
     out.extend_from_slice(words.as_bytes())?;
     Ok(())
 }
@@ -29,7 +30,7 @@ fn put_server(alloc: Global, out: &mut Vec<u8>, server: ServerId) -> Result<(), 
 }
 
 /// Writes what stands between the item of that place and the one before it, of so many items.
-fn put_between(out: &mut Vec<u8>, place: usize, items: usize) -> Result<(), Memory> {
+pub(crate) fn put_between(out: &mut Vec<u8>, place: usize, items: usize) -> Result<(), Memory> {
     if place == 0 {
         Ok(())
     } else if place.saturating_add(1) == items {
@@ -197,16 +198,19 @@ fn put_decide_loss(
     alloc: Global,
     out: &mut Vec<u8>,
     server: ServerId,
+    tables: &TableMarks,
     moved: usize,
 ) -> Result<(), Memory> {
     put(out, "none of them begins while")?;
     put_server(alloc, out, server)?;
     put(out, " is down, and ")?;
     put_number(alloc, out, moved as u64)?;
-    put(
-        out,
-        " of them began elsewhere; each table beside is filled as its own is",
-    )
+    put(out, " of them began elsewhere")?;
+    if tables.is_empty() {
+        return Ok(());
+    }
+    put(out, "; a table beside has to be filled as its own is")?;
+    put(out, ", and no key that is only read is refused there")
 }
 
 fn put_cut(
@@ -340,7 +344,12 @@ fn put_loss(alloc: Global, out: &mut Vec<u8>, change: &Change) -> Result<(), Mem
         Change::Order { before, server, .. } => put_order_loss(alloc, out, before, server),
         Change::Turn { server, .. } => put_turn_loss(alloc, out, server),
         Change::Drop { .. } => put(out, "its clients aren't told that value"),
-        Change::Decide { server, moved, .. } => put_decide_loss(alloc, out, server, moved),
+        Change::Decide {
+            server,
+            tables,
+            moved,
+            ..
+        } => put_decide_loss(alloc, out, server, &tables, moved),
         Change::Cut { .. } => put(
             out,
             "each is a transaction of its own: others may see the one without the other",
@@ -357,6 +366,7 @@ fn put_lines(
     change: &Change,
 ) -> Result<(), Memory> {
     put_change(alloc, out, set, change)?;
+    put_place(alloc, out, set, change)?;
     put(out, "\n  lost: ")?;
     put_loss(alloc, out, change)?;
     put(out, "\n")

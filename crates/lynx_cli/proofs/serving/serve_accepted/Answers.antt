@@ -7,7 +7,6 @@ pub returns : goal.returns
 returns g c = record {
   chains = c.args.set.now;
   accepts = c.requires.accepts;
-  explained = c.in_ok-explained.explained;
   served = c.in_ok-explained.ensures;
   order = c.in_ok-explained.ensures.ordered c.requires.accepts.is_set c.requires.accepts.accepted;
   status_is = c.status_of_order.ensures;

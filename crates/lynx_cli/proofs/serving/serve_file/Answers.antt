@@ -10,5 +10,5 @@ returns g c =
     let old = g.W.Write.contents c.args.writer.now in
     let mid = g.W.Write.contents c.accepted_set-accepted.new.writer in
     let found = subst (λ (judged : Result (Option Set) Fault). IfOk judged (λ found. IfSome found (λ set. mid ≡ old))) c.in_ok-set.was c.accepted_set-accepted.ensures.unwritten in
-    served_so _ _ _ c.as_slice-text.result.now c.serve_set.result old mid _
+    served_so _ _ _ _ c.as_slice-text.result.now c.serve_set.result old mid _
     (subst (λ (found : Option Set). IfSome found (λ set. mid ≡ old)) c.in-Some.is found) c.serve_set.ensures

@@ -1,0 +1,35 @@
+-- What commands tell of stores that nobody serves, and with which status.
+use Rattle.std.specs.Prelude.{◌≡◌, ℕ, List, Option}
+use Rattle.std.specs.Io.KnownBytes.{Appends}
+use Rattle.lynx_set.specs.Set.{Set}
+use Rattle.lynx_keep.specs.Kept.{Terms}
+use Rattle.lynx_order.specs.declared.explained.Explained.{Explained}
+use Rattle.lynx_order.specs.declared.explained.Explained.TheVariants.{Order, Cycle}
+use Rattle.lynx_audit.specs.Audits.{HasAudited}
+use Rattle.lynx_audit.specs.Owing.{TellsOwed}
+use Rattle.lynx_restore.specs.Lines.{restored_lines}
+use Rattle.lynx_restore.specs.declared.restored.RestoredServer.{RestoredServer}
+
+-- of an audit: 0 where an order explains the stores, 1 where a cycle does
+abbrev pub status_of_explained : Explained → ℕ
+status_of_explained (Order chains) = 0
+status_of_explained (Cycle chains) = 1
+
+-- what these keepers keep was audited, and the status says whether an order explains it
+pub record HasAuditedKeepers {K : Type 0} (terms : Terms K) (set : Set) (keepers : List K)
+    (old new : Option (List ℕ)) (status : ℕ) : Type 0 where
+  pub explained : Explained
+  pub audited : HasAudited terms set keepers old new explained
+  pub status_is : status ≡ status_of_explained explained
+
+-- what is owed by what these keepers keep was listed, and the status is 0
+pub record HasListedOwed {K : Type 0} (terms : Terms K) (set : Set) (keepers : List K)
+    (old new : Option (List ℕ)) (status : ℕ) : Type 0 where
+  pub told : TellsOwed terms set keepers old new
+  pub status_is : status ≡ 0
+
+-- how much was restored of each server was told, and the status is 0
+pub record HasToldRestored (restored : List RestoredServer) (old new : Option (List ℕ))
+    (status : ℕ) : Type 0 where
+  pub written : Appends old new (restored_lines restored)
+  pub status_is : status ≡ 0

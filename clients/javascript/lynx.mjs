@@ -13,7 +13,9 @@
  * A request is known by its client's id and its number: whatever is asked under the same id and number is done once, and
  * a begin that was lost on its way is asked again under its number by itself. A client of your own keeps both where it
  * keeps what it asks for (`Client.at('stores', { client: 7n })`, `bank.begin('pay', 30, { number: 12n })`): after a
- * restart it asks again under the old number and gets the recorded answer, with `again` true.
+ * restart it asks again under the old number and gets the recorded answer, with `again` true. A client with an id of its
+ * own doesn't count by itself, since each process would count from 1 again: give each begin its number, or the client
+ * `first`, the first that is free.
  *
  * `await Client.connect(7000, { setPath: 'payment.set' })` asks at a port by a set of its own. A request tells a program
  * by its number, so that set is to be the service's, or one that it extends.
@@ -22,10 +24,13 @@
  * Waits are in seconds. Calls of one client may overlap: they are asked one after the other. docs/FORMATS.md has the bytes.
  */
 import { randomBytes } from 'node:crypto';
-import { readFile } from 'node:fs/promises';
+import { readFile, stat } from 'node:fs/promises';
 import { connect } from 'node:net';
 import { join } from 'node:path';
 import { setTimeout as pause } from 'node:timers/promises';
+
+/** The version of Lynx that it belongs to. */
+export const version = '0.1.0';
 
 const MAX_WORD = 2n ** 64n - 1n;
 const MAX_BODY_BYTES = 2048;
@@ -199,12 +204,21 @@ export async function servedSet(status, host = '127.0.0.1', timeout = 30) {
   throw new Broken('no status');
 }
 
+/** The text of a file, or null where there is none, or a pipe, say: that isn't opened, since it would wait for a writer. */
+async function textOf(path) {
+  try {
+    return (await stat(path)).isFile() ? await readFile(path, 'latin1') : null;
+  } catch (fault) {
+    if (fault.code === 'ENOENT' || fault.code === 'ENOTDIR') return null;
+    throw fault;
+  }
+}
+
 /** The port of the service over the stores of the folder, that of its status if it tells one, and the text of the set that
  * it serves. */
 export async function serviceOf(folder) {
-  const text = await readFile(join(folder, 'service'), 'latin1').catch((fault) => {
-    throw fault.code === 'ENOENT' ? new NoService(folder) : fault;
-  });
+  const text = await textOf(join(folder, 'service'));
+  if (text === null || /[^\0-\x7f]/.test(text)) throw new NoService(folder);
   const end = text.indexOf('--\n');
   const head = text.slice(0, Math.max(end, 0));
   const listening = /^listening 127\.0\.0\.1:([0-9]+)$/m.exec(head);
@@ -355,8 +369,8 @@ function milliseconds(attempt) {
 
 /**
  * A client of a service, made by `Client.at` or `Client.connect`. Of their options `client` is its id, drawn at random
- * where none is given, and `first` the first number that it gives a request by itself. It connects with its first
- * request. A connection that is lost is made again, at most `tries` times for a request, with growing pauses; each wait
+ * where none is given, and `first` the first number that it gives a request by itself: 1 where the id was drawn. One with
+ * an id of its own and no `first` gives none by itself. It connects with its first request. A connection that is lost is made again, at most `tries` times for a request, with growing pauses; each wait
  * for the service ends after `timeout` seconds. A service that is begun anew over a folder may have another port, and a
  * set that extends the one before; one of another set is OtherSet.
  */
@@ -369,6 +383,7 @@ export class Client {
   #line = null;
   #last = Promise.resolve();
   #byNumber;
+  #counts;
 
   /** The chains that this client began and whose last hop it hasn't seen, by their names, with the number of that hop. */
   owed = new Map();
@@ -384,26 +399,27 @@ export class Client {
     return new Client({ ...options, port, setText: setText ?? (setPath ? await readFile(setPath, 'latin1') : '') });
   }
 
-  constructor({ port, setText, status = null, folder = null, client = randomBytes(8).readBigUInt64BE(), first = 1n, host = '127.0.0.1',
-    timeout = 30, tries = 5 }) {
+  constructor({ port, setText, status = null, folder = null, client, first, host = '127.0.0.1', timeout = 30, tries = 5 }) {
     this.#folder = folder;
     this.#host = host;
     this.#port = port;
     this.#status = status;
     this.#timeout = timeout;
     this.tries = Math.max(1, tries);
-    this.client = wordOf(client, 'the client');
-    this.nextNumber = wordOf(first, 'the first number');
+    this.client = wordOf(client ?? randomBytes(8).readBigUInt64BE(), 'the client');
+    this.nextNumber = wordOf(first ?? 1n, 'the first number');
+    this.#counts = (client ?? null) === null || (first ?? null) !== null;
     this.setText = setText;
     this.programs = programsOf(setText);
     this.#byNumber = [...this.programs.values()];
   }
 
   /** Begins a chain of the program, by its name (or its number in the set), and gives Begun or Refused; other answers are
-   * thrown. The last argument may be `{ number }`; without one it draws the next number of its own. */
+   * thrown. The last argument may be `{ number }`; without one it draws the next number of its own. A client with an id of
+   * its own and no `first` has none, and throws a TypeError. */
   async begin(program, ...args) {
     const options = (typeof args.at(-1) === 'object' ? args.pop() : null) ?? {};
-    const number = wordOf(options.number ?? this.nextNumber++, 'the number');
+    const number = wordOf(options.number ?? this.#next(), 'the number');
     const values = args.map((value) => wordOf(value, 'an argument'));
     try {
       const kind = this.#kindOf(program, values);
@@ -416,6 +432,15 @@ export class Client {
       if (fault instanceof LynxError) fault.number = number;
       throw fault;
     }
+  }
+
+  /** The next number of its own. */
+  #next() {
+    if (!this.#counts) {
+      throw new TypeError(`client ${this.client} has no number to count from: give each begin its { number }, or the client `
+        + '{ first }. From 1 each process would count again, and get the answers of the one before');
+    }
+    return this.nextNumber++;
   }
 
   /** What that hop of the chain did: Found, or null where it isn't done yet, also not within `wait` seconds. */

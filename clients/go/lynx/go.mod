@@ -1,3 +1,3 @@
-module lynx
+module lynx.internal/lynx
 
 go 1.19

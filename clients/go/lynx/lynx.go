@@ -10,7 +10,8 @@
 // A request is known by its client's id and its number: whatever is asked under the same id and number is done once, and
 // a begin that was lost on its way is asked again under its number by itself. A client of your own keeps both where it
 // keeps what it asks for (Options{Client: 7}, bank.BeginNumbered(12, "pay", 30)): after a restart it asks again under the
-// old number and gets the recorded answer, with Again true.
+// old number and gets the recorded answer, with Again true. A client with an id of its own doesn't count by itself, since
+// each process would count from 1 again: use BeginNumbered, or give First, the first number that is free.
 //
 // lynx.Dial(7000, set, nil) asks at a port by the text of a set of its own. A request tells a program by its number, so
 // that set is to be the service's, or one that it extends: Options{Status: 7001} looks whether it is.
@@ -41,6 +42,9 @@ import (
 	"strings"
 	"time"
 )
+
+// Version is that of Lynx to which the client belongs.
+const Version = "0.1.0"
 
 const (
 	maxBodyBytes = 2048
@@ -81,6 +85,9 @@ var (
 	// ErrOtherSet: the service serves a set that doesn't extend the client's. The same numbers would ask for other
 	// programs.
 	ErrOtherSet = errors.New("other-set")
+	// ErrNoNumber: Begin was called of a client that has an ID of its own and no First. Each process would count from 1
+	// again, and get the answers of the one before: use BeginNumbered, or give First.
+	ErrNoNumber = errors.New("no-number")
 	// ErrAbsent: the hop isn't done yet.
 	ErrAbsent = errors.New("absent")
 )
@@ -249,9 +256,28 @@ func portOf(line, word string) int {
 	return port
 }
 
+// textOf gives the text of a file. Where that is a pipe, say, or no ASCII, there is none: a pipe isn't opened, since it would
+// wait for a writer.
+func textOf(path string) ([]byte, error) {
+	about, err := os.Stat(path)
+	if err != nil {
+		return nil, err
+	}
+	if !about.Mode().IsRegular() {
+		return nil, fs.ErrNotExist
+	}
+	data, err := os.ReadFile(path)
+	for _, each := range data {
+		if each >= 0x80 {
+			return nil, fs.ErrNotExist
+		}
+	}
+	return data, err
+}
+
 // noticeOf gives what the folder tells of its service: its port, that of its status or 0, and the text of its set.
 func noticeOf(folder string) (port, status int, set string, err error) {
-	data, err := os.ReadFile(filepath.Join(folder, "service"))
+	data, err := textOf(filepath.Join(folder, "service"))
 	if errors.Is(err, fs.ErrNotExist) {
 		return 0, 0, "", fault(ErrNoService, errors.New(folder))
 	} else if err != nil {
@@ -329,7 +355,7 @@ func beginsWith(all, first []string) bool {
 // Options of a client; those that are 0 are as it says here.
 type Options struct {
 	Client  uint64        // its id; drawn at random
-	First   uint64        // the first number that it gives a request by itself; 1
+	First   uint64        // the first number that it gives a request by itself; 1, or none where Client isn't 0
 	Tries   int           // how often a request is asked while connections are lost; 5
 	Timeout time.Duration // how long it waits for the service each time; 30 seconds
 	Host    string        // 127.0.0.1
@@ -377,9 +403,9 @@ func Dial(port int, set string, options *Options) (*Client, error) {
 			return nil, err
 		}
 		chosen.Client = binary.BigEndian.Uint64(drawn[:])
-	}
-	if chosen.First == 0 {
-		chosen.First = 1
+		if chosen.First == 0 {
+			chosen.First = 1
+		}
 	}
 	if chosen.Tries <= 0 {
 		chosen.Tries = 5
@@ -394,8 +420,12 @@ func Dial(port int, set string, options *Options) (*Client, error) {
 		next: chosen.First, owed: map[Chain]int{}}, nil
 }
 
-// Begin begins a chain of the program, under the next number of the client's own.
+// Begin begins a chain of the program, under the next number of the client's own. A client with an ID of its own and no
+// First has none: ErrNoNumber.
 func (c *Client) Begin(program string, arguments ...uint64) (*Begun, error) {
+	if c.options.First == 0 {
+		return nil, fault(ErrNoNumber, errors.New("use BeginNumbered, or give First"))
+	}
 	number := c.next
 	c.next++
 	return c.BeginNumbered(number, program, arguments...)

@@ -12,23 +12,32 @@
 A request is known by its client's id and its number: whatever is asked under the same id and number is done once, and
 a begin that was lost on its way is asked again under its number by itself. A client of your own keeps both where it
 keeps what it asks for (`Client(.., client=7)`, `bank.begin('pay', 30, number=12)`): after a restart it asks again under
-the old number and gets the recorded answer, with `again` true.
+the old number and gets the recorded answer, with `again` true. A client with an id of its own doesn't count by itself,
+since each process would count from 1 again: give each begin its number, or `first=` the first that is free.
 
 `lynx.Client(7000, 'payment.set')` asks at a port by a set of its own. A request tells a program by its number, so that
 set is to be the service's, or one that it extends: `lynx.Client(7000, 'payment.set', status=7001)` looks whether it is.
 
 A client belongs to one thread at a time. docs/FORMATS.md has the bytes.
 """
+from __future__ import annotations
+
 import http.client
 import os
 import secrets
 import socket
+import stat
 import struct
 import time
 from dataclasses import dataclass, field, replace
+from types import TracebackType
+from typing import Any, Dict, List, Optional, Tuple, Type, Union
+
+__version__ = '0.1.0'
 
 __all__ = ['Begun', 'Busy', 'ByeLost', 'Chain', 'Clash', 'Client', 'Found', 'Full', 'Lost', 'LynxError', 'NoService',
-           'OtherSet', 'Outside', 'Program', 'Refused', 'Stopped', 'Wanting', 'Wrong', 'extends', 'programs_of', 'served_set', 'service_of']
+           'OtherSet', 'Outside', 'Program', 'Refused', 'Stopped', 'Wanting', 'Wrong', 'extends', 'programs_of',
+           'served_set', 'service_of']
 
 MAX_WORD = 2 ** 64 - 1
 MAX_BODY_BYTES = 2048
@@ -39,10 +48,10 @@ class LynxError(Exception):
     """Why a request was not done. `reason` is the word of docs/FORMATS.md, and `number` the request's, where it had
     one: what is asked again is asked under it."""
 
-    reason = 'error'
-    number = None
+    reason: str = 'error'
+    number: Optional[int] = None
 
-    def __init__(self, text=None):
+    def __init__(self, text: Optional[str] = None) -> None:
         super().__init__(text or self.reason)
 
 
@@ -54,7 +63,7 @@ class Clash(LynxError):
 class Wrong(LynxError):
     """The request doesn't fit its program, or there is no such program: nothing was done. `reason` says why."""
 
-    def __init__(self, reason):
+    def __init__(self, reason: str) -> None:
         self.reason = reason
         super().__init__(reason)
 
@@ -62,7 +71,7 @@ class Wrong(LynxError):
 class Outside(Wrong):
     """An argument isn't in its parameter's range."""
 
-    def __init__(self):
+    def __init__(self) -> None:
         super().__init__('outside-range')
 
 
@@ -91,7 +100,7 @@ class Lost(LynxError):
     number, which is `number`."""
     reason = 'lost'
 
-    def __init__(self, text=None, number=None):
+    def __init__(self, text: Optional[str] = None, number: Optional[int] = None) -> None:
         self.number = number
         super().__init__(text)
 
@@ -108,11 +117,11 @@ class Chain:
     origin: int
     index: int
 
-    def __str__(self):
+    def __str__(self) -> str:
         return f'{self.origin}:{self.index}'
 
     @staticmethod
-    def parse(text):
+    def parse(text: str) -> Chain:
         """The chain of a text like `0:7`."""
         origin, colon, index = text.partition(':')
         if not (colon and origin.isascii() and index.isascii() and origin.isdigit() and index.isdigit()):
@@ -126,18 +135,20 @@ class Begun:
     before, by this very request."""
     chain: Chain
     stamp: int
-    results: list = field(hash=False)
+    results: List[int] = field(hash=False)
     again: bool
     number: int
-    named: dict = field(default_factory=dict, hash=False, compare=False, repr=False)
-    client: object = field(default=None, hash=False, compare=False, repr=False)
+    named: Dict[str, int] = field(default_factory=dict, hash=False, compare=False, repr=False)
+    client: Optional[Client] = field(default=None, hash=False, compare=False, repr=False)
     hops: int = field(default=1, hash=False, compare=False, repr=False)
 
-    def wait(self, wait=10.0):
+    def wait(self, wait: float = 10.0) -> Optional[List[List[int]]]:
         """The results of all its hops, hop 0 first, once the last is done; None where it isn't within `wait` seconds."""
         until = time.monotonic() + wait
         results = [self.results]
         for hop in range(1, self.hops):
+            if self.client is None:
+                raise ValueError('a begin of no client')
             found = self.client.look(self.chain, hop, max(0.0, until - time.monotonic()))
             if found is None:
                 return None
@@ -160,7 +171,7 @@ class Refused:
 class Found:
     """The hop is done, with these results."""
     stamp: int
-    results: list = field(hash=False)
+    results: List[int] = field(hash=False)
 
 
 @dataclass(frozen=True)
@@ -168,13 +179,13 @@ class Program:
     """A program of a set: its number, its parameters, how many hops it has, and of its first hop the names of its
     results and the needs."""
     number: int
-    parameters: tuple
+    parameters: Tuple[str, ...]
     hops: int
-    names: tuple = ()
-    needs: tuple = ()
+    names: Tuple[str, ...] = ()
+    needs: Tuple[str, ...] = ()
 
 
-def _program_of(number, words):
+def _program_of(number: int, words: List[List[str]]) -> Program:
     """The program of the words of its lines, but for the one that ends it."""
     at = [place for place, line in enumerate(words) if line[0] == 'hop'] + [len(words)]
     first = words[at[0]:at[1]] if len(at) > 1 else []
@@ -183,9 +194,10 @@ def _program_of(number, words):
     return Program(number, tuple(words[0][2:]), len(at) - 1, names, needs)
 
 
-def programs_of(text):
+def programs_of(text: str) -> Dict[str, Program]:
     """The programs of a set's text, by name. The text is not judged: the service has judged its own."""
-    programs, lines = {}, []
+    programs: Dict[str, Program] = {}
+    lines: List[List[str]] = []
     for line in text.split('\n'):
         words = line.split(' ')
         if words[0] == 'program' and len(words) > 1:
@@ -208,23 +220,28 @@ class OtherSet(LynxError):
     reason = 'other-set'
 
 
-def service_of(folder):
+def service_of(folder: Union[str, os.PathLike[str]]) -> Tuple[int, str]:
     """The port of the service over the stores of the folder, and the text of the set that it serves."""
     port, _, text = _notice_of(folder)
     return port, text
 
 
-def _port_of(address):
+def _port_of(address: str) -> Optional[int]:
     """The port of an address of this machine, None where there is none."""
-    return int(address.split(':')[1]) if address.startswith('127.0.0.1:') else None
+    host, _, port = address.partition(':')
+    return int(port) if host == '127.0.0.1' and port.isascii() and port.isdigit() else None
 
 
-def _notice_of(folder):
-    """What the folder tells of its service: its port, that of its status or None, and the text of its set."""
+def _notice_of(folder: Union[str, os.PathLike[str]]) -> Tuple[int, Optional[int], str]:
+    """What the folder tells of its service: its port, that of its status or None, and the text of its set. A pipe, say,
+    or a text that no service wrote tells of none; it isn't opened, since that would wait for a writer."""
+    path = os.path.join(folder, 'service')
     try:
-        with open(os.path.join(folder, 'service'), encoding='ascii') as file:
+        if not stat.S_ISREG(os.stat(path).st_mode):
+            raise NoService(f'no service: {folder}')
+        with open(path, encoding='ascii', newline='') as file:
             head, line, text = file.read().partition('--\n')
-    except FileNotFoundError:
+    except (FileNotFoundError, NotADirectoryError, UnicodeDecodeError):
         raise NoService(f'no service: {folder}') from None
     found = dict(each.split(' ', 1) for each in head.splitlines() if ' ' in each)
     port = _port_of(found.get('listening', ''))
@@ -233,7 +250,7 @@ def _notice_of(folder):
     return port, _port_of(found.get('status', '')), text
 
 
-def served_set(status, host='127.0.0.1', timeout=30.0):
+def served_set(status: int, host: str = '127.0.0.1', timeout: float = 30.0) -> str:
     """The text of the set of the service that tells its status at this port. An OSError where none does."""
     asked = http.client.HTTPConnection(host, status, timeout=timeout)
     try:
@@ -249,19 +266,21 @@ def served_set(status, host='127.0.0.1', timeout=30.0):
     return text.decode('ascii')
 
 
-def _parts_of(text):
+def _parts_of(text: str) -> Tuple[List[int], List[List[str]], List[List[str]]]:
     """The version and the count of servers of a set's text, and the lines of each of its tables and programs."""
-    parts, head = [], []
+    parts: List[List[str]] = []
+    head: List[str] = []
     for line in text.splitlines():
         if line.startswith(('table ', 'program ')):
             parts.append([line])
         else:
             (parts[-1] if parts else head).append(line)
     numbers = [int(line.split(' ')[1]) for line in head]
-    return numbers, [part for part in parts if part[0].startswith('table ')], [part for part in parts if part[0].startswith('program ')]
+    tables = [part for part in parts if part[0].startswith('table ')]
+    return numbers, tables, [part for part in parts if part[0].startswith('program ')]
 
 
-def extends(new, old):
+def extends(new: str, old: str) -> bool:
     """Whether the set of the text `new` has all that the one of `old` has, under the same numbers. Neither is judged."""
     (numbers, tables, programs), (was, old_tables, old_programs) = _parts_of(new), _parts_of(old)
     return (all(one >= other for one, other in zip(numbers, was)) and tables[:len(old_tables)] == old_tables
@@ -271,10 +290,10 @@ def extends(new, old):
 class _Body:
     """The body of an item, read from left to right."""
 
-    def __init__(self, data):
+    def __init__(self, data: bytes) -> None:
         self.data, self.at = data, 0
 
-    def take(self, form):
+    def take(self, form: str) -> Any:
         size = struct.calcsize(form)
         if self.at + size > len(self.data):
             raise ConnectionError('an answer is cut short')
@@ -282,22 +301,22 @@ class _Body:
         self.at += size
         return values[0] if len(values) == 1 else values
 
-    def values(self):
+    def values(self) -> List[int]:
         return [self.take('>Q') for _ in range(self.take('>B'))]
 
-    def end(self):
+    def end(self) -> None:
         if self.at != len(self.data):
             raise ConnectionError('an answer is too long')
 
 
-def _word(value, what):
+def _word(value: object, what: str) -> int:
     if isinstance(value, bool) or not isinstance(value, int) or not 0 <= value <= MAX_WORD:
         raise ValueError(f'{what} is no whole number from 0 to 2^64 - 1: {value!r}')
     return value
 
 
 _WRONG = {2: 'unknown-program', 3: 'wrong-origin', 4: 'arg-count', 5: 'wrong-shard'}
-_FAULTS = {1: Clash, 6: Full, 7: Busy, 9: Stopped, 10: Wanting, 11: Outside}
+_FAULTS: Dict[int, Type[LynxError]] = {1: Clash, 6: Full, 7: Busy, 9: Stopped, 10: Wanting, 11: Outside}
 
 
 class Client:
@@ -305,44 +324,50 @@ class Client:
     number, of the service at that port, by the set whose text is the file `set_path`, or the text `set_text`.
 
     `client` is its id, drawn at random where none is given, and `first` the first number that it gives a request by
-    itself. A connection that is lost is made again, at most `tries` times for a request, with growing pauses; each wait
-    for the service ends after `timeout` seconds. A service that is begun anew over a folder may have another port, and a
-    set that extends the one before; one of another set is OtherSet. At a port the sets are compared where `status` is
-    given, the port at which the service tells its status (`lynx serve .. --status PORT`).
+    itself: 1 where the id was drawn. One with an id of its own and no `first` gives none by itself. A connection that
+    is lost is made again, at most `tries` times for a request, with growing pauses; each wait for the service ends after
+    `timeout` seconds. A service that is started again over a folder may have another port, and a set that extends the one
+    before; one of another set is OtherSet. At a port the sets are compared where `status` is given, the port at which
+    the service tells its status (`lynx serve .. --status PORT`).
     """
 
-    def __init__(self, where, set_path=None, *, set_text=None, status=None, client=None, first=1, host='127.0.0.1', timeout=30.0,
-                 tries=5):
+    def __init__(self, where: Union[int, str, os.PathLike[str]], set_path: Union[None, str, os.PathLike[str]] = None, *,
+                 set_text: Optional[str] = None, status: Optional[int] = None, client: Optional[int] = None,
+                 first: Optional[int] = None, host: str = '127.0.0.1', timeout: float = 30.0, tries: int = 5) -> None:
         self.folder = None if isinstance(where, int) else os.fspath(where)
-        if self.folder is not None:
+        if isinstance(where, int):
+            port = where
+        else:
             if set_path is not None or set_text is not None or status is not None:
                 raise TypeError('the set of a folder is that of its service')
-            where, set_text = service_of(self.folder)
+            port, set_text = service_of(where)
         if set_text is None and set_path is not None:
             with open(set_path, encoding='ascii') as file:
                 set_text = file.read()
         self.set_text = set_text or ''
         self.programs = programs_of(set_text or '')
         self.numbered = {program.number: program for program in self.programs.values()}
-        self.owed = {}  # the last hop of each chain that it began, until it has seen that hop
+        self.owed: Dict[Chain, int] = {}  # the last hop of each chain that it began, until it has seen that hop
         self.client = secrets.randbits(64) if client is None else _word(client, 'the client')
-        self.next_number = _word(first, 'the first number')
-        self.address, self.status = (host, where), status
+        self.counts = client is None or first is not None
+        self.next_number = _word(1 if first is None else first, 'the first number')
+        self.address, self.status = (host, port), status
         self.timeout, self.tries = timeout, max(1, tries)
-        self.socket = None
+        self.socket: Optional[socket.socket] = None
 
-    def __enter__(self):
+    def __enter__(self) -> Client:
         return self
 
-    def __exit__(self, *_):
+    def __exit__(self, _kind: Optional[Type[BaseException]], _fault: Optional[BaseException],
+                 _trace: Optional[TracebackType]) -> None:
         self.close()
 
-    def begin(self, program, *args, number=None):
+    def begin(self, program: Union[str, int], *args: int, number: Optional[int] = None) -> Union[Begun, Refused]:
         """Begins a chain of the program, by its name (or its number in the set), and gives Begun or Refused; other
-        answers are exceptions. Without a `number` it draws the next one of its own."""
+        answers are exceptions. Without a `number` it draws the next one of its own; a client with an id of its own and
+        no `first` has none, and raises TypeError."""
         if number is None:
-            number = self.next_number
-            self.next_number += 1
+            number = self._next()
         kind = program if isinstance(program, int) and not isinstance(program, bool) else self._number_of(program, args)
         if not 0 <= kind <= 63 or len(args) > 8:
             raise Wrong('unknown-program' if len(args) <= 8 else 'arg-count')
@@ -360,7 +385,16 @@ class Client:
             self.owed[answer.chain] = answer.hops - 1
         return answer
 
-    def look(self, chain, hop, wait=0.0):
+    def _next(self) -> int:
+        """The next number of its own."""
+        if not self.counts:
+            raise TypeError(f'client {self.client} has no number to count from: give each begin its number=, or the client '
+                            'first=. From 1 each process would count again, and get the answers of the one before')
+        number = self.next_number
+        self.next_number += 1
+        return number
+
+    def look(self, chain: Union[Chain, str], hop: int, wait: float = 0.0) -> Optional[Found]:
         """What that hop of the chain did: Found, or None where it isn't done yet, also not within `wait` seconds."""
         chain = Chain.parse(chain) if isinstance(chain, str) else chain
         if not 0 <= chain.origin <= 15 or not 0 <= hop <= 255:
@@ -383,18 +417,18 @@ class Client:
             time.sleep(min(pause, left))
             pause = min(pause * 2, 0.1)
 
-    def wait_for(self, begun, program, wait=10.0):
+    def wait_for(self, begun: Begun, program: str, wait: float = 10.0) -> Optional[List[List[int]]]:
         """The results of all hops of a chain that began, hop 0 first, once its last is done; None where it isn't within
         `wait` seconds."""
         return replace(begun, client=self, hops=self.programs[program].hops).wait(wait)
 
-    def settle(self, wait=10.0):
+    def settle(self, wait: float = 10.0) -> bool:
         """Whether all chains that this client began are done, within `wait` seconds."""
         until = time.monotonic() + wait
         return all(self.look(chain, hop, max(0.0, until - time.monotonic())) is not None
                    for chain, hop in list(self.owed.items()))
 
-    def close(self):
+    def close(self) -> None:
         """Leaves. A request begins a new connection."""
         if self.socket is not None:
             try:
@@ -403,7 +437,7 @@ class Client:
                 pass
             self._drop()
 
-    def shut(self):
+    def shut(self) -> None:
         """Has the service end: it takes no more clients, checks all that it told, and says whether it stood. Raises
         Lost where it couldn't be asked, and ByeLost where it was and its bye didn't come."""
         try:
@@ -414,7 +448,7 @@ class Client:
         finally:
             self._drop()
 
-    def _sent(self, tag):
+    def _sent(self, tag: int) -> None:
         """Sends an item without a body, over a new connection where the old one takes nothing."""
         for attempt in range(self.tries):
             try:
@@ -426,15 +460,15 @@ class Client:
                     raise Lost(str(fault)) from fault
                 time.sleep(min(0.02 * 2 ** min(attempt + 1, 6), 1.0))
 
-    def _number_of(self, name, args):
-        program = self.programs.get(name)
+    def _number_of(self, name: Union[str, int], args: Tuple[int, ...]) -> int:
+        program = self.programs.get(name) if isinstance(name, str) else None
         if program is None:
             raise Wrong('unknown-program')
         if len(args) != len(program.parameters):
             raise Wrong('arg-count')
         return program.number
 
-    def _answer_of(self, body, number, kind):
+    def _answer_of(self, body: _Body, number: int, kind: int) -> Union[Begun, Refused]:
         program = self.numbered.get(kind, Program(kind, (), 1))
         answer = body.take('>B')
         if answer == 0:
@@ -454,12 +488,12 @@ class Client:
         raise _FAULTS.get(answer, LynxError)()
 
     @staticmethod
-    def _found_of(body):
+    def _found_of(body: _Body) -> Optional[Found]:
         found = Found(body.take('>Q'), body.values()) if body.take('>B') else None
         body.end()
         return found
 
-    def _ask(self, tag, body, wanted):
+    def _ask(self, tag: int, body: bytes, wanted: int) -> _Body:
         """Asks, over a new connection where the old one is lost: the same request is never done twice."""
         for attempt in range(self.tries):
             if attempt:
@@ -472,49 +506,49 @@ class Client:
                     raise
         raise ConnectionError('not tried')
 
-    def _exchange(self, tag, body, wanted):
+    def _exchange(self, tag: int, body: bytes, wanted: int) -> _Body:
         self._send(tag, body)
         return self._answer(wanted)
 
-    def _find(self):
+    def _find(self, folder: str) -> None:
         """Looks again where the service over the folder listens, and where its set is told: a kill leaves what the folder
         tells, and another service may have its ports by now."""
-        port, self.status, text = _notice_of(self.folder)
+        port, self.status, text = _notice_of(folder)
         self.address = (self.address[0], port)
         if self.status is None:
             self._compare(text)
 
-    def _compare(self, text):
+    def _compare(self, text: str) -> None:
         """The set that is served is this client's, or goes on from it."""
         if text != self.set_text and not extends(text, self.set_text):
             raise OtherSet()
 
-    def _send(self, tag, body):
+    def _send(self, tag: int, body: bytes) -> None:
         if self.socket is None:
             if self.folder is not None:
-                self._find()
+                self._find(self.folder)
             if self.status is not None:
                 self._compare(served_set(self.status, self.address[0], self.timeout))
             self.socket = socket.create_connection(self.address, self.timeout)
             self.socket.setsockopt(socket.IPPROTO_TCP, socket.TCP_NODELAY, 1)
         self.socket.sendall(struct.pack('>BI', tag, len(body)) + body)
 
-    def _answer(self, wanted):
+    def _answer(self, wanted: int) -> _Body:
         found, length = struct.unpack('>BI', self._read(5))
         if found != wanted or length > MAX_BODY_BYTES:
             raise ConnectionError('what came is no answer')
         return _Body(self._read(length))
 
-    def _read(self, count):
+    def _read(self, count: int) -> bytes:
         data = b''
         while len(data) < count:
-            piece = self.socket.recv(count - len(data))
+            piece = self.socket.recv(count - len(data)) if self.socket is not None else b''
             if not piece:
                 raise ConnectionError('the service closed the connection')
             data += piece
         return data
 
-    def _drop(self):
+    def _drop(self) -> None:
         if self.socket is not None:
             self.socket.close()
             self.socket = None

@@ -1,0 +1,21 @@
+#!/bin/sh
+# serve.sh SET DIR PORT WORD..: serves, and ends well on TERM, INT and HUP, which end `lynx serve` itself without its audit,
+# or do nothing where it is process 1. A service that still opens its stores can't be asked for its end, so it is asked
+# again for a minute.
+(trap '' INT HUP; exec lynx serve "$@") &
+service=$! dir=$2 status=0
+# shellcheck disable=SC2317  # the trap calls it
+shut() {
+    for _ in $(seq 120); do
+        echo shut | lynx ask "$dir" > /dev/null 2>&1 && return
+        kill -0 "$service" 2> /dev/null || return
+        sleep 0.5
+    done
+    kill "$service"
+}
+trap shut TERM INT HUP
+while kill -0 "$service" 2> /dev/null; do
+    wait "$service"
+    status=$?
+done
+exit "$status"

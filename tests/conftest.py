@@ -6,6 +6,8 @@ import fcntl
 import itertools
 import os
 import shutil
+import subprocess
+import sys
 
 import pytest
 from hypothesis import settings
@@ -85,6 +87,25 @@ def chromium():
     if not found:
         pytest.fail("chromium isn't installed: tests/setup installs it", pytrace=False)
     return found
+
+
+@pytest.fixture(scope="session")
+def dist(program, tmp_path_factory):
+    """The folder of what tools/dist makes of the program, made once for all workers, in out/dist."""
+    base = tmp_path_factory.getbasetemp()
+    done = (base.parent if "PYTEST_XDIST_WORKER" in os.environ else base) / "packed"
+    with open(str(done) + ".lock", "w", encoding="ascii") as lock:
+        fcntl.flock(lock, fcntl.LOCK_EX)
+        folder = os.path.join(TOP, "out", "dist")
+        if not done.exists():
+            shutil.rmtree(folder, ignore_errors=True)
+            ran = subprocess.run([sys.executable, os.path.join(TOP, "tools", "dist"), "--program", program, folder],
+                                 stdout=subprocess.PIPE, stderr=subprocess.STDOUT, text=True, check=False)
+            done.write_text(ran.stdout if ran.returncode == 0 else f"failed: {ran.stdout}", encoding="utf-8")
+        told = done.read_text(encoding="utf-8")
+    if told.startswith("failed: "):
+        pytest.fail(told, pytrace=False)
+    return folder
 
 
 class Turn:

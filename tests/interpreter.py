@@ -8,7 +8,7 @@ import sys
 # Debian's packages that are used, each with the module that it brings.
 MODULES = {
     "python3-selenium": "selenium", "python3-pytest": "pytest", "python3-pytest-xdist": "xdist",
-    "python3-hypothesis": "hypothesis",
+    "python3-hypothesis": "hypothesis", "python3-venv": "ensurepip",
 }
 
 FINDS = "import importlib.util, sys; print(*[it for it in sys.argv[1:] if importlib.util.find_spec(it) is None])"

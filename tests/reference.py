@@ -1,4 +1,4 @@
-"""A plain reading of docs/DEFINITIONS.md and docs/FORMATS.md, written apart from the program: what a set text and a
+"""A plain reading of docs/PROOF.md and docs/FORMATS.md, written apart from the program: what a set text and a
 script print, and the verdict on a set. It walks lists where the program may keep counters, and makes no effort to be
 fast. tests/test_random.py compares the program with it, and tests/test_reference.py holds it to plainer ways.
 """

@@ -1,7 +1,7 @@
 #!/usr/bin/env python3
 """tests/reference_chart.py SET SCRIPT: the chart of a run of the script over the set, by a plain reading of docs/FORMATS.md
-that was written apart from the program; what the servers do is that of tests/reference.py. What it prints is what a case of
-`lynx draw SET SCRIPT` expects, and tests/test_random.py compares the program with it."""
+and of crates/lynx_chart/specs that was written apart from the program; what the servers do is that of tests/reference.py. What it
+prints is what a case of `lynx draw SET SCRIPT` expects, and tests/test_random.py compares the program with it."""
 import os
 import sys
 

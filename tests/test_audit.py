@@ -142,7 +142,7 @@ def test_by_folder(tally, program, room):
         tally.is_same("no other file", [name for name in os.listdir(room.stores) if "new" in name], [])
         tally.is_same("ask", end_of([program, "ask", room.stores], "begin 1 1 seed 100\nbegin 1 2 pay 30\nquit\n"),
                       ("begun 0:0 stamp 1 results -\nbegun 0:1 stamp 2 results 100\nbye\n", "", 0))
-        with client.Client(room.stores, client=2) as bank:
+        with client.Client(room.stores, client=2, first=1) as bank:
             paid = bank.begin("pay", 20)
             tally.is_same("a client", paid.named, {"x": 70})
             tally.is_same("its hops", paid.wait(5), [[70], []])
@@ -166,7 +166,7 @@ def test_moved(tally, program, room):
     writes its own, and a client that goes by the folder goes on."""
     notice = os.path.join(room.stores, "service")
     with Service(program, room) as service:
-        bank = client.Client(room.stores, client=1, tries=40)
+        bank = client.Client(room.stores, client=1, first=1, tries=40)
         bank.begin("seed", 100)
         service.kill()
     tally.holds("a kill leaves the notice", os.path.exists(notice))
@@ -175,7 +175,7 @@ def test_moved(tally, program, room):
     room.set = grown
     with Service(program, room) as service:
         tally.is_same("it goes on", bank.begin("pay", 30).results, [100])
-        tally.is_same("the new program", client.Client(room.stores, client=2).begin("look").results, [70])
+        tally.is_same("the new program", client.Client(room.stores, client=2, first=1).begin("look").results, [70])
         client.Client(room.stores).shut()
         tally.is_same("its end", service.end()[2], 0)
 
@@ -184,9 +184,9 @@ def test_other_order(tally, program, room):
     """By a set with its programs in another order a request begins another program: by the folder it can't."""
     turned = room.file("turned", TURNED)
     with Service(program, room) as service:
-        tally.is_same("seed", client.Client(room.stores, client=1).begin("seed", 100).results, [])
-        tally.is_same("by the folder", client.Client(room.stores, client=2).begin("pay", 30).named, {"x": 100})
-        tally.is_same("at the port, another program", client.Client(service.port, turned, client=3).begin("seed", 5).results, [70])
+        tally.is_same("seed", client.Client(room.stores, client=1, first=1).begin("seed", 100).results, [])
+        tally.is_same("by the folder", client.Client(room.stores, client=2, first=1).begin("pay", 30).named, {"x": 100})
+        tally.is_same("at the port, another program", client.Client(service.port, turned, client=3, first=1).begin("seed", 5).results, [70])
         tally.holds("it is told apart", not client.extends(PAYMENT, TURNED) and not client.extends(TURNED, PAYMENT))
         client.Client(room.stores).shut()
         service.end()
@@ -199,7 +199,7 @@ def test_replaced(tally, program):
     """A client that goes by the folder doesn't go on with a service of another set."""
     with Room(PAYMENT) as room, Room(TURNED) as other:
         with Service(program, room) as service:
-            bank = client.Client(room.stores, client=1, tries=40)
+            bank = client.Client(room.stores, client=1, first=1, tries=40)
             bank.begin("seed", 100)
             client.Client(room.stores).shut()
             service.end()

@@ -1,4 +1,4 @@
-"""Clients at a running `lynx serve`: by single bytes, by `lynx ask`, by clients/python/lynx.py over connections that are lost on
+"""Clients at a running `lynx serve`: by single bytes, by `lynx ask`, by clients/python over connections that are lost on
 purpose, and the example of a service, in a browser too. The bytes and lines that are wanted are spelled here from
 docs/FORMATS.md, apart from the program."""
 import contextlib
@@ -517,7 +517,7 @@ def test_lost(tally, program):
         def pay(client):
             chance = random.Random(client)
             try:
-                with lynx.Client(cutter.port, room.set, client=client, tries=60, timeout=10) as bank:
+                with lynx.Client(cutter.port, room.set, client=client, first=1, tries=60, timeout=10) as bank:
                     for _ in range(60):
                         amount = chance.randrange(1, 100)
                         answer = bank.begin(f"give{client}", client * 10 + chance.randrange(2), (client + 1) % 4 * 10, amount)
@@ -550,12 +550,55 @@ def test_lost(tally, program):
             tally.is_same(f"sum at server {server}", total, (moved[server - 1] - moved[server]) % 2 ** 64)
 
 
+def raised(call):
+    """The kind of the fault that a call raises, and what it says."""
+    try:
+        return call()
+    except (lynx.LynxError, TypeError) as fault:
+        return type(fault), str(fault)
+
+
+def test_uncounted(tally, program):
+    """A client with an id of its own and no first number: a begin wants a number, since each process would count from 1 again."""
+    with Room(PAYMENT) as room, Service(program, room) as service:
+        for number in (1, 2):
+            bank = lynx.Client(room.stores, client=5)
+            kind, text = raised(lambda: bank.begin("seed", 100))
+            tally.is_same(f"process {number}", (kind, "number=" in text, "first=" in text), (TypeError, True, True))
+            tally.is_same(f"with a number {number}", bank.begin("seed", 100, number=number).chain, lynx.Chain(0, number - 1))
+            bank.close()
+        counted = lynx.Client(room.stores, client=5, first=3)
+        tally.is_same("from a first number", [counted.begin("seed", 1).number for _ in range(2)], [3, 4])
+        tally.is_same("an id that is drawn", [lynx.Client(room.stores).begin("seed", 1).again for _ in range(2)], [False, False])
+        counted.shut()
+        tally.is_same("the end", service.end(), ("closed\norder 0:0 0:1 0:2 0:3 0:4 0:5\n", "", 0))
+
+
+def test_strange_notices(tally):
+    """Notices that no service wrote: a pipe, a folder, and texts that aren't ASCII or tell no port. None is waited for."""
+    def text(data):
+        def write(path):
+            with open(path, "wb") as file:
+                file.write(data)
+        return write
+
+    strange = {"a pipe": os.mkfifo, "a folder": os.mkdir, "no ASCII": text(b"listening 127.0.0.1:7000\n--\nlynx 1\n\xc3\xa9\n"),
+               "no port": text(b"listening 127.0.0.1:x\n--\n"), "a port of no digits": text(b"listening 127.0.0.1:\n--\n"),
+               "another machine": text(b"listening 127.0.0.2:7000\n--\n"), "nothing": text(b"")}
+    for name, make in strange.items():
+        with Room(PAYMENT) as room:
+            make(os.path.join(room.stores, "service"))
+            tally.is_same(name, raised(lambda: lynx.Client(room.stores)), (lynx.NoService, f"no service: {room.stores}"))
+    with Room(PAYMENT) as room:
+        tally.is_same("a file as a folder", raised(lambda: lynx.Client(room.set)), (lynx.NoService, f"no service: {room.set}"))
+
+
 def test_typed(tally, program):
     """What the Python client gives and raises."""
     text = "program sum a\nhop 0\nget x t a\nlet s x + a\nget y t s\nend\n"
     tally.is_same("names of results", lynx.programs_of(text)["sum"].names, ("x", "s", "y"))
     with Room(PAYMENT) as room, Service(program, room) as service:
-        bank = lynx.Client(service.port, room.set, client=1)
+        bank = lynx.Client(service.port, room.set, client=1, first=1)
         tally.is_same("seed", bank.begin("seed", 100), lynx.Begun(lynx.Chain(0, 0), 1, [], False, 1))
         tally.is_same("refused", bank.begin("pay", 101), lynx.Refused(0, 2, False, 2))
         paid = bank.begin("pay", 30)
@@ -640,7 +683,7 @@ def test_second_version(tally, program):
     ranged = PAYMENT.replace("lynx 1", "lynx 2").replace("program seed n\n", "program seed n\nrange n 0..999\n")
     with Room(ranged) as room:
         with Service(program, room) as service:
-            bank = lynx.Client(service.port, room.set, client=1)
+            bank = lynx.Client(service.port, room.set, client=1, first=1)
             try:
                 got = bank.begin("seed", 1000)
             except lynx.Outside as fault:
@@ -652,7 +695,7 @@ def test_second_version(tally, program):
         tally.is_same("a store of version 2", end_of([program, "show", room.store(0)]),
                       ("server 0\nentries 1\nbegun 0:0 stamp 1 results -\ncell acct 0 999\n", "", 0))
         with Service(program, room) as service:
-            bank = lynx.Client(service.port, room.set, client=1)
+            bank = lynx.Client(service.port, room.set, client=1, first=1)
             tally.is_same("again at version 2", bank.begin("seed", 999, number=2), lynx.Begun(lynx.Chain(0, 0), 1, [], True, 2))
             bank.shut()
             tally.is_same("second end of version 2", service.end(), ("closed\norder 0:0\n", "", 0))
@@ -662,7 +705,7 @@ def test_upgraded(tally, program):
     """A service goes on over upgraded stores: stop, upgrade, serve the set of version 2."""
     with Room(PAYMENT) as room:
         with Service(program, room) as service:
-            bank = lynx.Client(service.port, room.set, client=1)
+            bank = lynx.Client(service.port, room.set, client=1, first=1)
             bank.begin("seed", 100, number=1)
             bank.shut()
             tally.is_same("end before an upgrade", service.end(), ("closed\norder 0:0\n", "", 0))
@@ -670,7 +713,7 @@ def test_upgraded(tally, program):
         tally.is_same("upgrade of store 1", end_of([program, "upgrade", room.store(1)]), ("upgraded 0\n", "", 0))
         room.file("set", PAYMENT.replace("lynx 1", "lynx 2"))
         with Service(program, room) as service:
-            bank = lynx.Client(service.port, room.set, client=1)
+            bank = lynx.Client(service.port, room.set, client=1, first=1)
             tally.is_same("again after an upgrade", bank.begin("seed", 100, number=1), lynx.Begun(lynx.Chain(0, 0), 1, [], True, 1))
             paid = bank.begin("pay", 30, number=2)
             tally.is_same("a payment after an upgrade", bank.look(paid.chain, 1, wait=10).results, [])
@@ -694,13 +737,13 @@ def page(port, path, data=None, key=None):
 
 
 def test_documented(tally, program):
-    """The model of docs/SCALE.md, and the dozen lines of docs/CLIENTS.md."""
-    with open(os.path.join(TOP, "docs", "SCALE.md")) as page:
+    """The model of docs/OPERATING.md, and the dozen lines of docs/CLIENTS.md."""
+    with open(os.path.join(TOP, "docs", "OPERATING.md")) as page:
         code, _, behind = page.read().partition("```python\n")[2].partition("```")
     told = io.StringIO()
     with contextlib.redirect_stdout(told):
         exec(code, {})
-    tally.holds("what the model of docs/SCALE.md prints", told.getvalue() == "".join(
+    tally.holds("what the model of docs/OPERATING.md prints", told.getvalue() == "".join(
         line[4:] + "\n" for line in behind.partition("It prints\n\n")[2].partition("\n\n")[0].splitlines()))
     with open(os.path.join(TOP, "docs", "CLIENTS.md")) as page:
         code = page.read().partition("```python\n")[2].partition("```")[0]

@@ -155,7 +155,7 @@ class Payer:
 
     def run(self):
         try:
-            with client.Client(self.room.stores, client=self.number, timeout=20, tries=400) as bank:
+            with client.Client(self.room.stores, client=self.number, first=1, timeout=20, tries=400) as bank:
                 while not self.stop:
                     began = time.monotonic()
                     bank.begin("pay", 1)
@@ -171,7 +171,7 @@ class Payer:
 
 
 def seed(room, amount=1_000_000):
-    with client.Client(room.stores, client=99) as bank:
+    with client.Client(room.stores, client=99, first=1) as bank:
         bank.begin("seed", amount, number=1)
 
 
@@ -301,7 +301,7 @@ def test_paused(tally, program):
                         and service.figures()['lynx_copy_follows{server="1"}'] == 0)
             tally.holds("all of it lacks",
                         wait_until(lambda: service.figures()['lynx_copy_behind_entries{server="1"}'] > 0, 20))
-            with client.Client(room.stores, client=5) as bank:
+            with client.Client(room.stores, client=5, first=1) as bank:
                 tally.holds("the service goes on", bank.begin("pay", 1).wait(5))
             client.Client(room.stores).shut()
             out, fault, status = service.end()
@@ -399,7 +399,7 @@ def test_resumed(tally, program):
             seed(room)
             tally.is_same("paused", service.command("/copy/pause"), (200, "paused\n"))
             before = [entries(listed(program, room.copied(server))) for server in SERVERS]
-            with client.Client(room.stores, client=5) as bank:
+            with client.Client(room.stores, client=5, first=1) as bank:
                 bank.begin("pay", 1).wait(5)
             if turn:
                 service.command("/copy/resume")
@@ -517,7 +517,7 @@ def test_tried_again(tally, program):
             seed(room)
             tally.holds("soon nothing lacks", wait_until(service.is_whole, 20))
             strain.set(fail="/copy/server-0.lynx")
-            with client.Client(room.stores, client=5) as bank:
+            with client.Client(room.stores, client=5, first=1) as bank:
                 bank.begin("pay", 1).wait(5)
             tally.holds("a store fails", wait_until(lambda: service.follows() == [0, 1], 20))
             os.rename(room.copied(0), room.copied(0) + ".away")
@@ -543,7 +543,7 @@ def test_unclosed(tally, program, server):
         strain = Strain(room)
         with Followed(program, room, env=strain.env) as service:
             seed(room)
-            with client.Client(room.stores, client=5) as bank:
+            with client.Client(room.stores, client=5, first=1) as bank:
                 bank.begin("pay", 1).wait(5)
             tally.holds("soon nothing lacks", wait_until(service.is_whole, 20))
             strain.set(fail=f"/copy/server-{server}.lynx")
@@ -573,7 +573,7 @@ def test_pauses(tally, program):
                     tally.is_same(f"pause {turn}, {again} again", found, ((200, "paused\n"), []))
                 service.command("/copy/resume")
                 time.sleep(chance.random() * 0.15)
-            with client.Client(room.stores, client=5) as bank:
+            with client.Client(room.stores, client=5, first=1) as bank:
                 bank.begin("pay", 1).wait(5)
             tally.holds("soon nothing lacks", wait_until(service.is_whole, 20))
             strain.set(hold="/copy/")

@@ -130,11 +130,11 @@ def test_worked(tally, program, room):
     old = room.set
     room.set = room.file("grown", GROWN)
     with Service(program, room) as service:
-        asked = client.Client(service.port, old, client=1)
+        asked = client.Client(service.port, old, client=1, first=1)
         tally.is_same("an old request", asked.begin("pay", 30, number=2).again, True)
         chain = client.Chain(0, 1)
         tally.is_same("what was owed", asked.look(chain, 1, wait=10).results, [])
-        new = client.Client(service.port, room.set, client=2)
+        new = client.Client(service.port, room.set, client=2, first=1)
         tally.is_same("a new program", new.begin("read", number=1).results, [30])
         tally.is_same("a new server", new.begin("note", 7, number=2).results, [])
         asked.close()

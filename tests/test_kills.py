@@ -21,7 +21,7 @@ class Payer:
     """A client that pays one after the other, and writes down what it is told."""
 
     def __init__(self, room, port, client):
-        self.bank = lynx.Client(port, room.set, client=client, timeout=10, tries=400)
+        self.bank = lynx.Client(port, room.set, client=client, first=1, timeout=10, tries=400)
         self.told, self.failed, self.stop = {}, None, False
         self.thread = threading.Thread(target=self.run)
 
@@ -39,7 +39,7 @@ class Payer:
 
 def stands(room, port, payer, tally):
     """What was told is told again, but for `again`."""
-    with lynx.Client(port, room.set, client=payer.bank.client) as bank:
+    with lynx.Client(port, room.set, client=payer.bank.client, first=1) as bank:
         for number, (amount, answer) in payer.told.items():
             found = bank.begin("pay", amount, number=number)
             if (found.chain, found.stamp, found.results, found.again) != (answer.chain, answer.stamp, answer.results, True):
@@ -81,7 +81,7 @@ class Power:
 
 def audit(tally, program, room, service, paid):
     """The service ends well, and the stores have what was paid."""
-    with lynx.Client(service.port, room.set, client=98) as bank:
+    with lynx.Client(service.port, room.set, client=98, first=1) as bank:
         last = max(paid, key=lambda chain: chain.index)
         tally.holds("the last payment arrives", bank.look(last, 1, wait=60))
         bank.shut()
@@ -104,7 +104,7 @@ def pay_through(tally, program, name, ends, end):
             return Service(program, room, port, env=env, words=["--sync-each"] if at % 3 == 2 else [])
 
         service = started(0)
-        with lynx.Client(port, room.set, client=99) as bank:
+        with lynx.Client(port, room.set, client=99, first=1) as bank:
             bank.begin("seed", 1_000_000_000)
         payers = [Payer(room, port, client) for client in range(1, CLIENTS + 1)]
         for payer in payers:

@@ -185,11 +185,12 @@ class Go:
 
     def __init__(self, folder):
         self.folder, self.words = folder, [os.path.join(folder, "driver")]
-        self.env = {**os.environ, "GOPROXY": "off", "GOFLAGS": "-mod=mod", "GO111MODULE": "on"}
+        self.env = {**os.environ, "GOPROXY": "off", "GOFLAGS": "", "GO111MODULE": "on"}
         if "HOME" not in os.environ:
             self.env["GOCACHE"] = os.path.join(folder, "cache")
         shutil.copy(os.path.join(TOP, "tests", "languages.d", "driver.go"), folder)
-        self.file("go.mod", f"module driver\n\ngo 1.19\n\nrequire lynx v0.0.0\n\nreplace lynx => {self.source}\n")
+        self.file("go.mod", "module driver\n\ngo 1.19\n")
+        self.go("work", "init", ".", self.source)
         self.built = self.go("build", "-o", "driver", ".")
 
     def go(self, *words):
@@ -201,7 +202,7 @@ class Go:
 
     def shown(self, lines, _folder):
         os.makedirs(os.path.join(self.folder, "five"), exist_ok=True)
-        imports = 'import (\n"fmt"\n"lynx"\n"time"\n)\n'
+        imports = 'import (\n"fmt"\n"lynx.internal/lynx"\n"time"\n)\n'
         self.file(os.path.join("five", "main.go"), f"package main\n{imports}func main() {{\n{lines}if err != nil {{\npanic(err)\n}}\n}}\n")
         self.go("build", "-o", "five/five", "./five")
         return [os.path.join(self.folder, "five", "five")]
@@ -229,7 +230,7 @@ def test_go_tools(tally, made):
     """The client in Go and its driver are built without a word, and are as its tools want them."""
     go = made(Go)
     tally.is_same("go build", go.built, ("", "", 0))
-    tally.is_same("go vet", go.go("vet", ".", "lynx"), ("", "", 0))
+    tally.is_same("go vet", go.go("vet", ".", "lynx.internal/lynx"), ("", "", 0))
     if tally.finds("gofmt"):
         tally.is_same("gofmt", end_of(["gofmt", "-l", go.source, os.path.join(go.folder, "driver.go")]), ("", "", 0))
 
@@ -316,7 +317,9 @@ def test_running(tally, language, program):
                            "fault Wrong arg-count 5"])
             tally.is_same("names", bank.ask("begin - round 5"), [begun("0:2", 5, "70 75 0", 6, "x=70 y=75 z=0")])
             tally.is_same("many", bank.ask("many 5 pay 1", "settle 20"), [" ".join(f"0:{it}/{it + 4}" for it in range(3, 8)), "settled"])
-            tally.is_same("leaves, and comes", bank.ask("close", "begin - pay 1"), ["closed", begun("0:8", 12, "70", 12, "x=70")])
+            # A new connection may get another session, which has seen no stamp before it looks.
+            tally.is_same("leaves, and comes", bank.ask("close", "look 0:7 1 0", "begin - pay 1"),
+                          ["closed", "found stamp 11 results -", begun("0:8", 12, "70", 12, "x=70")])
         with Driver(language, "port", service.port, room.set, 2, 5, 10) as bank:
             tally.is_same("a second client", bank.ask("begin - pay 9", "wait 20"), [begun("0:9", 13, "69", 1, "x=69"), "all 69 | -"])
             tally.is_same("the end", bank.ask("shut"), ["shut"])
@@ -393,6 +396,35 @@ def test_no_service(tally, language, program):
                 with Driver(language, "folder", room.stores, 2, 2, 10) as other:
                     tally.is_same("the end of another", other.ask("shut"), ["shut"])
                 tally.is_same("nothing ran", turned.end(), ("closed\norder -\n", "", 0))
+
+
+def test_uncounted(tally, language, program):
+    """A client with an id of its own and no first number: a begin wants a number, since each process would count from 1 again."""
+    with Room(PAYMENT) as room, Service(program, room) as service:
+        for number in (1, 2):
+            with Driver(language, "uncounted", room.stores, 7, 2, 10) as bank:
+                tally.is_same(f"process {number}", bank.ask("begin - seed 1", f"begin {number} seed 100", "settle 20"),
+                              ["fault NoNumber no-number -", begun(f"0:{number - 1}", number, "-", number), "settled"])
+        with Driver(language, "folder", room.stores, 7, 2, 10) as bank:
+            tally.is_same("from 1, where it says so", bank.ask("begin - seed 100", "begin - seed 7", "shut"),
+                          [begun("0:0", 1, "-", 1, again="true"), "fault Clash clash 2", "shut"])
+        tally.is_same("nothing else was begun", service.end(), ("closed\norder 0:0 0:1\n", "", 0))
+
+
+def test_strange_notices(tally, language):
+    """Notices that no service wrote: a pipe, a folder, and a text that isn't ASCII."""
+    def pipe(path):
+        os.mkfifo(path)
+
+    def text(path):
+        with open(path, "wb") as file:
+            file.write(b"listening 127.0.0.1:7000\n--\nlynx 1\nservers 1\n\xc3\xa9\n")
+
+    for make in (pipe, os.mkdir, text):
+        with Room(PAYMENT) as room:
+            make(os.path.join(room.stores, "service"))
+            with Driver(language, "folder", room.stores, 1, 2, 10) as bank:
+                tally.is_same(f"a notice by {make.__name__}", bank.first, "fault NoService no-service -")
 
 
 def test_left_over(tally, language, program):

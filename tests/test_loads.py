@@ -66,7 +66,7 @@ class Payer(threading.Thread):
 
     def __init__(self, port, room, client):
         super().__init__()
-        self.bank = lynx.Client(port, room.set, client=client)
+        self.bank = lynx.Client(port, room.set, client=client, first=1)
         self.begun = self.sure = self.paid = 0
         self.answers, self.settled = set(), False
 

@@ -86,7 +86,7 @@ def make_store(program, to):
     """The store of server 0 after the worked payment, in that file."""
     with Room(PAYMENT) as room:
         with Service(program, room) as service:
-            bank = lynx.Client(service.port, room.set, client=1)
+            bank = lynx.Client(service.port, room.set, client=1, first=1)
             bank.begin("seed", 100, number=1)
             bank.begin("pay", 30, number=2)
             bank.shut()
@@ -158,15 +158,15 @@ def serve_once(refusals, program, number):
     with Room(PAYMENT) as room:
         with Service(program, room, env=refusals.words(number)) as service:
             if service.first == f"listening 127.0.0.1:{service.port}\n":
-                bank = lynx.Client(service.port, room.set, client=1, timeout=10, tries=3)
+                bank = lynx.Client(service.port, room.set, client=1, first=1, timeout=10, tries=3)
                 early = pay(bank)
                 asked(bank, lambda it: it.shut())
             out, err, status = service.end()
         if (status, err) != (0, "") and (status not in (3, 4) or not err.startswith("lynx: ") or err.count("\n") != 1):
             return "end", out, err, status
         with Service(program, room) as service:
-            late = pay(lynx.Client(service.port, room.set, client=1))
-            lynx.Client(service.port, room.set, client=1).shut()
+            late = pay(lynx.Client(service.port, room.set, client=1, first=1))
+            lynx.Client(service.port, room.set, client=1, first=1).shut()
             ended = service.end()
         if ended != ("closed\norder 0:0 0:1\n", "", 0):
             return "again", ended

@@ -302,7 +302,7 @@ def test_served(tally, program):
     with Room(PAYMENT) as room:
         copies, new = os.path.join(room.path, "copies"), os.path.join(room.path, "new")
         with Service(program, room) as service:
-            bank = client.Client(room.stores, client=1)
+            bank = client.Client(room.stores, client=1, first=1)
             bank.begin("seed", 100)
             tally.is_same("paid", bank.begin("pay", 30).wait(5), [[100], []])
             client.Client(room.stores).shut()
@@ -318,7 +318,7 @@ def test_served(tally, program):
         shutil.rmtree(room.stores)
         os.rename(new, room.stores)
         with Service(program, room) as service:
-            asked = client.Client(room.stores, client=1)
+            asked = client.Client(room.stores, client=1, first=1)
             tally.is_same("the first stands", asked.begin("pay", 30, number=2).again, True)
             lost = asked.begin("pay", 20, number=3)
             tally.is_same("the lost one runs anew", (lost.again, lost.wait(5)), (False, [[70], []]))

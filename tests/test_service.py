@@ -1,14 +1,16 @@
 """How a `lynx serve` begins and how it ends: over one world of stores, at once when it is asked, whatever its clients do, and with
 its stores let go of before the last line."""
 import os
+import re
 import resource
 import shutil
 import socket
 import subprocess
 import time
+import urllib.request
 
 import pytest
-from serving import PAYMENT, Line, Room, Service, Strain, end_of, free_port, stored, wait_until
+from serving import PAYMENT, Line, Room, Service, Strain, WatchedService, end_of, free_port, stored, wait_until
 import lynx
 
 SHUT, BYE = bytes.fromhex("0400000000"), bytes.fromhex("1300000000")
@@ -123,7 +125,7 @@ def test_never_reads(tally, program):
             greedy.settimeout(0.5)
             stuck = None
             began = time.monotonic()
-            while time.monotonic() - began < 60:
+            while time.monotonic() - began < 150:
                 try:
                     greedy.send(LOOK * 1000)
                     stuck = None
@@ -272,7 +274,7 @@ def test_unclosed(tally, program, room, server):
     """A store that can't be closed in the end is told behind the last lines. It keeps all, and the others are closed."""
     strain = Strain(room)
     with Service(program, room, env=strain.env) as service:
-        with lynx.Client(room.stores, client=1) as bank:
+        with lynx.Client(room.stores, client=1, first=1) as bank:
             bank.begin("seed", 100)
             bank.begin("pay", 30).wait(10)
         strain.set(fail=f"/stores/server-{server}.lynx")
@@ -303,3 +305,65 @@ def test_no_port(tally, program):
         with Service(program, room) as service:
             shut(service)
             tally.is_same("a folder without entries", service.end(), ("closed\norder -\n", "", 0))
+
+
+def text_in(path):
+    with open(path, encoding="ascii") as file:
+        return file.read()
+
+
+def test_log_file(tally, program, room):
+    """The file of a log: lines are added to what it has; once its folder is gone they are counted, and once it is back they go on."""
+    logs = os.path.join(room.path, "logs")
+    log = os.path.join(logs, "bank.log")
+    os.mkdir(logs)
+    with open(log, "w", encoding="ascii") as file:
+        file.write("what was there\n")
+    with WatchedService(program, room, "--log", "--log-file", log) as service:
+        with lynx.Client(room.stores) as bank:
+            bank.begin("seed", 1)
+        lines = text_in(log).splitlines()
+        tally.is_same("it is added to", (lines[0], lines[1].split()[1]), ("what was there", "event=opened"))
+        os.rename(logs, logs + ".old")
+        with lynx.Client(room.stores) as bank:
+            bank.begin("seed", 1)
+        with urllib.request.urlopen(f"http://127.0.0.1:{service.status}/metrics", timeout=20) as page:
+            dropped = re.search(r"(?m)^lynx_log_dropped_total (\d+)$", page.read().decode())
+        tally.holds("lines are counted", dropped and int(dropped[1]) > 0)
+        os.rename(logs + ".old", logs)
+        with lynx.Client(room.stores) as bank:
+            bank.shut()
+        tally.is_same("the end", service.end(), ("closed\norder 0:0 0:1\n", "", 0))
+    tally.holds("they go on", text_in(log).splitlines()[-1].split()[1:3] == ["event=audited", "well=true"])
+
+
+def test_order_file(tally, program, room):
+    """The order in a file of its own: all that the file has then, and what an audit prints."""
+    order = room.file("order", "something longer than the order of a few chains\n")
+    with Service(program, room, words=("--order", order)) as service:
+        tally.is_same("until then it keeps what it has", text_in(order)[:9], "something")
+        with lynx.Client(room.stores) as bank:
+            bank.begin("seed", 100)
+            bank.begin("pay", 30).wait(20)
+            bank.shut()
+        tally.is_same("the end", service.end(), ("closed\n", "", 0))
+    tally.is_same("the order", text_in(order), "order 0:0 0:1\n")
+    tally.is_same("an audit", end_of([program, "audit", room.stores])[0].splitlines()[1] + "\n", text_in(order))
+    with Service(program, room, words=("--order", order)) as service:
+        with lynx.Client(room.stores) as bank:
+            bank.shut()
+        tally.is_same("once more", (service.end()[0], text_in(order)), ("closed\n", "order 0:0 0:1\n"))
+
+
+@pytest.mark.parametrize("word", ("--log-file", "--order"))
+def test_no_such_file(tally, program, room, word):
+    """A file that can't be written, or is a pipe or a folder: it is named, with the cause behind --hints, and nothing is opened."""
+    pipe, nowhere = os.path.join(room.path, "pipe"), os.path.join(room.path, "none", "file")
+    os.mkfifo(pipe)
+    missing, folder = "  No such file or directory (os error 2)\n", "  Is a directory (os error 21)\n"
+    for name, cause in ((pipe, ""), (room.path, folder), (nowhere, missing)):
+        words = [program, "serve", word, name, room.set, room.stores, str(free_port())]
+        tally.is_same(name, end_of(words), ("", f"lynx: cannot write {name}\n", 4))
+        told = end_of([*words[:2], "--hints", *words[2:]])
+        tally.is_same("its cause", told, ("", f"lynx: cannot write {name}\n{cause}", 4))
+    tally.is_same("nothing is made", os.listdir(room.stores), [])

@@ -60,7 +60,7 @@ class Caller(threading.Thread):
 
     def __init__(self, port, room, client):
         super().__init__()
-        self.bank, self.begun = lynx.Client(port, room.set, client=client), 0
+        self.bank, self.begun = lynx.Client(port, room.set, client=client, first=1), 0
 
     def run(self):
         end = time.monotonic() + SECONDS
@@ -110,7 +110,7 @@ def test_pay_alike(tally, program):
     """The worked payment, with and without a transaction for each step."""
     for words in ([], ["--sync-each"]):
         with Room(PAYMENT) as room, Service(program, room, words=words) as service:
-            with lynx.Client(service.port, room.set, client=1) as bank:
+            with lynx.Client(service.port, room.set, client=1, first=1) as bank:
                 seeded, paid = bank.begin("seed", 100), bank.begin("pay", 30)
                 refused, again = bank.begin("pay", 1000), bank.begin("pay", 30, number=paid.number)
                 found = bank.look(paid.chain, 1, wait=30)

@@ -110,7 +110,7 @@ def test_paths(tally, program):
             with open(os.path.join(room.stores, "service"), encoding="ascii") as file:
                 tally.is_same("the notice", file.read(),
                               f"listening 127.0.0.1:{service.port}\nstatus 127.0.0.1:{service.status}\n--\n{PAYMENT}")
-            with client.Client(room.stores, client=1) as bank:
+            with client.Client(room.stores, client=1, first=1) as bank:
                 bank.begin("seed", 100)
                 bank.begin("pay", 30).wait(5)
             tally.is_same("health", service.get("/healthz")[::2], (200, b"ok\n"))
@@ -182,7 +182,7 @@ def test_broken(tally, program):
             for line in (*lines, *others):
                 line.close()
             tally.holds("others watch then", wait_until(lambda: watches(service)))
-            with client.Client(room.stores, client=1) as bank:
+            with client.Client(room.stores, client=1, first=1) as bank:
                 tally.is_same("clients are served", bank.begin("seed", 1).results, [])
                 line = socket.create_connection(("127.0.0.1", service.status), 30)
                 line.sendall(b"GET /set HT")
@@ -203,7 +203,7 @@ def watches(service):
 
 def paying(folder, number, counts, lock, until):
     """A client that seeds, pays, pays again under the same number and asks for too much, and counts what it is answered."""
-    with client.Client(folder, client=number, tries=40) as bank:
+    with client.Client(folder, client=number, first=1, tries=40) as bank:
         own = collections.Counter()
         for at in range(10 ** 9):
             if time.monotonic() > until:
@@ -309,7 +309,7 @@ def test_stopped(tally, program, server, answer, owed):
     with Room(PAYMENT) as room:
         strain = Strain(room)
         with Watched(program, room, env=strain.env) as service:
-            with client.Client(room.stores, client=1, tries=1) as bank:
+            with client.Client(room.stores, client=1, first=1, tries=1) as bank:
                 bank.begin("seed", 100)
                 tally.holds("a payment", bank.begin("pay", 30).wait(10))
                 tally.is_same("health before", service.get("/healthz")[::2], (200, b"ok\n"))
@@ -333,7 +333,7 @@ def test_slow(tally, program):
     """Hops are owed while the disk of their server is slow: of that server, and until they are done."""
     with Room(PAYMENT) as room:
         strain = Strain(room)
-        with Watched(program, room, env=strain.env) as service, client.Client(room.stores, client=1) as bank:
+        with Watched(program, room, env=strain.env) as service, client.Client(room.stores, client=1, first=1) as bank:
             bank.begin("seed", 1000)
             strain.set(millis=200, slow="/stores/server-1.lynx")
             with service.connect() as line:
@@ -366,9 +366,9 @@ def test_compared(tally, program):
             tally.is_same("a folder has its own", end_of([program, "ask", room.stores, "--status", str(service.status)], ""),
                           ("", "lynx: --status wants SET and PORT\n", 2))
             tally.is_same("the set that is served", client.served_set(service.status), PAYMENT)
-            tally.is_same("a client", client.Client(service.port, room.set, status=service.status, client=9).begin("seed", 1).results, [])
+            tally.is_same("a client", client.Client(service.port, room.set, status=service.status, client=9, first=1).begin("seed", 1).results, [])
             try:
-                client.Client(service.port, turned, status=service.status, client=8).begin("seed", 1)
+                client.Client(service.port, turned, status=service.status, client=8, first=1).begin("seed", 1)
                 tally.holds("a client of another order", False)
             except client.OtherSet as fault:
                 tally.is_same("a client of another order", fault.reason, "other-set")
@@ -379,7 +379,7 @@ def test_compared(tally, program):
                 file.write(f"listening 127.0.0.1:{service.port}\nstatus 127.0.0.1:{service.status}\n--\n{PAYMENT}")
             tally.is_same("what a kill left", end_of([program, "ask", room.stores], "begin 1 9 seed 5\n"), ("", "lynx: other-set\n", 4))
             try:
-                client.Client(room.stores, client=1, tries=2).begin("seed", 5)
+                client.Client(room.stores, client=1, first=1, tries=2).begin("seed", 5)
                 tally.holds("a client by what a kill left", False)
             except client.OtherSet as fault:
                 tally.is_same("a client by what a kill left", fault.reason, "other-set")
@@ -403,7 +403,7 @@ def test_logged(tally, program):
     """The log: a line for each event, and none without it."""
     with Room(PAYMENT) as room:
         with Watched(program, room, "--log") as service:
-            with client.Client(room.stores, client=1) as bank:
+            with client.Client(room.stores, client=1, first=1) as bank:
                 bank.begin("seed", 100)
                 bank.begin("pay", 30).wait(5)
             with service.connect() as line:

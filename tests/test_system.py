@@ -6,6 +6,7 @@ import re
 import resource
 import signal
 import socket
+import struct
 import subprocess
 import time
 
@@ -62,12 +63,23 @@ def jobs(room):
             "run -": (["run", "-"], (PAYMENT + "--\n" + SCRIPT).encode(), LINES, 0)}
 
 
+def least_space(program):
+    """The address space from which on the system's loader runs: that of the program's own segments (ELF of 64 bits), if it is more."""
+    with open(program, "rb") as file:
+        head = file.read(64)
+        place, size, count = struct.unpack_from("<Q", head, 32)[0], *struct.unpack_from("<HH", head, 54)
+        file.seek(place)
+        segments = [struct.unpack_from("<I12xQ16xQ", file.read(size)) for _ in range(count)]
+    return max(LEAST_SPACE, max(at + long for kind, at, long in segments if kind == 1) + (1 << 20) & -(64 << 10))
+
+
 def test_memory(tally, program):
     """Address space from the least that the system's loader needs, in small steps, to what is ample."""
     with Room(PAYMENT) as room:
         for name, (words, given, wanted, done) in jobs(room).items():
             refused = whole = 0
-            for space in list(range(LEAST_SPACE, LEAST_SPACE + (3 << 20), 64 << 10)) + [64 << 20, 256 << 20]:
+            least = least_space(program)
+            for space in list(range(least, least + (3 << 20), 64 << 10)) + [64 << 20, 256 << 20]:
                 out, err, status = ended([program] + words, given, [(resource.RLIMIT_AS, space)])
                 if status == LOADER_STATUS and not err.startswith("lynx: "):
                     continue
@@ -92,7 +104,7 @@ def begins_lost(port, room):
     """How many of three clients are not answered."""
     lost = 0
     for client in range(1, 4):
-        with lynx.Client(port, room.set, client=client, tries=1, timeout=10) as bank:
+        with lynx.Client(port, room.set, client=client, first=1, tries=1, timeout=10) as bank:
             try:
                 bank.begin("seed", 5)
             except lynx.LynxError:
@@ -103,7 +115,7 @@ def begins_lost(port, room):
 @pytest.mark.parametrize("space", [8 << 20, 12 << 20, 24 << 20, 48 << 20, 96 << 20, 1 << 30])
 def test_memory_of_service(tally, program, room, space):
     """A service in little memory: it doesn't begin, with a line that says why, or it serves."""
-    port = free_port()
+    port, space = free_port(), max(space, least_space(program))
     ran = subprocess.Popen([program, "serve", room.set, room.stores, str(port)], stdin=subprocess.DEVNULL, stdout=subprocess.PIPE,
                            stderr=subprocess.PIPE, text=True, preexec_fn=lambda: resource.setrlimit(resource.RLIMIT_AS, (space, space)))
     if ran.stdout.readline() != f"listening 127.0.0.1:{port}\n":
@@ -245,7 +257,7 @@ def tell_words(tally, program):
     for command, rest in lines:
         told[command] |= set(re.findall(r"--[a-z-]+|[A-Z]+2?", rest))
     commands = ended([program, "--help"])[0]
-    tally.is_same("how many commands", len(told), 12)
+    tally.is_same("how many commands", len(told), 13)
     for command, wanted in told.items():
         out, err, status = ended([program, command, "--help"])
         missing = {word for word in wanted if not re.search(rf"(?<![\w-]){word}(?![\w-])", out)}
@@ -259,12 +271,12 @@ def test_signals(tally, program):
         if sent != signal.SIGKILL:
             signal.signal(sent, signal.SIG_DFL)  # A script in the background hands on that it is ignored.
         with Room(PAYMENT) as room:
-            with Service(program, room) as service, lynx.Client(service.port, room.set, client=1) as bank:
+            with Service(program, room) as service, lynx.Client(service.port, room.set, client=1, first=1) as bank:
                 told = bank.begin("seed", 7)
                 service.ran.send_signal(sent)
                 tally.is_same(f"ended by {sent.name}", service.ran.wait(30), -sent)
                 tally.is_same(f"nothing said at {sent.name}", service.ran.stderr.read(), "")
-            with Service(program, room) as service, lynx.Client(service.port, room.set, client=1) as bank:
+            with Service(program, room) as service, lynx.Client(service.port, room.set, client=1, first=1) as bank:
                 found = bank.begin("seed", 7, number=1)
                 tally.is_same(f"what it told before {sent.name}", (found.chain, found.stamp, found.again), (told.chain, told.stamp, True))
                 bank.shut()
@@ -273,7 +285,7 @@ def test_signals(tally, program):
         service.ran.send_signal(signal.SIGSTOP)
         time.sleep(0.2)
         service.ran.send_signal(signal.SIGCONT)
-        with lynx.Client(service.port, room.set, client=1) as bank:
+        with lynx.Client(service.port, room.set, client=1, first=1) as bank:
             tally.is_same("after a pause", bank.begin("seed", 7).stamp, 1)
             bank.shut()
         tally.is_same("end after a pause", service.end(), ("closed\norder 0:0\n", "", 0))
@@ -291,7 +303,7 @@ def test_full_disk(tally, program):
                                stdout=subprocess.PIPE, stderr=subprocess.PIPE, text=True, preexec_fn=limit)
         ran.stdout.readline()
         told, reason = [], None
-        with lynx.Client(port, room.set, client=1) as bank:
+        with lynx.Client(port, room.set, client=1, first=1) as bank:
             for number in range(1, 5000):
                 try:
                     told.append(bank.begin("seed", 1, number=number))
@@ -306,7 +318,7 @@ def test_full_disk(tally, program):
         # a write that fails for another reason than want of room on the disk is a failure of the disk, as SQLite tells it
         tally.is_same("why it stopped, told once", [line.partition(" ")[2] for line in lines if "event=stopped" in line],
                       ['event=stopped server=0 file=server-0.lynx cause="disk I/O error"'])
-        with Service(program, room) as service, lynx.Client(service.port, room.set, client=1) as bank:
+        with Service(program, room) as service, lynx.Client(service.port, room.set, client=1, first=1) as bank:
             found = [bank.begin("seed", 1, number=answer.number) for answer in told]
             tally.is_same("answers after it", [(it.chain, it.stamp, it.again) for it in found], [(it.chain, it.stamp, True) for it in told])
             bank.shut()

@@ -2,7 +2,7 @@
 
    It has a history of entries, its cells, an index of requests and one of later hops, the place of each chain's begin,
    counters, turns, and a keeper with the form of each entry and with cells of its own. A begin and a delivery are asked what
-   docs/DEFINITIONS.md says (31, 34 and 35); opening and weaving do all entries once more, and compare. Sets are made by code,
+   docs/PROOF.md says (request fault, answer, delivery); opening and weaving do all entries once more, and compare. Sets are made by code,
    with one table and without ranges. No message is held: one that comes early is dropped. Want of memory, and whatever isn't
    as it should be, is an exception. */
 #pragma once

@@ -1,6 +1,6 @@
 // What tests/test_languages.py asks of clients/go/lynx: lines in, a line out for each.
 //
-//	driver folder FOLDER CLIENT TRIES TIMEOUT
+//	driver folder FOLDER CLIENT TRIES TIMEOUT       and driver uncounted .., without a first number
 //	driver port PORT SET CLIENT TRIES TIMEOUT
 package main
 
@@ -14,7 +14,7 @@ import (
 	"strings"
 	"time"
 
-	"lynx"
+	"lynx.internal/lynx"
 )
 
 var kinds = []struct {
@@ -24,6 +24,7 @@ var kinds = []struct {
 	{"Clash", lynx.ErrClash}, {"Outside", lynx.ErrOutside}, {"Wrong", lynx.ErrWrong}, {"Full", lynx.ErrFull},
 	{"Busy", lynx.ErrBusy}, {"Stopped", lynx.ErrStopped}, {"Wanting", lynx.ErrWanting}, {"Lost", lynx.ErrLost},
 	{"ByeLost", lynx.ErrByeLost}, {"NoService", lynx.ErrNoService}, {"OtherSet", lynx.ErrOtherSet},
+	{"NoNumber", lynx.ErrNoNumber},
 }
 
 // list gives what stands for a list, of whatever it is.
@@ -158,9 +159,12 @@ func (d *driver) do(line []string) (string, error) {
 
 func (d *driver) open(line []string) (string, error) {
 	chosen := line[len(line)-3:]
-	options := &lynx.Options{Client: number(chosen[0]), Tries: int(number(chosen[1])), Timeout: seconds(chosen[2])}
+	options := &lynx.Options{Client: number(chosen[0]), First: 1, Tries: int(number(chosen[1])), Timeout: seconds(chosen[2])}
 	var err error
-	if line[0] == "folder" {
+	if line[0] == "uncounted" {
+		options.First = 0
+	}
+	if line[0] != "port" {
 		d.bank, err = lynx.Open(line[1], options)
 		return "opened", err
 	}

@@ -1,6 +1,6 @@
 // What tests/test_languages.py asks of clients/javascript/lynx.mjs: lines in, a line out for each.
 //
-//     driver.mjs folder FOLDER CLIENT TRIES TIMEOUT
+//     driver.mjs folder FOLDER CLIENT TRIES TIMEOUT    and driver.mjs uncounted .., without a first number
 //     driver.mjs port PORT SET CLIENT TRIES TIMEOUT
 import { createInterface } from 'node:readline';
 import * as lynx from '../../clients/javascript/lynx.mjs';
@@ -50,15 +50,17 @@ async function told(work) {
   try {
     return await work();
   } catch (fault) {
+    if (fault instanceof TypeError && way === 'uncounted') return 'fault NoNumber no-number -';
     return fault instanceof lynx.LynxError ? `fault ${fault.name} ${fault.reason} ${fault.number ?? '-'}` : `${fault.stack}`;
   }
 }
 
 const [way, where, ...words] = process.argv.slice(2);
 const [client, tries, timeout] = words.slice(-3);
-const options = { client: BigInt(client), tries: Number(tries), timeout: Number(timeout) };
-const opening = () => (way === 'folder' ? lynx.Client.at(where, options)
-  : lynx.Client.connect(Number(where), { ...options, setPath: words[0] }));
+const counting = way === 'uncounted' ? {} : { first: 1 };
+const options = { client: BigInt(client), ...counting, tries: Number(tries), timeout: Number(timeout) };
+const opening = () => (way === 'port' ? lynx.Client.connect(Number(where), { ...options, setPath: words[0] })
+  : lynx.Client.at(where, options));
 console.log(await told(async () => {
   bank = await opening();
   return 'opened';

@@ -103,7 +103,8 @@ class Handler(BaseHTTPRequestHandler):
 
 def main():
     words = argparse.ArgumentParser(description="A small payment service on Lynx")
-    words.add_argument("--lynx", default=os.path.join(TOP, "crates", "lynx", "out", "lynx"), help="the built program")
+    built = os.path.join(TOP, "crates", "lynx", "out", "lynx")
+    words.add_argument("--lynx", default=built if os.path.exists(built) else "lynx", help="the program, that of the path where none is built")
     words.add_argument("--folder", default=os.path.join(HERE, "stores"), help="where the stores are")
     words.add_argument("--port", type=int, default=8080, help="of HTTP")
     given = words.parse_args()

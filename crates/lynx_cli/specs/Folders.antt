@@ -1,10 +1,13 @@
 -- What commands tell of stores that nobody serves, and with which status.
 use Rattle.std.specs.Prelude.{◌≡◌, ℕ, List, Option}
 use Rattle.std.specs.Io.KnownBytes.{Appends}
+use Rattle.sqlite.specs.State.{State}
 use Rattle.lynx_set.specs.Set.{Set}
 use Rattle.lynx_keep.specs.Kept.{Terms}
 use Rattle.lynx_order.specs.declared.explained.Explained.{Explained}
 use Rattle.lynx_order.specs.declared.explained.Explained.TheVariants.{Order, Cycle}
+use Rattle.lynx_store.specs.Premise.{IsUndisturbed}
+use Rattle.lynx_show.specs.Listing.{Lists}
 use Rattle.lynx_audit.specs.Audits.{HasAudited}
 use Rattle.lynx_audit.specs.Owing.{TellsOwed}
 use Rattle.lynx_restore.specs.Lines.{restored_lines}
@@ -26,6 +29,15 @@ pub record HasAuditedKeepers {K : Type 0} (terms : Terms K) (set : Set) (keepers
 pub record HasListedOwed {K : Type 0} (terms : Terms K) (set : Set) (keepers : List K)
     (old new : Option (List ℕ)) (status : ℕ) : Type 0 where
   pub told : TellsOwed terms set keepers old new
+  pub status_is : status ≡ 0
+
+-- a copy of the store at that path was read, what it holds was listed, and the status is 0
+pub record HasShown {C : Type 0} (copied_from : List ℕ → C → Type 0) (state_of : C → State)
+    (path : List ℕ) (old new : Option (List ℕ)) (status : ℕ) : Type 0 where
+  pub copy : C
+  pub from : copied_from path copy
+  pub read : C
+  pub lists : IsUndisturbed (state_of read) → Lists (state_of read) old new
   pub status_is : status ≡ 0
 
 -- how much was restored of each server was told, and the status is 0

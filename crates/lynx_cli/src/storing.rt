@@ -2,6 +2,8 @@
 //! written to what is no store, or is only read.
 ghost use Rattle.std.specs.Prelude.{◌≡◌, IfOk};
 ghost use Rattle.std.specs.Io.KnownBytes.{Keeps};
+ghost use Rattle.sqlite.specs.Held.{state};
+ghost use Rattle.lynx_cli.specs.Folders.{HasShown};
 
 use crate::fault::Fault;
 use crate::hints::Hints;
@@ -101,7 +103,10 @@ pub(crate) fn show_file<'a, C: Rising + Drop, S: Copies<Connection<C>>, W: Write
     store: &'a str,
     hints: &Hints,
     writer: &mut W,
-) -> Result<u8, Fault<'a>> {
+) -> Result<u8, Fault<'a>>
+    ensures { IfOk result (HasShown S.copied_from (λ conn. state C.Store conn) store.entry.now
+        (W.contents writer.old) (W.contents writer.new)) }
+{
     let mut copy = copied(copies, store)?;
     match show_store(rt.alloc(), &mut copy, writer) {
         Ok(()) => {}

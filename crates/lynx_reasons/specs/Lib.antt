@@ -8,5 +8,6 @@ pub mod Late
 pub mod Mixed
 pub mod Culprits
 pub mod Blame
+pub mod Summaries
 pub mod Whys
 pub mod inner

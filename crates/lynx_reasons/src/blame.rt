@@ -21,7 +21,11 @@ fn put_name(out: &mut Vec<u8>, set: &ChainSet, program: ProgramId) -> Result<(),
 }
 
 /// Writes the names of the programs.
-fn put_culprit(out: &mut Vec<u8>, set: &ChainSet, culprit: &Culprit) -> Result<(), Memory>
+pub(crate) fn put_culprit(
+    out: &mut Vec<u8>,
+    set: &ChainSet,
+    culprit: &Culprit,
+) -> Result<(), Memory>
     ensures { OnOk result (out.new.items ≡ out.old.items ++ culprit_text set.now culprit.now) }
 {
     match *culprit {

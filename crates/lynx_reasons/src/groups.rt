@@ -55,7 +55,7 @@ pub(crate) fn meet_at_one_hop(set: &ChainSet, edges: &[Edge], group: &[ProgramId
 }
 
 /// The first reason that holds of a group of an accepted set.
-fn group_reason(
+pub(crate) fn group_reason(
     set: &ChainSet,
     edges: &[Edge],
     reason: Reason,

@@ -5,6 +5,7 @@
 
 pub use lines::why;
 pub use mending::mends;
+pub use summaries::{summary, walk_edges};
 
 mod blame;
 mod busy;
@@ -21,4 +22,5 @@ mod mixed;
 mod never;
 mod search;
 mod sift;
+pub mod summaries;
 mod without;

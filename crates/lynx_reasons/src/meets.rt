@@ -28,7 +28,12 @@ pub(crate) fn put_place(
 }
 
 /// Writes the server of a hop.
-fn put_server(alloc: Global, out: &mut Vec<u8>, set: &ChainSet, place: &Place) -> Result<(), Memory>
+pub(crate) fn put_server(
+    alloc: Global,
+    out: &mut Vec<u8>,
+    set: &ChainSet,
+    place: &Place,
+) -> Result<(), Memory>
     ensures { OnOk result (out.new.items ≡ out.old.items ++ server_text set.now place.now) }
 {
     if let Some(hop) = set.hop(place.program, place.hop) {
@@ -49,7 +54,7 @@ fn put_names(out: &mut Vec<u8>, names: &[Name]) -> Result<(), Memory>
 }
 
 /// Writes the tables in which the hops meet.
-fn put_tables(
+pub(crate) fn put_tables(
     alloc: Global,
     out: &mut Vec<u8>,
     set: &ChainSet,

@@ -1,8 +1,8 @@
 #!/usr/bin/env python3
-"""tests/reference_why.py SET: the verdict on the set text in a file and why it is so, by a plain reading of docs/FORMATS.md
+"""tests/reference_why.py [--summary] SET: the verdict on the set text in a file and why it is so, by a plain reading of docs/FORMATS.md
 that was written apart from the program; the verdict is that of tests/reference.py, and hops that may conflict are found as
-for tests/reference_picture.py. What it prints for a set is what a case of `lynx check SET --why` expects, and tests/test_random.py
-compares the program with it."""
+for tests/reference_picture.py. What it prints for a set is what a case of `lynx check SET --why --all` expects, with --summary of
+one without --all, and tests/test_random.py compares the program with both."""
 import itertools
 import os
 import sys
@@ -14,6 +14,11 @@ import reference_picture
 from reference_late import abroad, late_blocks
 
 ACTIONS = ("get", "set", "add", "sub", "max", "let", "need")
+# how many conflicts of a cycle, and how many groups of an accepted set, a summary tells, at most
+MAX_MEETINGS, MAX_GROUPS = 4, 8
+SENTENCES = {"one-hop": "none of them meets others at two of its hops",
+             "no-walk": "no cycle goes through a chain by two hops and over two first servers",
+             "blocks": "the order of chains of one first server rules each cycle out"}
 # how many sets without some of their programs are looked at, at most, and how many pairs of hops that may conflict in all
 MAX_LOOKS, MAX_EDGES_SEEN = 2500, 50_000_000
 
@@ -147,11 +152,52 @@ def never_lines(chains, lines):
     return [f"never {program} line {lines[program, at[0]] + 1 + at[1]}" for program, at in found if at]
 
 
-def why(text):
-    """What `lynx check SET --why` prints of a set text without fault, and its status."""
+def fewer(lines, most):
+    """The first of these lines, and how many more there are."""
+    return lines[:most] + ([f"  and {len(lines) - most} more"] if len(lines) > most else [])
+
+
+def met_line(chains, lines, conflict):
+    """The line of a conflict of a cycle, which is the words of its line."""
+    left, right = (conflict[1], int(conflict[2])), (conflict[3], int(conflict[4]))
+    tables = " ".join(reference_picture.tables_met(chains, left, right))
+    hops = [f"hop {hop} of {program} (line {lines[program, hop]})" for program, hop in (left, right)]
+    return f"  {hops[0]} meets {hops[1]} at server {chains.hops(left[0])[left[1]][0]} in table {tables}"
+
+
+def fine_line(chains, edges, group, otherwise):
+    """The line of a group of an accepted set, and why it is fine."""
+    why_so = reason(chains, edges, group, otherwise)
+    sentence = SENTENCES.get(why_so, f"all begin at server {chains.origin(group[0])}, and keep that order everywhere")
+    return f"  {' '.join(group)}: {sentence}"
+
+
+def summed_up(text):
+    """The verdict on a set text without fault, the lines of its summary, and the status."""
     chains, (verdict, status) = reference.Set(text), reference.check(text)
+    edges = reference_picture.conflicts(chains)
+    otherwise = {"accepted\n": "no-walk", "accepted by blocks\n": "blocks"}.get(verdict)
+    if otherwise:
+        fine = [fine_line(chains, edges, group, otherwise) for group in groups(chains, edges)]
+        return verdict, ["Whatever these programs do, a serial order explains it:"] + fewer(fine, MAX_GROUPS), status
+    met = [met_line(chains, hop_lines(text), line.split(" ")) for line in verdict.splitlines()[1:]]
+    blamed = [line.split(" ", 1)[1] for line in without_lines(text, chains, edges) if line.startswith("without ")]
+    return verdict, (["These hops can meet in a circle, which no order explains:"] + fewer(met, MAX_MEETINGS)
+                     + [f"Look first at {programs}, without which the set is accepted." for programs in blamed]
+                     + ["lynx mend tells what makes it accepted, and --all lists every meeting."]), status
+
+
+def summary(text):
+    """What `lynx check SET --why` prints of a set text without fault, and its status."""
+    verdict, printed, status = summed_up(text)
+    return verdict + "".join(line + "\n" for line in printed), status
+
+
+def why(text):
+    """What `lynx check SET --why --all` prints of a set text without fault, and its status."""
+    chains, (verdict, printed, status) = reference.Set(text), summed_up(text)
     edges, lines = reference_picture.conflicts(chains), hop_lines(text)
-    printed = [meet_line(chains, lines, left, right) for left, right in edges]
+    printed += [meet_line(chains, lines, left, right) for left, right in edges]
     otherwise = {"accepted\n": "no-walk", "accepted by blocks\n": "blocks"}.get(verdict)
     if otherwise:
         printed += [f"group {reason(chains, edges, group, otherwise)} {' '.join(group)}" for group in groups(chains, edges)]
@@ -176,5 +222,5 @@ def is_mended(text, printed):
 
 
 if __name__ == "__main__":
-    with open(sys.argv[1], encoding="ascii") as file:
-        sys.stdout.write(why(file.read())[0])
+    with open(sys.argv[-1], encoding="ascii") as file:
+        sys.stdout.write((summary if sys.argv[1] == "--summary" else why)(file.read())[0])

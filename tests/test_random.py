@@ -30,7 +30,8 @@ def test_run(tally, program, tmp_path, seed):
     assert not of_run[1] or reference.check(text)[1], "an accepted set runs into a cycle"
     if seed % 4 == 0:
         compare(reference.check(text), "check", paths[0])
-        compare(reference_why.why(text), "check", "--why", paths[0])
+        compare(reference_why.summary(text), "check", "--why", paths[0])
+        compare(reference_why.why(text), "check", "--why", "--all", paths[0])
         compare(reference_picture.picture(text), "draw", paths[0])
         compare(reference_picture.picture(text, "--walk"), "draw", "--walk", paths[0])
         compare(reference_picture.picture(text, "--late"), "draw", "--late", paths[0])

@@ -56,7 +56,7 @@ DrawsAs set script walk late other = ⊥
 
 -- the command that asks for a job; standard input is asked for by no command at all, or by `run`
 abbrev pub AskedBy : Option (List ℕ) → Result Job CommandFault → Type 0
-AskedBy command (Ok (Check set why)) = command ≡ Some (codes "check")
+AskedBy command (Ok (Check set why all)) = command ≡ Some (codes "check")
 AskedBy command (Ok (Mend set write)) = command ≡ Some (codes "mend")
 AskedBy command (Ok (Draw set shown)) = command ≡ Some (codes "draw")
 AskedBy command (Ok (Chart set script)) = command ≡ Some (codes "draw")
@@ -168,8 +168,9 @@ pub record DrawsFound (rows : List Row) (job : Result Job CommandFault) : Type 0
 -- What was found behind a command is what the job is done with. Of the numbers of ports, seeds and
 -- begins it is told only what they are where none was found.
 abbrev pub TakesFound : List Row → Result Job CommandFault → Type 0
-TakesFound rows (Ok (Check set why)) =
+TakesFound rows (Ok (Check set why all)) =
     (set.now ≡ text_at (codes "SET") rows) × IsFlag (codes "why") rows why
+    × IsFlag (codes "all") rows all
 TakesFound rows (Ok (Mend set write)) =
     (set.now ≡ text_at (codes "SET") rows) × IsChoice (codes "write") rows write
 TakesFound rows (Ok (Draw set shown)) = DrawsFound rows (Ok (Draw set shown))

@@ -1,8 +1,10 @@
 //! The commands that have no file of their own, and their words.
 use crate::words::{CommandText, HINTS_FLAG, Place, Reads, SCRIPT_FILE, SET_FILE, Word};
 
-/// The option of a check.
+/// The options of a check.
 pub(crate) const WHY: &str = "why";
+
+pub(crate) const ALL: &str = "all";
 
 /// The options of a run.
 pub(crate) const CHECKED: &str = "checked";
@@ -23,7 +25,12 @@ pub(crate) const CHECK: CommandText = CommandText {
         Word {
             name: WHY,
             place: Place::Flag,
-            help: "Tell behind the verdict which hops may conflict, why each group of programs is fine, which programs make the\nserver where they begin busy, and of a set that offends which blocks are in the way and which programs to blame",
+            help: "Tell behind the verdict what it means, in ten lines at most: of a set that offends a cycle by programs and lines,\nand which programs to look at first; of an accepted one why each group of programs is fine",
+        },
+        Word {
+            name: ALL,
+            place: Place::Flag,
+            help: "Tell behind that, too, which hops may conflict, which programs make the server where they begin busy or can\nnever begin, and of a set that offends which blocks are in the way",
         },
         HINTS_FLAG,
     ],

@@ -62,10 +62,12 @@ pub struct ServeFlags<'a> {
 /// What the words ask for, with files as they were named.
 #[derive(Clone, Copy, Debug, PartialEq, Eq)]
 pub enum Job<'a> {
-    /// Judge the set of a file, and tell why the verdict is what it is where that is asked for.
+    /// Judge the set of a file, and tell why the verdict is what it is where that is asked for, in
+    /// a summary, or with all that it rests on.
     Check {
         set: &'a str,
         why: bool,
+        all: bool,
     },
     /// Draw the set of a file, with the verdict on it, or some of its programs alone.
     Draw {

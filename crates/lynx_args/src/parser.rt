@@ -4,7 +4,8 @@ ghost use Rattle.clap.specs.Words.{first_of, found_of, rows_of, subcommand_name_
 ghost use Rattle.lynx_args.specs.Jobs.{AreFlags, AreSampleFlags, AskedBy, IsFlag, IsRestorePlace, TakesFound, TakesWords, no_flags, text_at};
 
 use crate::commands::{
-    AUDIT, CHECK, CHECKED, EXTEND, LONGEST, OWED, OWES, RESTORE, RUN, SHOW, STORES, UPGRADE, WHY,
+    ALL, AUDIT, CHECK, CHECKED, EXTEND, LONGEST, OWED, OWES, RESTORE, RUN, SHOW, STORES, UPGRADE,
+    WHY,
 };
 use crate::draw_words::{DRAW, job_of_drawing};
 use crate::job::{
@@ -157,6 +158,7 @@ fn job_of_command<'a>(name: &str, words: &ArgMatches<'a>) -> Result<Job<'a>, Com
         "check" => Ok(Job::Check {
             set,
             why: flag_at(words, WHY),
+            all: flag_at(words, ALL),
         }),
         "draw" => job_of_drawing(words),
         "mend" => Ok(job_of_mending(words)),

@@ -1,5 +1,5 @@
 -- What a job that is done has written.
-use Rattle.std.specs.Prelude.{◌≡◌, ◌⊎◌, false, ℕ, Bool, List, Option}
+use Rattle.std.specs.Prelude.{◌≡◌, ◌⊎◌, ℕ, Bool, List, Option}
 use Rattle.std.specs.Bool.{MatchBool}
 use Rattle.std.specs.Io.KnownBytes.{Appends}
 use Rattle.lynx_cli.specs.Inputs.{IsCut}
@@ -23,6 +23,7 @@ use Rattle.lynx_report.specs.Refusals.{Accepts}
 use Rattle.lynx_report.specs.declared.options.CheckOptions.{CheckOptions}
 use Rattle.lynx_report.specs.declared.options.DrawOptions.{DrawOptions}
 use Rattle.lynx_report.specs.declared.options.RunOptions.{RunOptions}
+use Rattle.lynx_report.specs.declared.options.Why.TheVariants.{Untold}
 use Rattle.lynx_args.specs.declared.job.RunFlags.{RunFlags}
 use Rattle.lynx_sample.specs.Samples.{IsSample}
 use Rattle.lynx_service.specs.Services.{HasServed}
@@ -70,7 +71,7 @@ pub record HasRunTexts (options : RunOptions) (set script : List ℕ) (old new :
 -- the set offends, its verdict is written, and the status is the verdict's
 pub record HasRefused (set : List ℕ) (old new : Option (List ℕ)) (status : ℕ) : Type 0 where
   pub printed : List ℕ
-  pub finds : Finds false set Offending printed
+  pub finds : Finds Untold set Offending printed
   pub written : Appends old new printed
   pub status_is : status ≡ status_of_finding Offending
 

@@ -19,7 +19,7 @@ use lynx_args::{INPUT, Job, RunFlags, SampleFlags};
 use lynx_cluster::Host;
 use lynx_draw::Extent;
 use lynx_keep::{BatchKeeper, Keeper};
-use lynx_report::{CheckOptions, DrawOptions};
+use lynx_report::{CheckOptions, DrawOptions, Why};
 use lynx_sql::Rising;
 use lynx_store_files::{Copies, Databases, StoreCopy, Stores};
 use sqlite::Connection;
@@ -66,7 +66,7 @@ fn do_to<
     writer: &mut W,
 ) -> Result<u8, Fault<'a>> {
     match job {
-        Job::Check { set, why } => check_file(host, set, why, hints, writer),
+        Job::Check { set, why, all } => check_file(host, set, why_of(why, all), hints, writer),
         Job::Mend { set, write } => mend_file(host, set, write, hints, writer),
         Job::Draw { set, shown } => draw_file(host, set, shown, hints, writer),
         Job::Chart { set, script } => chart_files(host, set, script, hints, writer),
@@ -113,11 +113,22 @@ fn finished<'a>(done: Result<u8, Fault<'a>>, flushed: bool) -> Result<u8, Fault<
     }
 }
 
+/// What a check tells of why its verdict is what it is, by these options.
+fn why_of(why: bool, all: bool) -> Why {
+    if all {
+        Why::All
+    } else if why {
+        Why::Summary
+    } else {
+        Why::Untold
+    }
+}
+
 /// Judges the set of a file.
 fn check_file<'a, R: Files + AllocGlobal, W: Write>(
     rt: &R,
     set: &'a str,
-    why: bool,
+    why: Why,
     hints: &mut Hints,
     writer: &mut W,
 ) -> Result<u8, Fault<'a>> {
@@ -125,7 +136,7 @@ fn check_file<'a, R: Files + AllocGlobal, W: Write>(
     let text = read.as_slice();
     let done = check_set(rt.alloc(), text, CheckOptions { why }, writer);
     hints.note_set(rt.alloc(), Named::new(set, text), &done);
-    if why {
+    if !matches!(why, Why::Untold) {
         hints.note_mends(rt.alloc(), Named::new(set, text), &done);
     }
     done

@@ -3,7 +3,7 @@ use lynx_fixtures::full::Full;
 use lynx_fixtures::rows::PAYMENT;
 use lynx_fixtures::texts::CROSSING;
 use lynx_report::{
-    CheckOptions, DrawOptions, Ending, Finding, RunFault, RunOptions, chart_texts, check_text,
+    CheckOptions, DrawOptions, Ending, Finding, RunFault, RunOptions, Why, chart_texts, check_text,
     draw_text, run_texts,
 };
 use std::alloc::Global;
@@ -37,7 +37,7 @@ fn found_in(alloc: Global, left: usize) -> Result<Finding, RunFault> {
     check_text(
         alloc,
         CROSSING.as_bytes(),
-        CheckOptions::default(),
+        CheckOptions { why: Why::Untold },
         &mut writer,
     )
 }

@@ -1,10 +1,11 @@
 -- What is written of a set before a run of it: nothing where it is accepted, and its verdict where
 -- it offends.
-use Rattle.std.specs.Prelude.{◌≡◌, ◌⊎◌, false, ℕ, Option, List}
+use Rattle.std.specs.Prelude.{◌≡◌, ◌⊎◌, ℕ, Option, List}
 use Rattle.lynx_graph.specs.Acceptance.{IsAccepted}
 use Rattle.lynx_set.specs.Rules.{IsSet}
 use Rattle.lynx_set.specs.Set.{Set}
 use Rattle.lynx_set.specs.Text.{text_of}
+use Rattle.lynx_report.specs.declared.options.Why.TheVariants.{Untold}
 use Rattle.lynx_report.specs.declared.verdict.Finding.TheVariants.{Offending}
 use Rattle.std.specs.Io.KnownBytes.{Keeps}
 use Rattle.lynx_report.specs.Checks.{Finds, IsVerdict}
@@ -27,4 +28,4 @@ BeginsSetRefusal chains old new =
 abbrev pub BeginsRefusal : List ℕ → Option (List ℕ) → Option (List ℕ) → Type 0
 BeginsRefusal set old new =
     Keeps old new
-    ⊎ ((printed : List ℕ) × Finds false set Offending printed × AppendsPart old new printed)
+    ⊎ ((printed : List ℕ) × Finds Untold set Offending printed × AppendsPart old new printed)

@@ -3,7 +3,7 @@
 
 pub use charting::chart_texts;
 pub use drawing::draw_text;
-pub use options::{CheckOptions, DrawOptions, RunOptions};
+pub use options::{CheckOptions, DrawOptions, RunOptions, Why};
 pub use owed::{OwedHop, owed_hops};
 pub use refusing::accepted_set;
 pub use run::{

@@ -18,13 +18,23 @@ pub struct RunOptions {
     pub owed: bool,
 }
 
-/// What a check writes behind its verdict, which is nothing by default.
-#[derive(Clone, Copy, Debug, Default, PartialEq, Eq)]
+/// What a check tells behind its verdict of why it is what it is.
+#[derive(Clone, Copy, Debug, PartialEq, Eq)]
+pub enum Why {
+    /// Nothing.
+    Untold,
+    /// A summary for people, of ten lines at most.
+    Summary,
+    /// The summary, and behind it a line for each two hops that may conflict, for each group of
+    /// programs of an accepted set, for each program that returns to the server where it begins or
+    /// that can never begin, and for all that stands in the way of a set that offends.
+    All,
+}
+
+/// What a check writes behind its verdict.
+#[derive(Clone, Copy, Debug, PartialEq, Eq)]
 pub struct CheckOptions {
-    /// Why the verdict is what it is: a line for each two hops that may conflict, for each group of
-    /// programs of an accepted set, and for each program that returns to the server where it
-    /// begins.
-    pub why: bool,
+    pub why: Why,
 }
 
 /// Which programs of a set are drawn, all of them by default.

@@ -3,6 +3,7 @@ ghost use Rattle.std.specs.Prelude.{◌≡◌, true, false, ℕ, List, OnErr, If
 ghost use Rattle.std.specs.Io.KnownBytes.{Appends, Keeps};
 ghost use Rattle.lynx_check.specs.Verdicts.{Judges};
 ghost use Rattle.lynx_graph.specs.Acceptance.{IsAccepted};
+ghost use Rattle.lynx_report.specs.declared.options.Why.TheVariants.{Untold};
 ghost use Rattle.lynx_report.specs.declared.verdict.Finding.TheVariants.{Offending};
 ghost use Rattle.lynx_report.specs.Runs.{IsLate};
 ghost use Rattle.lynx_report.specs.Checks.{Finds, IsVerdict, NoVerdictFor};
@@ -26,7 +27,7 @@ pub fn accepted_set<W: Write>(
     ensures unwritten { IfOk result (λ judged. IfSome judged (λ set.
         W.contents writer.new ≡ W.contents writer.old)) }
     ensures offending { IfOk result (λ judged. IfNone judged ((printed : List ℕ)
-        × Finds false text.now Offending printed
+        × Finds Untold text.now Offending printed
         × Appends (W.contents writer.old) (W.contents writer.new) printed)) }
     ensures part { OnErr result (BeginsRefusal text.now (W.contents writer.old)
         (W.contents writer.new)) }

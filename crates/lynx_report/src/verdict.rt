@@ -8,17 +8,17 @@ ghost use Rattle.lynx_graph.specs.Walks.{IsOffending};
 ghost use Rattle.lynx_set.specs.Rules.{IsSet};
 ghost use Rattle.lynx_lex.specs.Lines.{with_feed};
 ghost use Rattle.lynx_report.specs.Runs.{IsLate};
-ghost use Rattle.lynx_report.specs.Checks.{accepted_line, AreBehind, BeginsFinding, BeginsVerdict, edge_line, edge_lines, edges, finding_of, Finds, IsVerdictWith, NoVerdictFor, verdict_lines};
+ghost use Rattle.lynx_report.specs.Checks.{accepted_line, AreBehind, AreReasons, BeginsFinding, BeginsVerdict, edge_line, edge_lines, finding_of, Finds, IsVerdictWith, NoVerdictFor, verdict_lines};
 ghost use Rattle.lynx_report.specs.Written.{AppendsPart};
 
-use crate::options::CheckOptions;
+use crate::options::{CheckOptions, Why};
 use crate::run::{RunFault, read_set};
 use crate::writing::write_bytes;
 use lynx_check::{AcceptedSet, Reason, Verdict, check};
 use lynx_graph::Visit;
 use lynx_lines::conflict_line;
 use lynx_names::Memory;
-use lynx_reasons::why;
+use lynx_reasons::{summary, walk_edges, why};
 use lynx_set::ChainSet;
 use std::alloc::{AllocError, Global};
 use std::io::Write;
@@ -85,11 +85,23 @@ fn lines_behind(
     requires judged { Judges set.now verdict.now }
     ensures { IfOk result (λ lines. AreBehind options.why set.now verdict.now lines.items) }
 {
-    if options.why {
-        why(alloc, set, verdict)
-    } else {
-        Ok(Vec::new(alloc))
+    match options.why {
+        Why::Untold => Ok(Vec::new(alloc)),
+        Why::Summary => summary(alloc, set, verdict),
+        Why::All => reasons_of(alloc, set, verdict),
     }
+}
+
+/// The summary of a verdict, and all that it rests on.
+fn reasons_of(alloc: Global, set: &ChainSet, verdict: &Verdict) -> Result<Vec<u8>, Memory>
+    requires text { IsSet set.now }
+    requires judged { Judges set.now verdict.now }
+    ensures { IfOk result (λ lines. AreReasons set.now verdict.now lines.items) }
+{
+    let mut lines = summary(alloc, set, verdict)?;
+    let reasons = why(alloc, set, verdict)?;
+    lines.extend_from_slice(reasons.as_slice())?;
+    Ok(lines)
 }
 
 /// What a verdict finds.
@@ -152,17 +164,6 @@ pub(crate) fn write_offending<W: Write>(
     write_walk(alloc, set, walk, writer)
 }
 
-/// The conflict edges of a walk: each visit with the next, and the last with the first.
-fn edges_of(alloc: Global, walk: &[Visit]) -> Result<Vec<(Visit, Visit)>, AllocError>
-    ensures { IfOk result (λ found. found.items ≡ edges walk.now) }
-{
-    let next = walk.iter().skip(1).chain(walk.iter().take(1));
-    walk.iter()
-        .zip(next)
-        .map(|(visit, next)| (*visit, *next))
-        .collect(alloc)
-}
-
 /// Writes a line for each conflict edge of a walk.
 fn write_walk<W: Write>(
     alloc: Global,
@@ -176,7 +177,7 @@ fn write_walk<W: Write>(
         (edge_lines set.now walk.now)) }
     ensures late { IfErr result IsLate }
 {
-    let edges = edges_of(alloc, walk)?;
+    let edges = walk_edges(alloc, walk)?;
     write_edges(alloc, set, edges.as_slice(), writer)
 }
 

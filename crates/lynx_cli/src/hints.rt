@@ -3,6 +3,7 @@
 use crate::causes::{cause_of_copy, cause_of_damage, cause_of_gone, cause_of_store};
 use crate::fault::Fault;
 use crate::foreign::foreign_lines;
+use crate::further::hints_of_all;
 use crate::input::split_input;
 use crate::mending::mending_lines;
 use crate::reading::is_named_pipe;
@@ -12,7 +13,7 @@ use crate::texts::OFFENDING;
 use crate::undoing::undone_lines;
 use lynx_args::INPUT;
 use lynx_ask::AskFault;
-use lynx_hints::{Part, begin_hints, hint, separator_hint};
+use lynx_hints::{Part, begin_hints, separator_hint};
 use lynx_lex::TextFault;
 use lynx_restore::Undone;
 use lynx_service::{CopyWord, Damage, ServeFault, StoreWord};
@@ -98,11 +99,11 @@ impl Hints {
         }
     }
 
-    /// Notes where the fault of a text is.
+    /// Notes where the faults of a text are, of which this is the first.
     fn note_fault(&mut self, alloc: Global, named: Named<'_>, part: Part<'_>, fault: TextFault) {
         let shown = Shown { name: named.name };
         if let Ok(name) = format!(in alloc; "{shown}") {
-            self.lines = hint(alloc, name.as_str(), named.text, part, fault).ok();
+            self.lines = hints_of_all(alloc, name.as_str(), named.text, part, fault).ok();
         }
     }
 

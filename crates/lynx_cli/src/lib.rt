@@ -18,6 +18,7 @@ mod copied;
 mod extending;
 pub mod fault;
 mod foreign;
+mod further;
 pub mod hints;
 pub mod input;
 pub mod jobs;

@@ -1,5 +1,6 @@
 pub mod Maps
 pub mod Places
+pub mod Filters
 pub mod Slots
 pub mod Staging
 pub mod CellOrder

@@ -1,4 +1,5 @@
 pub mod Database
 pub mod Triples
 pub mod Contents
+pub mod Ranges
 pub mod inner

@@ -17,7 +17,7 @@ use std::marker::Model;
 /// fail, and `apply` writes them, which takes no memory.
 #[derive(Debug, Drop)]
 pub struct Cells {
-    slots: BTreeMap<(TableId, u64), u64>,
+    pub(crate) slots: BTreeMap<(TableId, u64), u64>,
 }
 
 impl Model for Cells {

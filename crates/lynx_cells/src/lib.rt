@@ -8,3 +8,4 @@ pub use changes::Changes;
 pub mod cells;
 pub mod changes;
 pub mod laws;
+mod ranges;

@@ -1,12 +1,15 @@
 //! What is read of a server: its settled front.
-ghost use Rattle.std.specs.Prelude.{◌≡◌, ◌-◌, length, option_copied};
+ghost use Rattle.std.specs.Prelude.{◌≡◌, ◌-◌, ◌<◌, MatchOption, length, option_copied};
+ghost use Rattle.lynx_rules.specs.Lawful.{record_of};
+ghost use Rattle.lynx_rules.specs.Tables.{tables_of};
 ghost use Rattle.lynx_server.specs.Acts.{GivesResults, act_of};
 ghost use Rattle.lynx_server.specs.Books.{IsFoundAt};
 ghost use Rattle.lynx_server.specs.History.{IsLawfulHistory};
 ghost use Rattle.lynx_resting.specs.Resting.{settled_front};
 
 use crate::resting::Resting;
-use lynx_entry::{Entry, Message};
+use lynx_cells::Cells;
+use lynx_entry::{Entry, Message, Request};
 use lynx_keep::{BatchKeeper, Cause, Keeper};
 use lynx_names::{ChainId, ServerId, Stamp};
 use lynx_set::ChainSet;
@@ -105,5 +108,41 @@ impl<K: BatchKeeper> Resting<K> {
             Entry::Refused(_) => None,
             Entry::Hop(ran) => Some((ran.stamp, ran.results.as_slice())),
         }
+    }
+
+    /// The place of the entry that keeps the answer to a request of this client and number, if it
+    /// is settled: one look-up. Takes no memory.
+    pub fn record_place(&self, request: &Request) -> Option<usize>
+        ensures { IsFoundAt (settled_front self.now) result
+            (record_of request.now (settled_front self.now)) }
+    {
+        // By its type the history is lawful, so no request is recorded in it twice.
+        let _ = self.server.history();
+        let place = self.server.record_place(request)?;
+        if self.settled <= place {
+            return None;
+        }
+        Some(place)
+    }
+
+    /// The entry that keeps the answer to a request of this client and number, if it is settled:
+    /// one look-up. Takes no memory.
+    pub fn record_of(&self, request: &Request) -> Option<&Entry>
+        ensures { option_copied result ≡ record_of request.now (settled_front self.now) }
+    {
+        let place = self.record_place(request)?;
+        self.settled().get(place)
+    }
+
+    /// The cells, as the settled front of the history leaves them. None while something waits to be
+    /// settled. Takes no memory.
+    pub fn cells(&self) -> Option<&Cells>
+        ensures { MatchOption result (self.now.settled < length self.now.here.history)
+            (λ cells. cells.now.database ≡ tables_of self.now.here.set (settled_front self.now)) }
+    {
+        if self.waiting() > 0 {
+            return None;
+        }
+        Some(self.server.cells())
     }
 }

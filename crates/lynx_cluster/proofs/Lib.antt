@@ -10,3 +10,4 @@ pub mod Settlings
 pub mod Submissions
 pub mod Runs
 pub mod Sames
+pub mod Records

@@ -4,6 +4,8 @@ pub mod Clusters
 pub mod Calls
 pub mod Looks
 pub mod Glances
+pub mod Readings
+pub mod Records
 pub mod Starting
 pub mod Closing
 pub mod inner

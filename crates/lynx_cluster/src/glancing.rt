@@ -3,6 +3,7 @@
 ghost use Rattle.std.specs.Prelude.{◌≡◌, All, IfOk, drop, take};
 ghost use Rattle.lynx_codec.specs.Entries.{IsEntryInRange};
 ghost use Rattle.lynx_resting.specs.Resting.{settled_front, settled_part};
+ghost use Rattle.lynx_rules.specs.Tables.{clock_of};
 ghost use Rattle.lynx_server.specs.Acts.{act_of};
 ghost use Rattle.lynx_cluster.specs.Glances.{glance_of, last_of};
 ghost use Rattle.lynx_cluster.specs.Looks.{looked_at};
@@ -30,18 +31,24 @@ pub struct Glance {
     pub is_running: bool,
 }
 
+/// The stamp of the last entry of a history, 0 where there is none.
+pub(crate) fn clock_of(history: &[Entry]) -> Stamp
+    ensures { result ≡ clock_of history.now }
+{
+    match history.last() {
+        Some(entry) => entry.stamp(),
+        None => Stamp::zero(),
+    }
+}
+
 /// What is seen of the server.
 fn glance_of<K: BatchKeeper>(state: &Resting<K>) -> Glance
     ensures { result ≡ glance_of (settled_part state.now) }
 {
     let history = state.settled();
-    let clock = match history.last() {
-        Some(entry) => entry.stamp(),
-        None => Stamp::zero(),
-    };
     Glance {
         entries: history.len() as u64,
-        clock,
+        clock: clock_of(history),
         held: state.held().len() as u64,
         is_running: !state.is_stopped(),
     }

@@ -24,7 +24,7 @@ const MOST_BEHIND: u64 = 512;
 /// still then, since its server stopped, say, no begin waits again.
 const PATIENCE_MILLIS: u64 = 1_000;
 
-/// How often a begin waits until less is owed, at most.
+/// How often a begin waits until less is owed, and a reader until all is settled, at most.
 const MOST_WAITS: u32 = 16;
 
 /// How many steps of a server go into one transaction of its store.
@@ -150,6 +150,27 @@ impl<K: BatchKeeper> Post<K> {
     /// The lock, to look.
     pub(crate) fn look<R: Wait>(&self, rt: &R) -> MutexGuard<'_, Resting<K>> {
         self.state.lock(rt)
+    }
+
+    /// The lock, to read what all steps of the server leave. It waits for the settling of those
+    /// that were made, again and again while others make more, and settles them itself at last.
+    pub(crate) fn look_settled<R: Wait>(
+        &self,
+        rt: &R,
+        alloc: Global,
+    ) -> MutexGuard<'_, Resting<K>> {
+        for _ in 0..MOST_WAITS {
+            let state = self.look(rt);
+            if state.waiting() == 0 || state.is_stopped() {
+                return state;
+            }
+            let reached = state.reached();
+            drop(state);
+            self.await_settled(rt, reached);
+        }
+        let mut state = self.look(rt);
+        self.settle(rt, alloc, &mut state);
+        state
     }
 
     /// So many begins were made.

@@ -86,7 +86,7 @@ rerun_judged_done terms stores folder options text script set (Ok status) old mi
     inr ((set, accepts), ran, ran.status_is ∙ rerun_ordered terms stores folder ran.chains script options.owed ran.ending ran.printed ran.is_set accepted ran.reruns)
 
 -- a folder's stores are given to the set of a text, which is accepted
-pub extended_so : {K C : Type 0} (stores : StoreTerms K) (folder : List ℕ) (state_of : C → State) (OpenedAt : ℕ → C → Type 0) (DatabaseClosed : C → Bool → Type 0) (text : List ℕ) (result : Result ℕ Fault) (old mid new : Option (List ℕ)) →
+pub extended_so : {K C : Type 0} (stores : StoreTerms K) (folder : List ℕ) (state_of : C → State) (OpenedAt : ℕ → Option C → Type 0) (DatabaseClosed : C → Bool → Type 0) (text : List ℕ) (result : Result ℕ Fault) (old mid new : Option (List ℕ)) →
     mid ≡ old → IfOk result (HasGivenText stores folder state_of OpenedAt DatabaseClosed text mid new) →
     IfOk result (λ status. (read : List ℕ) × HasExtended stores folder state_of OpenedAt DatabaseClosed read old new status)
 extended_so stores folder state_of OpenedAt DatabaseClosed text (Err fault) old mid new kept done = tt

@@ -155,7 +155,7 @@ HasServedJudged terms stores folder apart text old new status = HasRefused text 
 
 -- the stores of a folder are given to the text's set, which is accepted, and the status is 0
 pub record HasGivenText {K C : Type 0} (stores : StoreTerms K) (folder : List ℕ)
-    (state_of : C → State) (OpenedAt : ℕ → C → Type 0) (DatabaseClosed : C → Bool → Type 0)
+    (state_of : C → State) (OpenedAt : ℕ → Option C → Type 0) (DatabaseClosed : C → Bool → Type 0)
     (text : List ℕ) (old new : Option (List ℕ)) (status : ℕ) : Type 0 where
   pub chains : Set
   pub accepts : Accepts text chains
@@ -164,8 +164,8 @@ pub record HasGivenText {K C : Type 0} (stores : StoreTerms K) (folder : List �
 
 -- a set that offends is refused, and another is given the stores
 abbrev pub HasExtended : {K C : Type 0} → StoreTerms K → List ℕ → (C → State)
-    → (ℕ → C → Type 0) → (C → Bool → Type 0) → List ℕ → Option (List ℕ) → Option (List ℕ) → ℕ
-    → Type 0
+    → (ℕ → Option C → Type 0) → (C → Bool → Type 0) → List ℕ → Option (List ℕ)
+    → Option (List ℕ) → ℕ → Type 0
 HasExtended stores folder state_of OpenedAt DatabaseClosed text old new status =
     HasRefused text old new status
     ⊎ HasGivenText stores folder state_of OpenedAt DatabaseClosed text old new status

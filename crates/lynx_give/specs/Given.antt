@@ -37,18 +37,18 @@ TellsPlace s set place =
 
 -- A database was opened, and what it keeps was read: it is this server's, and the set may have it.
 -- It is still kept.
-pub record IsRead {C : Type 0} (state_of : C → State) (OpenedAt : ℕ → C → Type 0) (set : Set)
+pub record IsRead {C : Type 0} (state_of : C → State) (OpenedAt : ℕ → Option C → Type 0) (set : Set)
     (server : ℕ) (held : C) (place : Place) : Type 0 where
   pub opened : C
-  pub at : OpenedAt server opened
+  pub at : OpenedAt server (Some opened)
   pub extendable : IsUndisturbed (state_of held)
       → (count : ℕ) × IsExtendable (state_of opened) (state_of held) server set count
   pub tells : IsUndisturbed (state_of held) → TellsPlace (state_of opened) set place
 
 -- what stands in the place of a server's store
-abbrev pub IsFound : {C : Type 0} → (C → State) → (ℕ → C → Type 0) → Set → ℕ → Option C
+abbrev pub IsFound : {C : Type 0} → (C → State) → (ℕ → Option C → Type 0) → Set → ℕ → Option C
     → Place → Type 0
-IsFound state_of OpenedAt set server None place = place ≡ Empty
+IsFound state_of OpenedAt set server None place = (place ≡ Empty) × OpenedAt server None
 IsFound state_of OpenedAt set server (Some held) place =
     IsRead state_of OpenedAt set server held place
 
@@ -96,15 +96,15 @@ pub record GivesAll {K C : Type 0} (state_of : C → State) (set : Set)
   pub written : Appends old new (told_of given_text 0 told)
 
 -- Of each server it is found what stands in the place of its store.
-pub record AreFound {C : Type 0} (state_of : C → State) (OpenedAt : ℕ → C → Type 0) (set : Set)
-    (found : List (Option C)) (places : List Place) : Type 0 where
+pub record AreFound {C : Type 0} (state_of : C → State) (OpenedAt : ℕ → Option C → Type 0)
+    (set : Set) (found : List (Option C)) (places : List Place) : Type 0 where
   pub many : length found ≡ set.servers
   pub each : Each (IsFound state_of OpenedAt set) 0 found places
 
 -- No store is lost, those of new servers are made, and then each that was there is given to the
 -- set; so it is told, line by line. All are let go, each well.
 pub record HasGiven {K C : Type 0} (stores : StoreTerms K) (folder : List ℕ) (state_of : C → State)
-    (OpenedAt : ℕ → C → Type 0) (DatabaseClosed : C → Bool → Type 0) (set : Set)
+    (OpenedAt : ℕ → Option C → Type 0) (DatabaseClosed : C → Bool → Type 0) (set : Set)
     (old new : Option (List ℕ)) : Type 0 where
   pub found : List (Option C)
   pub places : List Place

@@ -1,4 +1,5 @@
 pub mod Acts
+pub mod Causes
 pub mod Premise
 pub mod Stored
 pub mod Salvages

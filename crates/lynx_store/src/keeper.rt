@@ -3,6 +3,7 @@ ghost use Rattle.sqlite_trees.specs.View.{doubt};
 ghost use Rattle.sqlite.specs.Tree.{Trees};
 ghost use Rattle.sqlite.specs.Held.{state};
 ghost use Rattle.lynx_keep.specs.Kept.{KeptState, kept_in};
+ghost use Rattle.lynx_store.specs.Causes.{cause_of};
 ghost use Rattle.lynx_store.specs.Heading.{owner_in};
 ghost use Rattle.lynx_store.specs.Premise.{IsUndisturbed};
 ghost use Rattle.lynx_store.specs.Stored.{IsKept, Tells};
@@ -35,7 +36,9 @@ pub struct SqlKeeper<S: Rising> {
 }
 
 /// Why the database failed.
-pub(crate) fn cause_of(error: &Error) -> Cause {
+pub(crate) fn cause_of(error: &Error) -> Cause
+    ensures { result ≡ cause_of error.now }
+{
     match error {
         Error::SqliteFailure(ErrorCode::DiskFull) => Cause::Full,
         Error::SqliteFailure(ErrorCode::SystemIoFailure) => Cause::Disk,

@@ -7,6 +7,7 @@ ghost use Rattle.sqlite_trees.specs.View.{doubt};
 ghost use Rattle.sqlite.specs.Tree.{Trees};
 ghost use Rattle.sqlite.specs.Held.{state};
 ghost use Rattle.lynx_keep.specs.Kept.{KeptState};
+ghost use Rattle.lynx_sql.specs.Tables.{IsStoreSchema};
 ghost use Rattle.lynx_store.specs.Premise.{IsUndisturbed};
 ghost use Rattle.lynx_store.specs.Salvages.{IsLongestShown, Salvages};
 ghost use Rattle.lynx_store.specs.Stored.{HasTitle, IsKept, IsOfNoVersion, IsServerOf, KeepsNothing, Owner, ShowsTitle, owner_for, title_for};
@@ -79,6 +80,8 @@ fn salvaged_from(alloc: Global, rows: &StoredRows) -> Result<Salvaged, StoreFaul
 pub fn salvage<S: Rising>(alloc: Global, conn: &mut Connection<S>) -> Result<Salvaged, StoreFault>
     ensures clean { doubt (state S.Store conn.old).is_clean
         ≤ doubt (state S.Store conn.new).is_clean }
+    // The database has the tables of a store, and nothing else.
+    ensures tables { IfOk result (λ held. IsStoreSchema (state S.Store conn.old).now.schema) }
     // Of what was kept each entry is told.
     ensures all { IsUndisturbed (state S.Store conn.new)
         → IfOk result (λ held. (owner : Owner) (count : ℕ) (kept : KeptState) → count < 2 ^ 32

@@ -8,10 +8,10 @@ use sqlite::{Connection, File, FileStore};
 
 /// Where servers have the databases of their stores, whatever sets these are of.
 pub trait Databases<C> {
-    ghost use Rattle.std.specs.Prelude.{ℕ, Bool, List, IfOk, IfSome, is_ok};
+    ghost use Rattle.std.specs.Prelude.{ℕ, Bool, List, Option, IfOk, is_ok};
 
-    // The database is that of this server's store in the folder, as it was opened.
-    ghost opened_at: { List ℕ → ℕ → C → Type 0 };
+    // What stands in the folder of this server's store: its database, as it was opened, or none.
+    ghost opened_at: { List ℕ → ℕ → Option C → Type 0 };
 
     // The database was let go, well or not.
     ghost database_closed: { C → Bool → Type 0 };
@@ -20,7 +20,7 @@ pub trait Databases<C> {
     /// or no more than what a stop within its making leaves, a database without tables. It is
     /// locked while it is open, and nothing is made.
     fn open_database(&self, folder: &str, server: ServerId) -> Result<Option<C>, StoreFault>
-        ensures opened { IfOk result (λ found. IfSome found (opened_at folder.now server)) };
+        ensures opened { IfOk result (opened_at folder.now server) };
 
     /// Closes the database of a store: its log is copied into the file. After a fault all that was
     /// kept stands, the log beside the file.
@@ -32,7 +32,7 @@ pub trait Databases<C> {
 // isn't there, or another process has the file. No clause ties a file to its path: the kit has none
 // that could.
 impl Databases<Connection<FileStore<File>>> for Files {
-    ghost opened_at = { λ folder server opened. Unit {0} };
+    ghost opened_at = { λ folder server found. Unit {0} };
 
     ghost database_closed = { λ database is_well. Unit {0} };
 

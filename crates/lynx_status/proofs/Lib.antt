@@ -1,3 +1,5 @@
 pub mod AskedLaws
 pub mod Cutting
+pub mod Fronts
+pub mod Recorded
 pub mod Shown

@@ -16,4 +16,8 @@ pub mod Metrics
 pub mod Questions
 pub mod Replies
 pub mod SetHash
+pub mod Wanted
+pub mod Cells
+pub mod Records
+pub mod Lookups
 pub mod Watching

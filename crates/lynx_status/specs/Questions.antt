@@ -1,11 +1,14 @@
 -- What of a request says what it asks for.
-use Rattle.std.specs.Prelude.{ℕ, Bool, List, [], ◌∷◌, codes, ◌||◌, is_some, Option, Some, None, if◌then◌else◌}
+use Rattle.std.specs.Prelude.{ℕ, Bool, List, [], ◌∷◌, codes, ◌||◌, is_some, Option, Some, None, Result, if◌then◌else◌}
 use Rattle.http.specs.declared.request.Request.{Request}
 use Rattle.http.specs.Request.{head_of}
 use Rattle.http_header.specs.FieldValue.{FieldValue}
 use Rattle.http_header.specs.HeaderMap.{Entries, get, get_all}
 use Rattle.http_uri.specs.declared.uri.Uri.{Uri}
 use Rattle.http_uri.specs.Uri.{uri_authority, uri_path, uri_query}
+use Rattle.lynx_status.specs.declared.asking.Refusal.{Refusal}
+use Rattle.lynx_status.specs.declared.wanted.Wanted.{Wanted}
+use Rattle.lynx_status.specs.Wanted.{wanted_in}
 
 -- the bytes of the one value
 abbrev pub only_one : List FieldValue → Option (List ℕ)
@@ -29,6 +32,14 @@ host_of request = host_in (head_of request).headers
 
 abbrev pub target_of : Request (List ℕ) → List ℕ
 target_of request = target_in (head_of request).uri
+
+-- what a target looks up, nothing where it names a host
+abbrev pub wanted_at : Uri → Option (Result Wanted Refusal)
+wanted_at uri =
+    if is_some (uri_authority uri) then None else wanted_in (uri_path uri) (uri_query uri)
+
+abbrev pub wanted_of : Request (List ℕ) → Option (Result Wanted Refusal)
+wanted_of request = wanted_at (head_of request).uri
 
 -- a page of a browser asks, which says where it is from
 abbrev pub has_origin : Request (List ℕ) → Bool

@@ -3,7 +3,7 @@ use Rattle.std.specs.Prelude.{◌≡◌, ℕ, Bool, ◌==◌, List, [], ◌∷�
 use Rattle.lynx_status.specs.declared.asking.Asked.{Asked}
 use Rattle.lynx_status.specs.declared.asking.Asked.TheVariants.{Health, Metrics, Status, Set, Chain}
 use Rattle.lynx_status.specs.declared.asking.Refusal.{Refusal}
-use Rattle.lynx_status.specs.declared.asking.Refusal.TheVariants.{NoHost, OtherHost, OtherOrigin, OtherMethod, NotFound}
+use Rattle.lynx_status.specs.declared.asking.Refusal.TheVariants.{NoHost, OtherHost, OtherOrigin, OtherMethod, NotFound, BadQuery, NoTable, NoRequest, NoChain, Stopped}
 use Rattle.lynx_status.specs.declared.chain.ChainFigures.{ChainFigures}
 use Rattle.lynx_status.specs.declared.figures.Figures.{Figures}
 use Rattle.lynx_status.specs.declared.reply.Content.{Content}
@@ -57,6 +57,11 @@ refusal_status OtherHost = 403
 refusal_status OtherOrigin = 403
 refusal_status OtherMethod = 405
 refusal_status NotFound = 404
+refusal_status BadQuery = 400
+refusal_status NoTable = 404
+refusal_status NoRequest = 404
+refusal_status NoChain = 404
+refusal_status Stopped = 503
 
 abbrev pub refusal_text : Refusal → List ℕ
 refusal_text NoHost = codes "no host\n"
@@ -64,6 +69,11 @@ refusal_text OtherHost = codes "other host\n"
 refusal_text OtherOrigin = codes "other origin\n"
 refusal_text OtherMethod = codes "other method\n"
 refusal_text NotFound = codes "not found\n"
+refusal_text BadQuery = codes "bad query\n"
+refusal_text NoTable = codes "no such table\n"
+refusal_text NoRequest = codes "no such request\n"
+refusal_text NoChain = codes "no such chain\n"
+refusal_text Stopped = codes "server stopped\n"
 
 abbrev pub IsRefusal : Refusal → Reply → Type 0
 IsRefusal why = IsReply (refusal_status why) Text (refusal_text why)

@@ -1,6 +1,7 @@
 //! What a request asks for, or why it is refused.
 ghost use Rattle.std.specs.Option.{option_copied};
-ghost use Rattle.lynx_status.specs.Asking.{IsAsked};
+ghost use Rattle.std.specs.Prelude.{◌≡◌};
+ghost use Rattle.lynx_status.specs.Asking.{IsAsked, refused_by};
 
 use crate::hosts::is_local;
 use crate::paths::asked_at;
@@ -41,6 +42,37 @@ pub enum Refusal {
     /// There is nothing at its path.
     #[error("not found")]
     NotFound,
+    /// Its path takes another query, or none.
+    #[error("bad query")]
+    BadQuery,
+    /// The set has no such table.
+    #[error("no such table")]
+    NoTable,
+    /// No server has a record of that request.
+    #[error("no such request")]
+    NoRequest,
+    /// No such chain began.
+    #[error("no such chain")]
+    NoChain,
+    /// The server that has the cells stopped.
+    #[error("server stopped")]
+    Stopped,
+}
+
+/// Why a request is refused before its path is looked at.
+pub(crate) fn refused_by(method: &[u8], host: Option<&[u8]>) -> Option<Refusal>
+    ensures { result ≡ refused_by method.now (option_copied host.entry) }
+{
+    let Some(host) = host else {
+        return Some(Refusal::NoHost);
+    };
+    if !is_local(host) {
+        return Some(Refusal::OtherHost);
+    }
+    if method != b"GET".as_slice() {
+        return Some(Refusal::OtherMethod);
+    }
+    None
 }
 
 /// What a request asks for by its method, the value of its one field Host, None where it hasn't
@@ -48,14 +80,8 @@ pub enum Refusal {
 pub fn asked_for(method: &[u8], host: Option<&[u8]>, path: &[u8]) -> Result<Asked, Refusal>
     ensures { IsAsked method.now (option_copied host.entry) path.now result }
 {
-    let Some(host) = host else {
-        return Err(Refusal::NoHost);
-    };
-    if !is_local(host) {
-        return Err(Refusal::OtherHost);
-    }
-    if method != b"GET".as_slice() {
-        return Err(Refusal::OtherMethod);
+    if let Some(why) = refused_by(method, host) {
+        return Err(why);
     }
     match asked_at(path) {
         Some(asked) => Ok(asked),

@@ -37,7 +37,7 @@ pub struct RanHop {
 }
 
 /// Adds values with commas between them.
-fn put_values(text: &mut String, values: &[u64]) -> Result<(), AllocError>
+pub(crate) fn put_values(text: &mut String, values: &[u64]) -> Result<(), AllocError>
     ensures { OnOk result (string_bytes text.new
         ≡ string_bytes text.old ++ values_json values.now) }
 {
@@ -83,7 +83,7 @@ fn put_hop(text: &mut String, hop: &HopFigures) -> Result<(), AllocError>
 }
 
 /// Adds hops with commas between them.
-fn put_hops(text: &mut String, hops: &[HopFigures]) -> Result<(), AllocError>
+pub(crate) fn put_hops(text: &mut String, hops: &[HopFigures]) -> Result<(), AllocError>
     ensures { OnOk result (string_bytes text.new ≡ string_bytes text.old ++ hops_json hops.now) }
 {
     let Some((first, rest)) = hops.split_first() else {

@@ -1,10 +1,11 @@
 //! Who answers over HTTP.
 ghost use Rattle.std.specs.Prelude.{◌≡◌, IfOk};
-ghost use Rattle.lynx_status.specs.Desks.{IsUnable, RepliesTo};
+ghost use Rattle.lynx_status.specs.Desks.{IsUnable, RepliesTo, RepliesToQuestion};
 
 use crate::answering::reply_to;
 use crate::commanding::{command_of, obey, refusal_of};
-use crate::question::question_of;
+use crate::lookups::look_up;
+use crate::question::{allowed, question_of, wanted_of};
 use crate::reply::{Content, Reply, fill};
 use crate::watched::Watched;
 use bytes::Bytes;
@@ -49,10 +50,27 @@ impl<W: Watched> StatusDesk<W> {
         }
     }
 
+    /// What is answered to a request that commands nothing: what it looks up, or asks for.
+    fn reply_to_question(&mut self, request: &Request<Bytes>) -> Result<Reply, Memory>
+        ensures replies { IfOk result (λ reply. RepliesToQuestion W.tells W.finds W.reads W.records
+            W.traces W.set_of self.old.version.now self.old.watched request.now reply
+            self.new.watched) }
+        ensures version { self.new.version.now ≡ self.old.version.now }
+    {
+        match wanted_of(request) {
+            Some(wanted) => look_up(self.alloc, &mut self.watched, allowed(request, wanted)),
+            None => {
+                let question = question_of(request);
+                reply_to(self.alloc, &mut self.watched, self.version, question)
+            }
+        }
+    }
+
     /// What is answered to the request: to a command what came of it, to another what it asks for.
     fn reply_to(&mut self, request: &Request<Bytes>) -> Result<Reply, Memory>
-        ensures replies { IfOk result (λ reply. RepliesTo W.tells W.finds W.obeys W.set_of
-            self.old.version.now self.old.watched request.now reply self.new.watched) }
+        ensures replies { IfOk result (λ reply. RepliesTo W.tells W.finds W.reads W.records W.traces
+            W.obeys W.set_of self.old.version.now self.old.watched request.now reply
+            self.new.watched) }
         ensures version { self.new.version.now ≡ self.old.version.now }
     {
         match command_of(request) {
@@ -60,10 +78,7 @@ impl<W: Watched> StatusDesk<W> {
                 let refused = refusal_of(request);
                 obey(self.alloc, &mut self.watched, command, refused)
             }
-            None => {
-                let question = question_of(request);
-                reply_to(self.alloc, &mut self.watched, self.version, question)
-            }
+            None => self.reply_to_question(request),
         }
     }
 }
@@ -71,8 +86,8 @@ impl<W: Watched> StatusDesk<W> {
 impl<W: Watched> Service for StatusDesk<W> {
     ghost use Rattle.lynx_status.specs.Desks.{Answers};
 
-    ghost answers = { λ old request response new. Answers W.tells W.finds W.obeys W.set_of
-        old.version.now old.watched request response new.watched };
+    ghost answers = { λ old request response new. Answers W.tells W.finds W.reads W.records W.traces
+        W.obeys W.set_of old.version.now old.watched request response new.watched };
 
     fn call(
         &mut self,

@@ -5,6 +5,7 @@
 
 pub use asking::{Asked, Refusal, asked_for};
 pub use begins::Begins;
+pub use cells::{CellsFigures, CellsFound, cell_json, cells_json};
 pub use chain::{ChainFigures, HopFigures, RanHop, chain_json};
 pub use commits::CommitTimes;
 pub use copies::{CopyCommand, CopyDone, CopyFigures};
@@ -16,11 +17,16 @@ pub use health::health_text;
 pub use metrics::metrics_text;
 pub use page::page_text;
 pub use recent::{RecentEntry, RecentKind};
+pub use records::{
+    ChainRecord, RecordFigures, RecordOutcome, RecordsFound, chain_record_json, request_json,
+};
+pub use wanted::{CellRange, Wanted};
 pub use watched::Watched;
 
 mod answering;
 pub mod asking;
 pub mod begins;
+pub mod cells;
 pub mod chain;
 mod chart;
 mod commanding;
@@ -28,20 +34,26 @@ pub mod commits;
 pub mod copies;
 pub mod deliveries;
 pub mod desk;
+mod fields;
 pub mod figures;
 mod gauges;
 pub mod hashing;
 pub mod health;
 mod hosts;
+mod lookups;
 pub mod metrics;
 mod outcomes;
 pub mod page;
+mod parted;
 mod paths;
 mod question;
 pub mod recent;
+pub mod records;
 mod reply;
 mod script;
 mod style;
 mod tables;
 mod timing;
+pub mod wanted;
+mod wanting;
 pub mod watched;

@@ -14,7 +14,7 @@ use lynx_names::{ChainId, ServerId};
 const CHAIN: &[u8] = b"/chain/";
 
 /// What follows the words at the front of a text.
-fn after<'a>(text: &'a [u8], words: &[u8]) -> Option<&'a [u8]>
+pub(crate) fn after<'a>(text: &'a [u8], words: &[u8]) -> Option<&'a [u8]>
     ensures found { IfSome result (λ rest. text.now ≡ words.now ++ rest.now) }
     ensures none { IfNone result ((rest : List ℕ) → text.now ≢ words.now ++ rest) }
 {

@@ -1,10 +1,15 @@
 //! What a request of HTTP asks for.
 ghost use Rattle.std.specs.Prelude.{◌≡◌};
+ghost use Rattle.http_uri.specs.Uri.{uri_query};
 ghost use Rattle.std.specs.Option.{option_copied};
 ghost use Rattle.lynx_status.specs.Asking.{IsAsked};
-ghost use Rattle.lynx_status.specs.Questions.{host_in, host_of, method_of, target_in, target_of};
+ghost use Rattle.lynx_status.specs.Asking.{refused_by};
+ghost use Rattle.lynx_status.specs.Lookups.{allowed};
+ghost use Rattle.lynx_status.specs.Questions.{host_in, host_of, method_of, target_in, target_of, wanted_at, wanted_of};
 
-use crate::asking::{Asked, Refusal, asked_for};
+use crate::asking::{Asked, Refusal, asked_for, refused_by};
+use crate::wanted::Wanted;
+use crate::wanting::wanted_in;
 use bytes::Bytes;
 use http::{HeaderMap, Request, Uri, header};
 
@@ -29,6 +34,44 @@ pub(crate) fn target_in(uri: &Uri) -> &str
         ""
     } else {
         uri.path()
+    }
+}
+
+/// The query of a target.
+fn query_in(uri: &Uri) -> Option<&[u8]>
+    ensures { option_copied result ≡ uri_query uri.now }
+{
+    Some(uri.query()?.as_bytes())
+}
+
+/// What a target looks up, nothing where it names a host.
+fn wanted_at(uri: &Uri) -> Option<Result<Wanted, Refusal>>
+    ensures { result ≡ wanted_at uri.now }
+{
+    if uri.authority().is_some() {
+        return None;
+    }
+    wanted_in(uri.path().as_bytes(), query_in(uri))
+}
+
+/// What a request looks up. None where it asks for something else.
+pub(crate) fn wanted_of(request: &Request<Bytes>) -> Option<Result<Wanted, Refusal>>
+    ensures { result ≡ wanted_of request.now }
+{
+    wanted_at(request.uri())
+}
+
+/// The same where its method and its host are allowed.
+pub(crate) fn allowed(
+    request: &Request<Bytes>,
+    wanted: Result<Wanted, Refusal>,
+) -> Result<Wanted, Refusal>
+    ensures { result ≡ allowed (refused_by (method_of request.now) (host_of request.now)) wanted }
+{
+    let method = request.method().as_str().as_bytes();
+    match refused_by(method, host_in(request.headers())) {
+        Some(why) => Err(why),
+        None => wanted,
     }
 }
 

@@ -54,7 +54,11 @@ impl Refusal {
             Refusal::NoHost => StatusCode::BAD_REQUEST,
             Refusal::OtherHost | Refusal::OtherOrigin => StatusCode::FORBIDDEN,
             Refusal::OtherMethod => StatusCode::METHOD_NOT_ALLOWED,
-            Refusal::NotFound => StatusCode::NOT_FOUND,
+            Refusal::BadQuery => StatusCode::BAD_REQUEST,
+            Refusal::NotFound | Refusal::NoTable | Refusal::NoRequest | Refusal::NoChain => {
+                StatusCode::NOT_FOUND
+            }
+            Refusal::Stopped => StatusCode::SERVICE_UNAVAILABLE,
         }
     }
 
@@ -68,6 +72,11 @@ impl Refusal {
             Refusal::OtherOrigin => b"other origin\n",
             Refusal::OtherMethod => b"other method\n",
             Refusal::NotFound => b"not found\n",
+            Refusal::BadQuery => b"bad query\n",
+            Refusal::NoTable => b"no such table\n",
+            Refusal::NoRequest => b"no such request\n",
+            Refusal::NoChain => b"no such chain\n",
+            Refusal::Stopped => b"server stopped\n",
         }
     }
 }

@@ -32,6 +32,7 @@ pub mod limits;
 mod line_place;
 pub mod log;
 mod log_file;
+mod lookups;
 mod metrics;
 mod opening;
 mod patience;

@@ -11,10 +11,10 @@ use lynx_codec::Looked;
 use lynx_entry::Entry;
 use lynx_keep::BatchKeeper;
 use lynx_lex::name::Name;
-use lynx_names::{ChainId, Memory, ProgramId, ServerId};
+use lynx_names::{ChainId, ClientId, Memory, ProgramId, ServerId};
 use lynx_status::{
-    ChainFigures, CopyCommand, CopyDone, CopyFigures, Figures, HopFigures, RanHop, RecentEntry,
-    RecentKind, ServerFigures, Watched,
+    CellRange, CellsFound, ChainFigures, ChainRecord, CopyCommand, CopyDone, CopyFigures, Figures,
+    HopFigures, RanHop, RecentEntry, RecentKind, RecordsFound, ServerFigures, Watched,
 };
 use std::alloc::Global;
 use std::sync::Wait;
@@ -92,7 +92,7 @@ impl<'a, R: Wait + Clock, K: BatchKeeper> Status<'a, R, K> {
     }
 
     /// The name of a program of the set.
-    fn name_of(&self, program: ProgramId) -> Option<Name> {
+    pub(crate) fn name_of(&self, program: ProgramId) -> Option<Name> {
         let (name, _) = self.front.set().programs().get_index(program.index())?;
         Some(*name)
     }
@@ -148,6 +148,22 @@ impl<'a, R: Wait + Clock, K: BatchKeeper> Status<'a, R, K> {
         Ok(Some(HopFigures { hop, server, ran }))
     }
 
+    /// The hops of a chain of that program.
+    pub(crate) fn hops_of(
+        &self,
+        program: ProgramId,
+        chain: &ChainId,
+    ) -> Result<Vec<HopFigures>, Memory> {
+        let mut hops = Vec::new(self.alloc);
+        for hop in 0..=u8::MAX {
+            let Some(figures) = self.hop_figures(program, *chain, hop)? else {
+                break;
+            };
+            hops.push(figures)?;
+        }
+        Ok(hops)
+    }
+
     /// What is shown of an entry. None where its program has no name.
     fn recent_entry(&self, server: ServerId, entry: &Entry) -> Option<RecentEntry> {
         let (program, kind) = match entry {
@@ -184,10 +200,18 @@ impl<'a, R: Wait + Clock, K: BatchKeeper> Status<'a, R, K> {
 }
 
 impl<R: Wait + Clock, K: BatchKeeper> Watched for Status<'_, R, K> {
+    ghost use Rattle.lynx_service.specs.Lookups.{FindsCells};
+
     // What is counted beside the locks, and what stands behind them, no clause can say.
     ghost tells = { λ old figures new. Unit {0} };
 
     ghost finds = { λ old chain found new. Unit {0} };
+
+    ghost reads = { λ old table range found new. FindsCells old.front.now.set table range found };
+
+    ghost records = { λ old client number found new. Unit {0} };
+
+    ghost traces = { λ old chain found new. Unit {0} };
 
     ghost obeys = { λ old command done new. Unit {0} };
 
@@ -219,18 +243,23 @@ impl<R: Wait + Clock, K: BatchKeeper> Watched for Status<'_, R, K> {
         let Some(name) = self.name_of(program) else {
             return Ok(None);
         };
-        let mut hops = Vec::new(self.alloc);
-        for hop in 0..=u8::MAX {
-            let Some(figures) = self.hop_figures(program, chain, hop)? else {
-                break;
-            };
-            hops.push(figures)?;
-        }
         Ok(Some(ChainFigures {
             chain,
             program: name,
-            hops,
+            hops: self.hops_of(program, &chain)?,
         }))
+    }
+
+    fn cells(&mut self, table: Name, range: CellRange) -> Result<CellsFound, Memory> {
+        self.cells_found(table, range)
+    }
+
+    fn records(&mut self, client: ClientId, number: u64) -> Result<RecordsFound, Memory> {
+        self.records_found(client, number)
+    }
+
+    fn record_of(&mut self, chain: ChainId) -> Result<Option<ChainRecord>, Memory> {
+        self.chain_found(chain)
     }
 
     fn recent(&mut self) -> Result<Vec<RecentEntry>, Memory> {

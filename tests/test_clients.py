@@ -17,7 +17,7 @@ import threading
 import time
 import urllib.request
 
-from serving import PAYMENT, TOP, Room, Service, bound_by_modes, end_of, free_port, wait_until
+from serving import PAYMENT, TOP, Room, Service, WatchedService, bound_by_modes, end_of, free_port, wait_until
 import lynx
 
 # A set that offends: each of two payments can come before the other.
@@ -645,6 +645,56 @@ def test_typed(tally, program):
         except lynx.Lost as fault:
             got = fault.number
         tally.is_same("lost", got, 40)
+
+
+def test_read(tally, program):
+    """What the Python client reads, by its types: cells, pairs of a range as they are taken, and records."""
+    with Room(PAYMENT) as room, WatchedService(program, room) as service:
+        bank = lynx.Client(room.stores, client=1, first=1)
+        bank.begin("seed", 100)
+        paid = bank.begin("pay", 30)
+        tally.holds("paid", paid.wait(20))
+        bank.begin("pay", 101)
+        owed = dict(bank.owed)
+        tally.is_same("cells", [bank.read("acct", key) for key in (0, 1000, 1, 2 ** 64 - 1)], [70, 30, 0, 0])
+        kept = bank.reader
+        tally.is_same("all cells", list(bank.read_range("acct")), [(0, 70), (1000, 30)])
+        tally.is_same("from a key on", list(bank.read_range("acct", 1)), [(1000, 30)])
+        tally.is_same("up to a key", list(bank.read_range("acct", 0, 999, limit=1)), [(0, 70)])
+        begun = bank.find(1, paid.number)
+        tally.is_same("a request that began", begun, [lynx.Recorded(0, 2, "pay", [30], paid.chain, [100])])
+        tally.is_same("its need", begun[0].need, None)
+        tally.is_same("one that was refused", bank.find(1, 3), [lynx.Recorded(0, 4, "pay", [101], need=0)])
+        tally.is_same("its chain and results", [(it.chain, it.results) for it in bank.find(1, 3)], [(None, [])])
+        tally.is_same("none", bank.find(7, 1), [])
+        tally.is_same("records of a set", len({*begun, *bank.find(1, paid.number)}), 1)
+        tally.is_same("one connection", bank.reader is kept, True)
+        tally.is_same("reads owe nothing", bank.owed, owed)
+        for wrong in (-1, 2 ** 64, 1.5, True, "7"):
+            for name, call in (("key", lambda it: bank.read("acct", it)), ("first key", lambda it: next(bank.read_range("acct", it))),
+                               ("limit", lambda it: next(bank.read_range("acct", limit=it))), ("client", lambda it: bank.find(it, 1)),
+                               ("number", lambda it: bank.find(1, it))):
+                try:
+                    got = call(wrong)
+                except ValueError:
+                    got = "ValueError"
+                tally.is_same(f"{name} {wrong!r}", got, "ValueError")
+        tally.is_same("an unknown table", raised(lambda: bank.read("cash", 1)), (lynx.Wrong, "no such table"))
+        tally.is_same("nothing is asked before it is taken", raised(lambda: bank.read_range("cash") is None), False)
+        tally.is_same("no range", raised(lambda: list(bank.read_range("acct", 2, 1))), (lynx.Wrong, "bad query"))
+        alone = lynx.Client(service.port, room.set)
+        without = lynx.NoStatus, "the service tells no status: serve with --status"
+        tally.is_same("no status", raised(lambda: alone.read("acct", 0)), without)
+        tally.is_same("by its port alone", lynx.Client(service.port, status=service.status).read("acct", 0), 70)
+        taken = bank.read_range("acct", limit=1)
+        tally.is_same("the first page", next(taken), (0, 70))
+        tally.holds("meanwhile", bank.begin("pay", 70).wait(20))
+        tally.is_same("the next one, of a later moment", list(taken), [(1000, 100)])
+        bank.close()
+        tally.is_same("it leaves", bank.reader, None)
+        tally.is_same("and reads", bank.read("acct", 0), 0)
+        bank.shut()
+        tally.is_same("end of reads", service.end(), ("closed\norder 0:0 0:1 0:2\n", "", 0))
 
 
 def answered_by(data, ask):

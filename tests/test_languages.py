@@ -1,6 +1,7 @@
 """The clients in JavaScript and in Go, by the bytes of connections that are played to them, and over a `lynx serve` that runs, is
-killed, or serves another set. Each client is asked by a small program of its language in tests/languages.d, which takes lines
-and answers each with one. The bytes that are wanted are those of docs/CLIENTS.md, which are asked of the service too."""
+killed, or serves another set; and of these and the one in Python what they read at the port of a status. Each client is asked
+by a small program of its language in tests/languages.d, which takes lines and answers each with one. The bytes that are wanted
+are those of docs/CLIENTS.md, which are asked of the service too."""
 import functools
 import os
 import random
@@ -9,6 +10,7 @@ import shutil
 import socket
 import struct
 import subprocess
+import sys
 import textwrap
 import threading
 import time
@@ -31,6 +33,9 @@ hop 1
 add acct 1000 n
 end
 """
+
+# Programs more, which begin at either server and put something into any cell there.
+SPREAD = PAYMENT + "".join(f"program {name} key n\nhop {server}\nadd acct key n\nend\n" for server, name in enumerate(("near", "far")))
 
 TURNED = PAYMENT[:PAYMENT.index("program seed")] + PAYMENT[PAYMENT.index("program pay"):] + PAYMENT[
     PAYMENT.index("program seed"):PAYMENT.index("program pay")]
@@ -78,6 +83,37 @@ class Played:
                     head = stream.recv(5, socket.MSG_WAITALL)
                     self.sent.append(head + stream.recv(struct.unpack(">I", head[1:])[0], socket.MSG_WAITALL))
                     stream.sendall(data)
+
+
+def path_asked(stream):
+    """The path of a request of HTTP, None where the connection ends before it."""
+    head = b""
+    while not head.endswith(b"\r\n\r\n"):
+        piece = stream.recv(4096)
+        if not piece:
+            return None
+        head += piece
+    return head.split(b" ")[1].decode()
+
+
+class PlayedStatus(Played):
+    """The same at the port of a status: it takes a request of HTTP at a time, and `sent` are the paths of each connection."""
+
+    def run(self):
+        for answers in self.connections:
+            self.sent.append([])
+            with self.listener.accept()[0] as stream:
+                for data in answers:
+                    path = path_asked(stream)
+                    if path is None:
+                        break
+                    self.sent[-1].append(path)
+                    stream.sendall(data)
+
+
+def page(text, status=200):
+    """The bytes of an answer of HTTP."""
+    return f"HTTP/1.1 {status} -\r\ncontent-length: {len(text)}\r\n\r\n{text}".encode()
 
 
 class Cut:
@@ -151,16 +187,28 @@ def played(language, connections, *lines, client=1, tries=1):
     return told, service.sent
 
 
+def read_of(reader, connections, *lines, tries=1, timeout=10, set_text=PAYMENT):
+    """What a client makes of such a port of a status, and which paths it asks for over each connection."""
+    with Room(set_text) as room, PlayedStatus(*connections) as service:
+        with Driver(reader, "status", free_port(), service.port, room.set, 1, tries, timeout) as bank:
+            told = bank.ask(*lines)
+    return told, service.sent
+
+
 def begun(chain, stamp, results, number, named="-", again="false"):
     return f"begun {chain} stamp {stamp} results {results} again {again} number {number} named {named}"
 
 
+def recorded(server, stamp, program, args, chain="-", results="-", need="-"):
+    return f"server {server} stamp {stamp} program {program} args {args} chain {chain} results {results} need {need}"
+
+
 class Python:
-    """The client that the others are like: of it only the lines of docs/CLIENTS.md are tried here."""
+    """The client that the others are like: of it only what it reads, and the lines of docs/CLIENTS.md, are tried here."""
     tool, name, prints = "python3", "Python", "100\n[[100], []]\n"
 
     def __init__(self, _folder):
-        self.words = None
+        self.words = [sys.executable, "-B", os.path.join(TOP, "tests", "languages.d", "driver.py")]
 
     def shown(self, lines, _folder):
         return ["env", "PYTHONPATH=" + os.path.join(TOP, "clients", "python"), "python3", "-c", lines]
@@ -223,6 +271,12 @@ def made(tmp_path_factory):
 @pytest.fixture(params=[JavaScript, Go], ids=lambda it: it.name)
 def language(request, made):
     """A client's language."""
+    return made(request.param)
+
+
+@pytest.fixture(params=[Python, JavaScript, Go], ids=lambda it: it.name)
+def reader(request, made):
+    """A client's language, of all three."""
     return made(request.param)
 
 
@@ -442,6 +496,120 @@ def test_left_over(tally, language, program):
             with Driver(language, "folder", other.stores, 2, 2, 10) as bank:
                 tally.is_same("the end", bank.ask("shut"), ["shut"])
             tally.is_same("nothing ran", service.end(), ("closed\norder -\n", "", 0))
+
+
+NO_TABLE, BAD_QUERY, NO_STATUS = "fault Wrong no such table -", "fault Wrong bad query -", "fault NoStatus no-status -"
+LAST = 2 ** 64 - 1
+
+
+def test_read(tally, reader, program):
+    """The worked payments, read: cells, ranges over both servers, and what became of requests. Nothing is recorded of it."""
+    with Room(PAYMENT) as room, WatchedService(program, room) as service:
+        with Driver(reader, "folder", room.stores, 1, 5, 10) as bank:
+            tally.is_same("before", bank.ask("read acct 0", f"range acct 0 {LAST} 1000", "find 1 1"), ["0", "-", "-"])
+            bank.ask("begin - seed 100", "begin - pay 30", "wait 20", "begin - pay 101")
+            tally.is_same("cells", bank.ask("read acct 0", "read acct 1000", "read acct 999", f"read acct {LAST}"), ["70", "30", "0", "0"])
+            tally.is_same("ranges", bank.ask(f"range acct 0 {LAST} 1000", f"range acct 0 {LAST} 1", "range acct 0 999 10000",
+                                             "range acct 1 999 1000", "range acct 1 1000 1000", f"range acct {LAST} {LAST} 1"),
+                          ["0=70 1000=30", "0=70 1000=30", "0=70", "-", "1000=30", "-"])
+            tally.is_same("requests that began", bank.ask("find 1 1", "find 1 2"),
+                          [recorded(0, 1, "seed", 100, "0:0"), recorded(0, 2, "pay", 30, "0:1", 100)])
+            tally.is_same("one that was refused", bank.ask("find 1 3"), [recorded(0, 4, "pay", 101, need=0)])
+            tally.is_same("none", bank.ask("find 1 4", "find 2 1", f"find {LAST} {LAST}"), ["-"] * 3)
+            tally.is_same("unknown tables", bank.ask("read cash 0", f"range cash 0 {LAST} 1000", "read acct/0?x 0", "read Acct 0"),
+                          [NO_TABLE, NO_TABLE, "fault Wrong not found -", "fault Wrong not found -"])
+            tally.holds("the service's sentence", bank.ask("read cash 0", "why")[1].endswith("no such table"))
+            tally.is_same("no ranges", bank.ask("range acct 5 4 1000", "range acct 0 9 10001"), [BAD_QUERY] * 2)
+            tally.is_same("leaves, and comes", bank.ask("close", "read acct 0", "begin - pay 70", "wait 20", "read acct 0"),
+                          ["closed", "70", begun("0:2", 5, "70", 4, "x=70"), "all 70 | -", "0"])
+            tally.is_same("a cell of 0 is in no range", bank.ask(f"range acct 0 {LAST} 1000"), ["1000=100"])
+            leaves = time.monotonic()
+        tally.holds("a connection that is kept keeps no process", time.monotonic() - leaves < 10)
+        with Driver(reader, "status", service.port, service.status, room.set, 2, 5, 10) as bank:
+            tally.is_same("at a port", bank.ask("read acct 1000", "find 1 4", "shut"), ["100", recorded(0, 5, "pay", 70, "0:2", 70), "shut"])
+            tally.is_same("nothing is recorded of it", service.end(), ("closed\norder 0:0 0:1 0:2\n", "", 0))
+
+
+def test_read_pages(tally, reader, program):
+    """Ranges in pages, over cells of both servers, and a number that was used at both."""
+    cells = {3: 1, 5: 2, 8: 3, 999: 4, 1000: 5, 1001: 6, LAST: LAST}
+    with Room(SPREAD) as room, WatchedService(program, room) as service, Driver(reader, "folder", room.stores, 1, 5, 10) as bank:
+        for key, value in cells.items():
+            bank.ask(f"begin - {'near' if key < 1000 else 'far'} {key} {value}")
+        for low, high in ((0, LAST), (5, 1000), (8, 999), (1001, LAST)):
+            wanted = " ".join(f"{key}={value}" for key, value in cells.items() if low <= key <= high)
+            tally.is_same(f"from {low} to {high}", bank.ask(*[f"range acct {low} {high} {limit}" for limit in (1, 2, 3, 1000)]), [wanted] * 4)
+        tally.is_same("the greatest numbers", bank.ask(f"read acct {LAST}"), [str(LAST)])
+        number = len(cells) + 1
+        stamps = [re.search(r"stamp (\d+)", it)[1] for it in bank.ask(f"begin {number} near 7 1", f"begin {number} far 2000 9")]
+        tally.is_same("a number at both servers", bank.ask(f"find 1 {number}"),
+                      [f"{recorded(0, stamps[0], 'near', '7 1', '0:4')} | {recorded(1, stamps[1], 'far', '2000 9', '1:3')}"])
+        bank.ask("shut")
+        tally.is_same("the end", service.end()[1:], ("", 0))
+
+
+def test_read_no_status(tally, reader, program):
+    """Services that tell no status, clients that weren't given where it is told, and no service. Other requests are asked."""
+    with Room(PAYMENT) as room:
+        with Service(program, room) as service, Driver(reader, "folder", room.stores, 1, 2, 10) as bank:
+            tally.is_same("no status", bank.ask("read acct 0", f"range acct 0 {LAST} 1000", "find 1 1"), [NO_STATUS] * 3)
+            tally.holds("why", bank.ask("why")[0].endswith("the service tells no status: serve with --status"))
+            tally.is_same("it begins", bank.ask("begin - seed 100", "shut"), [begun("0:0", 1, "-", 1), "shut"])
+            service.end()
+            tally.is_same("no service", bank.ask("read acct 0", "find 1 1"), ["fault NoService no-service -"] * 2)
+        with WatchedService(program, room) as service:
+            with Driver(reader, "port", service.port, room.set, 1, 2, 10) as bank:
+                tally.is_same("at a port alone", bank.ask("read acct 0"), [NO_STATUS])
+            with Driver(reader, "folder", room.stores, 2, 2, 10) as bank, Driver(reader, "folder", room.stores, 3, 60, 10) as patient:
+                tally.is_same("with a status", bank.ask("read acct 0") + patient.ask("read acct 0"), ["100", "100"])
+                service.kill()
+                tally.is_same("a service that was killed", bank.ask("read acct 0", "find 1 1"), ["fault Lost lost -"] * 2)
+                patient.tell("read acct 0")
+                with WatchedService(program, room) as other:
+                    tally.is_same("the next one, elsewhere", patient.told(), "100")
+                    tally.is_same("what it finds", bank.ask("find 1 1", "shut"), [recorded(0, 1, "seed", 100, "0:0"), "shut"])
+                    tally.is_same("the end", other.end()[1:], ("", 0))
+
+
+def test_read_hung_up(tally, reader):
+    """A service that hangs up: the client reads on over a new connection, and compares the sets over each."""
+    served, lines = page(PAYMENT), ("read acct 0", "read acct 0", "find 1 2")
+    asked = ["/set", "/cells/acct/0"]
+    value, none = page('{"value":"70"}'), page("no such request\n", 404)
+    told, sent = read_of(reader, [[served, value, value, none]], *lines)
+    tally.is_same("a connection that is kept", (told, sent), (["70", "70", "-"], [[*asked, "/cells/acct/0", "/requests/1/2"]]))
+    told, sent = read_of(reader, [[served, value], [served, value], [page(PAYMENT + LOOKING), none]], *lines)
+    tally.is_same("one that is hung up on", (told, sent), (["70", "70", "-"], [asked, asked, ["/set", "/requests/1/2"]]))
+    told, sent = read_of(reader, [[served, value], [page(TURNED)]], *lines[:2])
+    tally.is_same("another set", (told, sent), (["70", "fault OtherSet other-set -"], [asked, ["/set"]]))
+    told, sent = read_of(reader, [[b""], [served, b""], [served, value]], "read acct 0", tries=3)
+    tally.is_same("tries", (told, sent), (["70"], [["/set"], asked, asked]))
+    told, sent = read_of(reader, [[served, value], [b""]], *lines[:2])
+    tally.is_same("nobody behind it", (told, sent), (["70", "fault Lost lost -"], [asked, ["/set"]]))
+    told, sent = read_of(reader, [[page("lynx 2\n"), value]], "read acct 0", set_text="")
+    tally.is_same("a client without a set", (told, sent), (["70"], [asked]))
+
+
+def test_read_strange(tally, reader):
+    """Answers that can't be told, those that no service gives, and silence."""
+    served, value = page(PAYMENT), page('{"value":"70"}')
+    for data, wanted in ((page("server stopped\n", 503), "fault Stopped stopped -"), (page("out of memory\n", 503), "fault Wanting memory -"),
+                         (page("", 503), "fault Wanting memory -"), (page("not found\n", 404), "fault Wrong not found -"),
+                         (page("70"), "fault Lost lost -"), (page("{}"), "fault Lost lost -"), (page('{"value":"x"}'), "fault Lost lost -"),
+                         (page("other host\n", 403), "fault Lost lost -"), (value[:-1], "fault Lost lost -"), (b"\x11\0\0\0\1", "fault Lost lost -")):
+        tally.is_same(f"a read is told {data!r}", read_of(reader, [[served, data]], "read acct 0")[0], [wanted])
+    for low, after in ((0, 0), (5, 5), (5, 4), (5, 10)):
+        told, _ = read_of(reader, [[served, page(f'{{"cells":[],"next":"{after}"}}')]], f"range acct {low} 9 1000")
+        tally.is_same(f"from {low} on at {after}", told, ["fault Lost lost -"])
+    told, sent = read_of(reader, [[served, page('{"cells":[{"key":"5","value":"1"}],"next":"9"}'), page('{"cells":[]}')]], "range acct 5 9 7")
+    tally.is_same("pages", (told, sent), (["5=1"], [["/set", "/cells/acct?from=5&to=9&limit=7", "/cells/acct?from=9&to=9&limit=7"]]))
+    told, _ = read_of(reader, [[served, page('{"records":[{}]}')]], "find 1 1")
+    tally.is_same("a record of nothing", told, ["fault Lost lost -"])
+    tally.is_same("no set", read_of(reader, [[page("not found\n", 404)]], "read acct 0")[0], ["fault Lost lost -"])
+    for name, connections in (("silence", []), ("silence in an answer", [[served, value[:-1], b""]])):
+        began = time.monotonic()
+        tally.is_same(name, read_of(reader, connections, "read acct 0", timeout=1)[0], ["fault Lost lost -"])
+        tally.holds(f"a second of {name}", 1 <= time.monotonic() - began < 6)
 
 
 @pytest.mark.parametrize("kind", [Python, JavaScript, Go], ids=lambda it: it.name)

@@ -20,7 +20,8 @@ export class Clash extends LynxError {
   constructor();
 }
 
-/** The request doesn't fit its program, or there is no such program: nothing was done. `reason` says why. */
+/** The request doesn't fit its program, or there is no such program: nothing was done. `reason` says why. Of a read it is
+ * the service's sentence: there is no such table, say. */
 export class Wrong extends LynxError {}
 
 /** An argument isn't in its parameter's range. */
@@ -68,6 +69,11 @@ export class OtherSet extends LynxError {
   constructor();
 }
 
+/** The service tells no status, by which cells and requests are read. */
+export class NoStatus extends LynxError {
+  constructor();
+}
+
 /** A chain's name: its origin, and its index among the chains that began there. */
 export class Chain {
   constructor(origin: number, index: Word);
@@ -110,6 +116,22 @@ export class Found {
   constructor(stamp: bigint, results: bigint[]);
   readonly stamp: bigint;
   readonly results: bigint[];
+}
+
+/** What a server recorded of a request: the chain that it began, or the need that wasn't met. */
+export class Recorded {
+  constructor(server: number, stamp: bigint, program: string, args: bigint[], chain: Chain | null, results: bigint[],
+    need: number | null);
+  readonly server: number;
+  readonly stamp: bigint;
+  readonly program: string;
+  readonly args: bigint[];
+  /** The chain that began, null where the first hop refused. */
+  readonly chain: Chain | null;
+  /** The results of its first hop. */
+  readonly results: bigint[];
+  /** The need that wasn't met, counted from 0, null where a chain began. */
+  readonly need: number | null;
 }
 
 /** A program of a set. */
@@ -185,6 +207,13 @@ export class Client {
   look(chain: Chain | string, hop: number, options?: { wait?: number }): Promise<Found | null>;
   /** Whether all chains that it began are done, within so many seconds. */
   settle(seconds?: number): Promise<boolean>;
+  /** What a cell of the table holds, 0n where nothing was put: at its server, at one moment, after whole steps. */
+  read(table: string, key: Word): Promise<bigint>;
+  /** The cells from one key to another, both with them, that aren't 0, by their keys. They are asked for as they are taken,
+   * `limit` cells at a time at most, 1000 where it isn't given. Each page is of one moment at one server. */
+  readRange(table: string, from?: Word, to?: Word, options?: { limit?: number }): AsyncGenerator<[bigint, bigint], void, undefined>;
+  /** What became of a request: what each server recorded of it. It is empty where there is no such request. */
+  find(client: Word, number: Word): Promise<Recorded[]>;
   /** Leaves. A request begins a new connection. */
   close(): Promise<void>;
   /** Has the service end. Throws Lost where it couldn't be asked, and ByeLost where its bye didn't come. */

@@ -8,6 +8,7 @@
  *     paid.named.x;                                     // 100n: results by the names that the set gives them
  *     await bank.look(paid.chain, 1, { wait: 5 });      // Found {stamp: 3n, results: []}, or null after five seconds
  *     await paid.wait(5);                               // the results of all its hops, or null: [[100n], []]
+ *     await bank.read('acct', 1000);                    // 30n: what a cell holds, of a service that tells its status
  *     await bank.shut();                                // the service checks all that it told, and ends
  *
  * A request is known by its client's id and its number: whatever is asked under the same id and number is done once, and
@@ -25,6 +26,7 @@
  */
 import { randomBytes } from 'node:crypto';
 import { readFile, stat } from 'node:fs/promises';
+import { Agent, request } from 'node:http';
 import { connect } from 'node:net';
 import { join } from 'node:path';
 import { setTimeout as pause } from 'node:timers/promises';
@@ -52,7 +54,8 @@ export class Clash extends LynxError {
   constructor() { super('clash'); }
 }
 
-/** The request doesn't fit its program, or there is no such program: nothing was done. `reason` says why. */
+/** The request doesn't fit its program, or there is no such program: nothing was done. `reason` says why. Of a read it is
+ * the service's sentence: there is no such table, say. */
 export class Wrong extends LynxError {}
 
 /** An argument isn't in its parameter's range. */
@@ -100,6 +103,12 @@ export class NoService extends LynxError {
 /** The service serves a set that doesn't extend the client's: the same numbers would ask for other programs. */
 export class OtherSet extends LynxError {
   constructor() { super('other-set'); }
+}
+
+/** The service tells no status, by which cells and requests are read: it is served without `--status`, or the client was
+ * given a port and no `status`. */
+export class NoStatus extends LynxError {
+  constructor() { super('no-status', 'the service tells no status: serve with --status'); }
 }
 
 /** A connection that is lost, or on which something came that is no answer. */
@@ -165,6 +174,14 @@ export class Found {
   }
 }
 
+/** What a server recorded of a request: its program and arguments, and the `chain` that it began with the `results` of its
+ * first hop; or, where that refused, the `need` that wasn't met, counted from 0. The others are null, or empty. */
+export class Recorded {
+  constructor(server, stamp, program, args, chain, results, need) {
+    Object.assign(this, { server, stamp, program, args, chain, results, need });
+  }
+}
+
 /** A program of the lines of its words, but for the one that ends it: its number, its parameters, how many hops it has,
  * and of its first hop the names of its results and the needs. */
 function programOf(number, lines) {
@@ -193,15 +210,70 @@ export function programsOf(text) {
   return programs;
 }
 
+/** A connection to the port at which a service tells its status. While nobody reads, it doesn't keep the process from its
+ * end. */
+class Reader {
+  #agent = new Agent({ keepAlive: true, maxSockets: 1 });
+  #options;
+  #socket = null;
+
+  constructor(host, port, timeout) {
+    this.#options = { host, port, agent: this.#agent, timeout: timeout * 1000 };
+  }
+
+  /** The status and the text that are answered at this path. It never goes on over another connection. */
+  async #answerAt(path) {
+    if (this.#socket && !this.#socket.writable) throw new Broken('the service closed the connection');
+    const answer = await new Promise((done, fail) => {
+      const asked = request({ ...this.#options, path }, (found) => {
+        const pieces = [];
+        const { socket, statusCode } = found;
+        found.on('data', (piece) => pieces.push(piece));
+        found.on('end', () => done({ socket, status: statusCode, text: Buffer.concat(pieces).toString('latin1') }));
+        found.on('error', fail);
+      });
+      asked.on('timeout', () => asked.destroy(new Error('the service is silent')));
+      asked.on('error', fail);
+      asked.end();
+    }).catch((fault) => { throw new Broken(`no status: ${fault.message}`, { cause: fault }); });
+    this.#socket ??= answer.socket;
+    if (answer.socket !== this.#socket) throw new Broken('the service closed the connection');
+    return answer;
+  }
+
+  /** The text of the set of the service. */
+  async set() {
+    const { status, text } = await this.#answerAt('/set');
+    if (status !== 200) throw new Broken('no status');
+    return text;
+  }
+
+  /** What is read of the JSON at this path. What can't be told is a fault with the service's sentence. */
+  async told(path, read) {
+    const { status, text } = await this.#answerAt(path);
+    if (status === 503) throw text === 'server stopped\n' ? new Stopped() : new Wanting();
+    if (status === 400 || status === 404) throw new Wrong(text.trimEnd());
+    if (status !== 200) throw new Broken('no status');
+    try {
+      return read(JSON.parse(text));
+    } catch (fault) {
+      throw new Broken('what came is no answer', { cause: fault });
+    }
+  }
+
+  drop() {
+    this.#agent.destroy();
+  }
+}
+
 /** The text of the set of the service that tells its status at this port. */
 export async function servedSet(status, host = '127.0.0.1', timeout = 30) {
+  const reader = new Reader(host, status, timeout);
   try {
-    const answer = await fetch(`http://${host}:${status}/set`, { signal: AbortSignal.timeout(timeout * 1000) });
-    if (answer.ok) return await answer.text();
-  } catch (fault) {
-    throw new Broken(`no status: ${fault.message}`);
+    return await reader.set();
+  } finally {
+    reader.drop();
   }
-  throw new Broken('no status');
 }
 
 /** The text of a file, or null where there is none, or a pipe, say: that isn't opened, since it would wait for a writer. */
@@ -231,7 +303,7 @@ export async function serviceOf(folder) {
 function partsOf(text) {
   const [head, ...parts] = text.split(/^(?=table |program )/m);
   return {
-    numbers: head.trimEnd().split('\n').map((line) => Number(line.split(' ')[1])),
+    numbers: (head.match(/.+/g) ?? []).map((line) => Number(line.split(' ')[1])),
     tables: parts.filter((part) => part.startsWith('table ')),
     programs: parts.filter((part) => part.startsWith('program ')),
   };
@@ -362,6 +434,20 @@ function faultOf(kind) {
   return Fault ? new Fault() : new LynxError('error');
 }
 
+/** The cells of a page from `start` to `end`, pairs of a key and a value, and from which key to go on, or null. */
+function pageOf({ cells, next }, start, end) {
+  const pairs = cells.map(({ key, value }) => [BigInt(key), BigInt(value)]);
+  const after = next === undefined ? null : BigInt(next);
+  if (after !== null && !(after > start && after <= end)) throw new RangeError(`not within the range: ${after}`);
+  return [pairs, after];
+}
+
+function recordedOf({ server, stamp, program, args, chain, results, refused }) {
+  const isBegun = refused === undefined;
+  return new Recorded(Number(server), BigInt(stamp), program, args.map(BigInt), isBegun ? Chain.parse(chain) : null,
+    isBegun ? results.map(BigInt) : [], isBegun ? null : Number(refused));
+}
+
 /** How long to pause before a request is asked for the so manieth time again. */
 function milliseconds(attempt) {
   return Math.min(20 * 2 ** Math.min(attempt, 6), 1000);
@@ -381,6 +467,7 @@ export class Client {
   #status;
   #timeout;
   #line = null;
+  #reader = null;
   #last = Promise.resolve();
   #byNumber;
   #counts;
@@ -470,9 +557,42 @@ export class Client {
     return true;
   }
 
+  /** What a cell of the table holds, 0n where nothing was put: at its server, at one moment, after whole steps. Nothing is
+   * recorded of it. To read at several servers at once, or in the order, begin a program that reads. */
+  async read(table, key) {
+    return this.#lookedUp(`/cells/${encodeURIComponent(table)}/${wordOf(key, 'the key')}`, ({ value }) => BigInt(value));
+  }
+
+  /** The cells of the table from one key to another, both with them, that aren't 0, by their keys: pairs of a key and a
+   * value. They are asked for as they are taken, a page of at most `limit` cells (10000 at most) at a time. Each page is of
+   * one moment at one server, and a later page of a later one: together they are of no one moment. */
+  async *readRange(table, from = 0n, to = MAX_WORD, { limit = 1000 } = {}) {
+    const [end, most] = [wordOf(to, 'the last key'), wordOf(limit, 'the limit')];
+    let start = wordOf(from, 'the first key');
+    while (start !== null) {
+      const path = `/cells/${encodeURIComponent(table)}?from=${start}&to=${end}&limit=${most}`;
+      const [cells, next] = await this.#lookedUp(path, (found) => pageOf(found, start, end));
+      yield* cells;
+      start = next;
+    }
+  }
+
+  /** What became of the request of that client under that number: what each server recorded of it, by server. There is one
+   * record of a number that was used once, and none of a request that wasn't done, or was lost on its way. */
+  async find(client, number) {
+    const path = `/requests/${wordOf(client, 'the client')}/${wordOf(number, 'the number')}`;
+    try {
+      return await this.#lookedUp(path, ({ records }) => records.map(recordedOf));
+    } catch (fault) {
+      if (fault instanceof Wrong && fault.reason === 'no such request') return [];
+      throw fault;
+    }
+  }
+
   /** Leaves. A request begins a new connection. */
   async close() {
     await this.#alone(async () => {
+      this.#hangUp();
       if (!this.#line) return;
       await this.#exchange(QUIT, bytesOf(), BYE, (found) => found.end()).catch(() => {});
       this.#drop();
@@ -490,6 +610,7 @@ export class Client {
         throw fault instanceof Broken ? new ByeLost(fault) : fault;
       } finally {
         this.#drop();
+        this.#hangUp();
       }
     });
   }
@@ -541,16 +662,49 @@ export class Client {
   }
 
   /** Does the work, again and again where the connection or the service is gone. */
-  async #tried(work) {
+  async #tried(work, drop = () => this.#drop()) {
     for (let attempt = 1; ; attempt += 1) {
       try {
         return await work();
       } catch (fault) {
         if (!(fault instanceof Broken || fault instanceof NoService)) throw fault;
-        this.#drop();
+        drop();
         if (attempt >= this.tries) throw fault instanceof Broken ? new Lost(fault) : fault;
       }
       await pause(milliseconds(attempt));
+    }
+  }
+
+  /** What is read of what the service tells at a path of its status port. */
+  #lookedUp(path, read) {
+    return this.#alone(() => this.#tried(() => this.#lookedUpOnce(path, read), () => this.#hangUp()));
+  }
+
+  /** The same over the connection that is kept, and over a new one where the service hung up on that. */
+  async #lookedUpOnce(path, read) {
+    if (this.#reader) {
+      try {
+        return await this.#reader.told(path, read);
+      } catch (fault) {
+        if (!(fault instanceof Broken)) throw fault;
+        this.#hangUp();
+      }
+    }
+    this.#reader = await this.#opened();
+    return this.#reader.told(path, read);
+  }
+
+  /** A connection to where the service tells its status. Its set is this client's, or goes on from it. */
+  async #opened() {
+    const status = this.#folder === null ? this.#status : (await serviceOf(this.#folder)).status;
+    if (status === null) throw new NoStatus();
+    const reader = new Reader(this.#host, status, this.#timeout);
+    try {
+      this.#compare(await reader.set());
+      return reader;
+    } catch (fault) {
+      reader.drop();
+      throw fault;
     }
   }
 
@@ -596,6 +750,11 @@ export class Client {
   #drop() {
     this.#line?.drop();
     this.#line = null;
+  }
+
+  #hangUp() {
+    this.#reader?.drop();
+    this.#reader = null;
   }
 }
 

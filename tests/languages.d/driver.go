@@ -1,7 +1,7 @@
 // What tests/test_languages.py asks of clients/go/lynx: lines in, a line out for each.
 //
 //	driver folder FOLDER CLIENT TRIES TIMEOUT       and driver uncounted .., without a first number
-//	driver port PORT SET CLIENT TRIES TIMEOUT
+//	driver port PORT SET CLIENT TRIES TIMEOUT       and driver status PORT STATUS SET ..
 package main
 
 import (
@@ -24,7 +24,7 @@ var kinds = []struct {
 	{"Clash", lynx.ErrClash}, {"Outside", lynx.ErrOutside}, {"Wrong", lynx.ErrWrong}, {"Full", lynx.ErrFull},
 	{"Busy", lynx.ErrBusy}, {"Stopped", lynx.ErrStopped}, {"Wanting", lynx.ErrWanting}, {"Lost", lynx.ErrLost},
 	{"ByeLost", lynx.ErrByeLost}, {"NoService", lynx.ErrNoService}, {"OtherSet", lynx.ErrOtherSet},
-	{"NoNumber", lynx.ErrNoNumber},
+	{"NoNumber", lynx.ErrNoNumber}, {"NoStatus", lynx.ErrNoStatus},
 }
 
 // list gives what stands for a list, of whatever it is.
@@ -89,6 +89,7 @@ func seconds(text string) time.Duration { return time.Duration(number(text)) * t
 type driver struct {
 	bank  *lynx.Client
 	begun *lynx.Begun
+	fault error
 }
 
 func (d *driver) begin(under, program string, arguments []uint64) (string, error) {
@@ -139,6 +140,36 @@ func (d *driver) wait(wait string) (string, error) {
 	return "all " + strings.Join(all, " | "), err
 }
 
+func (d *driver) cells(table string, bounds []uint64) (string, error) {
+	cells, err := d.bank.ReadRange(table, bounds[0], bounds[1], int(bounds[2]))
+	var all []string
+	for _, cell := range cells {
+		all = append(all, fmt.Sprintf("%d=%d", cell.Key, cell.Value))
+	}
+	return list(all), err
+}
+
+func recordedOf(it lynx.Recorded) string {
+	chain, need := it.Chain.String(), "-"
+	if it.Refused {
+		chain, need = "-", fmt.Sprint(it.Need)
+	}
+	return fmt.Sprintf("server %d stamp %d program %s args %s chain %s results %s need %s", it.Server, it.Stamp, it.Program,
+		list(it.Arguments), chain, list(it.Results), need)
+}
+
+func (d *driver) find(client, under uint64) (string, error) {
+	records, err := d.bank.Find(client, under)
+	var all []string
+	for _, each := range records {
+		all = append(all, recordedOf(each))
+	}
+	if len(all) == 0 {
+		return "-", err
+	}
+	return strings.Join(all, " | "), err
+}
+
 func (d *driver) do(line []string) (string, error) {
 	switch line[0] {
 	case "begin":
@@ -151,6 +182,15 @@ func (d *driver) do(line []string) (string, error) {
 		return d.wait(line[1])
 	case "settle":
 		return "settled", d.bank.Settle(seconds(line[1]))
+	case "read":
+		value, err := d.bank.Read(line[1], number(line[2]))
+		return fmt.Sprint(value), err
+	case "range":
+		return d.cells(line[1], numbers(line[2:]))
+	case "find":
+		return d.find(number(line[1]), number(line[2]))
+	case "why":
+		return d.fault.Error(), nil
 	case "close":
 		return "closed", d.bank.Close()
 	}
@@ -164,11 +204,13 @@ func (d *driver) open(line []string) (string, error) {
 	if line[0] == "uncounted" {
 		options.First = 0
 	}
-	if line[0] != "port" {
+	if line[0] == "status" {
+		options.Status = int(number(line[2]))
+	} else if line[0] != "port" {
 		d.bank, err = lynx.Open(line[1], options)
 		return "opened", err
 	}
-	set, err := os.ReadFile(line[2])
+	set, err := os.ReadFile(line[len(line)-4])
 	if err != nil {
 		return "", err
 	}
@@ -176,17 +218,17 @@ func (d *driver) open(line []string) (string, error) {
 	return "opened", err
 }
 
-func say(text string, fault error) {
+func (d *driver) say(text string, fault error) {
 	if fault != nil {
-		text = toldOf(fault)
+		d.fault, text = fault, toldOf(fault)
 	}
 	fmt.Println(text)
 }
 
 func main() {
 	var it driver
-	say(it.open(os.Args[1:]))
+	it.say(it.open(os.Args[1:]))
 	for lines := bufio.NewScanner(os.Stdin); lines.Scan(); {
-		say(it.do(strings.Split(lines.Text(), " ")))
+		it.say(it.do(strings.Split(lines.Text(), " ")))
 	}
 }

@@ -1,18 +1,23 @@
 // What tests/test_languages.py asks of clients/javascript/lynx.mjs: lines in, a line out for each.
 //
 //     driver.mjs folder FOLDER CLIENT TRIES TIMEOUT    and driver.mjs uncounted .., without a first number
-//     driver.mjs port PORT SET CLIENT TRIES TIMEOUT
+//     driver.mjs port PORT SET CLIENT TRIES TIMEOUT    and driver.mjs status PORT STATUS SET ..
 import { createInterface } from 'node:readline';
 import * as lynx from '../../clients/javascript/lynx.mjs';
 
 const list = (values) => values.join(' ') || '-';
-let bank, begun;
+let bank, begun, lastFault;
 
 function toldOf(answer) {
   const { stamp, again, number } = answer;
   if (answer instanceof lynx.Refused) return `refused ${answer.need} stamp ${stamp} again ${again} number ${number}: ${answer.text}`;
   const named = list(Object.entries(answer.named).map(([name, value]) => `${name}=${value}`));
   return `begun ${answer.chain} stamp ${stamp} results ${list(answer.results)} again ${again} number ${number} named ${named}`;
+}
+
+function recordedOf({ server, stamp, program, args, chain, results, need }) {
+  return `server ${server} stamp ${stamp} program ${program} args ${list(args)} chain ${chain ?? '-'} results ${list(results)} `
+    + `need ${need ?? '-'}`;
 }
 
 const verbs = {
@@ -36,6 +41,22 @@ const verbs = {
   async settle(seconds) {
     return await bank.settle(Number(seconds)) ? 'settled' : 'absent';
   },
+  async read(table, key) {
+    return String(await bank.read(table, BigInt(key)));
+  },
+  async range(table, from, to, limit) {
+    const cells = [];
+    for await (const [key, value] of bank.readRange(table, BigInt(from), BigInt(to), { limit: Number(limit) })) {
+      cells.push(`${key}=${value}`);
+    }
+    return list(cells);
+  },
+  async find(client, number) {
+    return (await bank.find(BigInt(client), BigInt(number))).map(recordedOf).join(' | ') || '-';
+  },
+  async why() {
+    return lastFault.message;
+  },
   async close() {
     await bank.close();
     return 'closed';
@@ -50,6 +71,7 @@ async function told(work) {
   try {
     return await work();
   } catch (fault) {
+    lastFault = fault;
     if (fault instanceof TypeError && way === 'uncounted') return 'fault NoNumber no-number -';
     return fault instanceof lynx.LynxError ? `fault ${fault.name} ${fault.reason} ${fault.number ?? '-'}` : `${fault.stack}`;
   }
@@ -59,8 +81,9 @@ const [way, where, ...words] = process.argv.slice(2);
 const [client, tries, timeout] = words.slice(-3);
 const counting = way === 'uncounted' ? {} : { first: 1 };
 const options = { client: BigInt(client), ...counting, tries: Number(tries), timeout: Number(timeout) };
-const opening = () => (way === 'port' ? lynx.Client.connect(Number(where), { ...options, setPath: words[0] })
-  : lynx.Client.at(where, options));
+const status = way === 'status' ? { status: Number(words[0]) } : {};
+const opening = () => (way === 'port' || way === 'status'
+  ? lynx.Client.connect(Number(where), { ...options, ...status, setPath: words.at(-4) }) : lynx.Client.at(where, options));
 console.log(await told(async () => {
   bank = await opening();
   return 'opened';

@@ -5,6 +5,7 @@
 //	paid.Named["x"]                                 // 100: results by the names that the set gives them
 //	done, err := bank.Look(paid.Chain, 1, 5*time.Second) // &Found{Stamp: 3, Results: []}, or ErrAbsent after five seconds
 //	all, err := paid.Wait(5 * time.Second)          // the results of all its hops, or ErrAbsent: [[100] []]
+//	value, err := bank.Read("acct", 1000)           // 30: what a cell holds, of a service that tells its status
 //	err = bank.Shut()                               // the service checks all that it told, and ends
 //
 // A request is known by its client's id and its number: whatever is asked under the same id and number is done once, and
@@ -28,14 +29,17 @@
 package lynx
 
 import (
+	"bufio"
 	"crypto/rand"
 	"encoding/binary"
+	"encoding/json"
 	"errors"
 	"fmt"
 	"io"
 	"io/fs"
 	"net"
 	"net/http"
+	"net/url"
 	"os"
 	"path/filepath"
 	"strconv"
@@ -62,7 +66,8 @@ const (
 var (
 	// ErrClash: this client used this number for another request.
 	ErrClash = errors.New("clash")
-	// ErrWrong: the request doesn't fit its program, or there is no such program. Nothing was done; Reason says why.
+	// ErrWrong: the request doesn't fit its program, or there is no such program. Nothing was done; Reason says why. Of a
+	// read it is the service's sentence: there is no such table, say.
 	ErrWrong = errors.New("wrong")
 	// ErrOutside: an argument isn't in its parameter's range. It is ErrWrong too.
 	ErrOutside = errors.New("outside-range")
@@ -85,6 +90,9 @@ var (
 	// ErrOtherSet: the service serves a set that doesn't extend the client's. The same numbers would ask for other
 	// programs.
 	ErrOtherSet = errors.New("other-set")
+	// ErrNoStatus: the service tells no status, by which cells and requests are read. It is served without --status, or the
+	// client was given a port and no Status.
+	ErrNoStatus = errors.New("no-status")
 	// ErrNoNumber: Begin was called of a client that has an ID of its own and no First. Each process would count from 1
 	// again, and get the answers of the one before: use BeginNumbered, or give First.
 	ErrNoNumber = errors.New("no-number")
@@ -185,6 +193,24 @@ type Found struct {
 	Results []uint64
 }
 
+// Cell is a cell of a table: its key, and what it holds.
+type Cell struct {
+	Key, Value uint64
+}
+
+// Recorded is what a server recorded of a request: its program and arguments, and the chain that it began with the results
+// of its first hop; or, where that refused, the need that wasn't met, counted from 0.
+type Recorded struct {
+	Server    int
+	Stamp     uint64
+	Program   string
+	Arguments []uint64
+	Refused   bool
+	Chain     Chain    // where it began
+	Results   []uint64 // where it began
+	Need      int      // where it was refused
+}
+
 // Program is a program of a set: its number, its parameters, how many hops it has, and of its first hop the names of its
 // results and the needs.
 type Program struct {
@@ -227,17 +253,78 @@ func Programs(set string) map[string]Program {
 
 // ServedSet gives the text of the set of the service that tells its status at this port.
 func ServedSet(host string, status int, timeout time.Duration) (string, error) {
-	client := http.Client{Timeout: timeout}
-	answer, err := client.Get("http://" + net.JoinHostPort(host, strconv.Itoa(status)) + "/set")
+	asked, err := readerAt(host, status, timeout)
 	if err != nil {
 		return "", err
 	}
-	defer answer.Body.Close()
-	if answer.StatusCode != http.StatusOK {
-		return "", errNoAnswer
+	defer asked.stream.Close()
+	return asked.set()
+}
+
+// reader is a connection to the port at which a service tells its status.
+type reader struct {
+	stream  net.Conn
+	from    *bufio.Reader
+	address string
+	timeout time.Duration
+}
+
+func readerAt(host string, status int, timeout time.Duration) (*reader, error) {
+	address := net.JoinHostPort(host, strconv.Itoa(status))
+	stream, err := net.DialTimeout("tcp", address, timeout)
+	if err != nil {
+		return nil, err
 	}
-	text, err := io.ReadAll(answer.Body)
+	return &reader{stream, bufio.NewReader(stream), address, timeout}, nil
+}
+
+// answerAt gives the status and the text that are answered at a path.
+func (r *reader) answerAt(path string) (status int, text []byte, err error) {
+	asked, err := http.NewRequest(http.MethodGet, "http://"+r.address+path, nil)
+	if err != nil {
+		return 0, nil, err
+	}
+	if err = r.stream.SetDeadline(time.Now().Add(r.timeout)); err != nil {
+		return 0, nil, err
+	}
+	if err = asked.Write(r.stream); err != nil {
+		return 0, nil, err
+	}
+	answer, err := http.ReadResponse(r.from, asked)
+	if err != nil {
+		return 0, nil, err
+	}
+	defer answer.Body.Close()
+	text, err = io.ReadAll(answer.Body)
+	return answer.StatusCode, text, err
+}
+
+// set gives the text of the set of the service.
+func (r *reader) set() (string, error) {
+	status, text, err := r.answerAt("/set")
+	if err == nil && status != http.StatusOK {
+		err = errNoAnswer
+	}
 	return string(text), err
+}
+
+// told reads the JSON at a path. What can't be told is an *Error with the service's sentence.
+func (r *reader) told(path string, read func(text []byte) error) error {
+	status, text, err := r.answerAt(path)
+	sentence := strings.TrimSuffix(string(text), "\n")
+	switch {
+	case err != nil:
+		return err
+	case status == http.StatusServiceUnavailable && sentence == "server stopped":
+		return fault(ErrStopped, nil)
+	case status == http.StatusServiceUnavailable:
+		return fault(ErrWanting, nil)
+	case status == http.StatusBadRequest || status == http.StatusNotFound:
+		return &Error{Reason: sentence, kind: ErrWrong}
+	case status != http.StatusOK:
+		return errNoAnswer
+	}
+	return read(text)
 }
 
 // Service gives the port of the service over the stores of the folder, and the text of the set that it serves.
@@ -375,6 +462,7 @@ type Client struct {
 	next     uint64
 	owed     map[Chain]int // the last hop of each chain that it began, until it has seen that hop
 	stream   net.Conn
+	reader   *reader // at the port of the status
 }
 
 // Open gives a client of the service over the stores of a folder, by the set that it serves. It connects with its first
@@ -510,8 +598,131 @@ func (c *Client) Settle(within time.Duration) error {
 	return nil
 }
 
+// Read tells what a cell of a table holds, 0 where nothing was put: at its server, at one moment, after whole steps. Nothing
+// is recorded of it. To read at several servers at once, or in the order, begin a program that reads.
+func (c *Client) Read(table string, key uint64) (value uint64, err error) {
+	err = c.lookedUp(fmt.Sprintf("/cells/%s/%d", url.PathEscape(table), key), func(text []byte) error {
+		var found struct {
+			Value *uint64 `json:"value,string"`
+		}
+		if json.Unmarshal(text, &found) != nil || found.Value == nil {
+			return errNoAnswer
+		}
+		value = *found.Value
+		return nil
+	})
+	return value, err
+}
+
+// ReadRange gives the cells of a table from one key to another, both with them, that aren't 0, by their keys. They are asked
+// for in pages of at most limit cells, 10000 at most, and 1000 where it is 0. Each page is of one moment at one server, and a
+// later page of a later one: together they are of no one moment.
+func (c *Client) ReadRange(table string, from, to uint64, limit int) ([]Cell, error) {
+	if limit == 0 {
+		limit = 1000
+	}
+	var all []Cell
+	for {
+		path := fmt.Sprintf("/cells/%s?from=%d&to=%d&limit=%d", url.PathEscape(table), from, to, limit)
+		var found page
+		err := c.lookedUp(path, func(text []byte) error {
+			found = page{}
+			if json.Unmarshal(text, &found) != nil || !found.isOf(from, to) {
+				return errNoAnswer
+			}
+			return nil
+		})
+		if err != nil {
+			return nil, err
+		}
+		for _, cell := range found.Cells {
+			all = append(all, Cell(cell))
+		}
+		if found.Next == nil {
+			return all, nil
+		}
+		from = *found.Next
+	}
+}
+
+// page is what is told of cells: those of one server, and from which key to go on.
+type page struct {
+	Cells []struct {
+		Key   uint64 `json:"key,string"`
+		Value uint64 `json:"value,string"`
+	} `json:"cells"`
+	Next *uint64 `json:"next,string"`
+}
+
+// isOf tells whether a page can be one of these keys.
+func (p *page) isOf(from, to uint64) bool {
+	return p.Cells != nil && (p.Next == nil || from < *p.Next && *p.Next <= to)
+}
+
+// Find tells what became of the request of a client under a number: what each server recorded of it, by server. There is one
+// record of a number that was used once, and none of a request that wasn't done, or was lost on its way.
+func (c *Client) Find(client, number uint64) (records []Recorded, err error) {
+	err = c.lookedUp(fmt.Sprintf("/requests/%d/%d", client, number), func(text []byte) error {
+		var found struct{ Records []record }
+		if json.Unmarshal(text, &found) != nil || found.Records == nil {
+			return errNoAnswer
+		}
+		records = nil
+		for _, each := range found.Records {
+			recorded, err := each.recorded()
+			if err != nil {
+				return err
+			}
+			records = append(records, recorded)
+		}
+		return nil
+	})
+	var failed *Error
+	if errors.As(err, &failed) && failed.kind == ErrWrong && failed.Reason == "no such request" {
+		return nil, nil
+	}
+	return records, err
+}
+
+// record is what is told of a request at one server.
+type record struct {
+	Server  int    `json:"server,string"`
+	Stamp   uint64 `json:"stamp,string"`
+	Program string
+	Args    []string
+	Chain   string
+	Results []string
+	Refused *int `json:"refused,string"`
+}
+
+func (r *record) recorded() (Recorded, error) {
+	found := Recorded{Server: r.Server, Stamp: r.Stamp, Program: r.Program}
+	var argumentsFault, chainFault, resultsFault error
+	found.Arguments, argumentsFault = wordsOf(r.Args)
+	if r.Refused != nil {
+		found.Refused, found.Need = true, *r.Refused
+		return found, argumentsFault
+	}
+	found.Chain, chainFault = ParseChain(r.Chain)
+	found.Results, resultsFault = wordsOf(r.Results)
+	return found, firstOf(argumentsFault, chainFault, resultsFault)
+}
+
+func wordsOf(texts []string) ([]uint64, error) {
+	words := make([]uint64, len(texts))
+	for place, text := range texts {
+		word, err := strconv.ParseUint(text, 10, 64)
+		if err != nil {
+			return nil, err
+		}
+		words[place] = word
+	}
+	return words, nil
+}
+
 // Close leaves. A request begins a new connection.
 func (c *Client) Close() error {
+	c.hangUp()
 	if c.stream == nil {
 		return nil
 	}
@@ -522,8 +733,9 @@ func (c *Client) Close() error {
 // Shut has the service end: it takes no more clients, checks all that it told, and says whether it stood. It gives ErrLost
 // where it couldn't be asked, and ErrByeLost where it was and its bye didn't come.
 func (c *Client) Shut() error {
+	defer c.hangUp()
 	defer c.drop()
-	if err := c.tried(func() error { return c.send(tagShut, nil) }); err != nil {
+	if err := c.tried(func() error { return c.send(tagShut, nil) }, c.drop); err != nil {
 		return err
 	}
 	if err := c.answer(tagBye, (*body).end); err != nil {
@@ -618,20 +830,24 @@ func firstOf(faults ...error) error {
 
 // ask asks, over a new connection where the old one is lost: the same request is never done twice.
 func (c *Client) ask(tag byte, item []byte, wanted byte, read func(*body) error) error {
-	return c.tried(func() error { return c.exchange(tag, item, wanted, read) })
+	return c.tried(func() error { return c.exchange(tag, item, wanted, read) }, c.drop)
+}
+
+// isAnswer tells whether the service answered, or there is nothing to ask it again.
+func isAnswer(err error) bool {
+	var answer *Error
+	var refused *Refused
+	return err == nil || errors.As(err, &answer) && !errors.Is(err, ErrNoService) || errors.As(err, &refused)
 }
 
 // tried does the work, again and again where the connection or the service is gone.
-func (c *Client) tried(work func() error) error {
+func (c *Client) tried(work func() error, drop func()) error {
 	for attempt := 1; ; attempt++ {
 		err := work()
-		var answer *Error
-		var refused *Refused
-		isAnswer := errors.As(err, &answer) && !errors.Is(err, ErrNoService) || errors.As(err, &refused)
-		if err == nil || isAnswer {
+		if isAnswer(err) {
 			return err
 		}
-		c.drop()
+		drop()
 		if attempt >= c.options.Tries {
 			if errors.Is(err, ErrNoService) {
 				return err
@@ -640,6 +856,62 @@ func (c *Client) tried(work func() error) error {
 		}
 		time.Sleep(shorter(20*time.Millisecond<<shorter(attempt, 6), time.Second))
 	}
+}
+
+// lookedUp reads what the service tells at a path of its status port.
+func (c *Client) lookedUp(path string, read func(text []byte) error) error {
+	return c.tried(func() error { return c.lookedUpOnce(path, read) }, c.hangUp)
+}
+
+// lookedUpOnce does so over the connection that is kept, and over a new one where the service hung up on that.
+func (c *Client) lookedUpOnce(path string, read func(text []byte) error) error {
+	if c.reader != nil {
+		err := c.reader.told(path, read)
+		if isAnswer(err) {
+			return err
+		}
+		c.hangUp()
+	}
+	if err := c.openReader(); err != nil {
+		return err
+	}
+	return c.reader.told(path, read)
+}
+
+// openReader connects to where the service tells its status, whose set has to be the client's or to go on from it.
+func (c *Client) openReader() error {
+	status := c.options.Status
+	var err error
+	if c.folder != "" {
+		if _, status, _, err = noticeOf(c.folder); err != nil {
+			return err
+		}
+	}
+	if status == 0 {
+		return fault(ErrNoStatus, errors.New("the service tells no status: serve with --status"))
+	}
+	asked, err := readerAt(c.options.Host, status, c.options.Timeout)
+	if err != nil {
+		return err
+	}
+	set, err := asked.set()
+	if err == nil {
+		err = c.compare(set)
+	}
+	if err != nil {
+		asked.stream.Close()
+		return err
+	}
+	c.reader = asked
+	return nil
+}
+
+// compare gives ErrOtherSet where a set is neither the client's nor goes on from it.
+func (c *Client) compare(set string) error {
+	if set != c.Set && !Extends(set, c.Set) {
+		return fault(ErrOtherSet, nil)
+	}
+	return nil
 }
 
 func shorter[T int | time.Duration](one, other T) T {
@@ -691,8 +963,10 @@ func (c *Client) connect() error {
 	if err != nil {
 		return err
 	}
-	if set != "" && set != c.Set && !Extends(set, c.Set) {
-		return fault(ErrOtherSet, nil)
+	if set != "" {
+		if err = c.compare(set); err != nil {
+			return err
+		}
 	}
 	stream, err := net.DialTimeout("tcp", net.JoinHostPort(c.options.Host, strconv.Itoa(c.port)), c.options.Timeout)
 	if err == nil {
@@ -721,5 +995,12 @@ func (c *Client) drop() {
 	if c.stream != nil {
 		c.stream.Close()
 		c.stream = nil
+	}
+}
+
+func (c *Client) hangUp() {
+	if c.reader != nil {
+		c.reader.stream.Close()
+		c.reader = nil
 	}
 }

@@ -7,6 +7,7 @@
     paid.named['x']                           # 100: results by the names that the set gives them
     done = bank.look(paid.chain, 1, wait=5)   # Found(stamp=3, results=[]), or None after five seconds
     paid.wait(5)                              # the results of all its hops, once the last is done: [[100], []]
+    bank.read('acct', 1000)                   # 30: what a cell holds, of a service that tells its status
     bank.shut()                               # the service checks all that it told, and ends
 
 A request is known by its client's id and its number: whatever is asked under the same id and number is done once, and
@@ -23,6 +24,7 @@ A client belongs to one thread at a time. docs/FORMATS.md has the bytes.
 from __future__ import annotations
 
 import http.client
+import json
 import os
 import secrets
 import socket
@@ -31,14 +33,16 @@ import struct
 import time
 from dataclasses import dataclass, field, replace
 from types import TracebackType
-from typing import Any, Dict, List, Optional, Tuple, Type, Union
+from typing import Any, Callable, Dict, Iterator, List, Optional, Tuple, Type, TypeVar, Union
+from urllib.parse import quote
 
 __version__ = '0.1.0'
 
 __all__ = ['Begun', 'Busy', 'ByeLost', 'Chain', 'Clash', 'Client', 'Found', 'Full', 'Lost', 'LynxError', 'NoService',
-           'OtherSet', 'Outside', 'Program', 'Refused', 'Stopped', 'Wanting', 'Wrong', 'extends', 'programs_of',
-           'served_set', 'service_of']
+           'NoStatus', 'OtherSet', 'Outside', 'Program', 'Recorded', 'Refused', 'Stopped', 'Wanting', 'Wrong', 'extends',
+           'programs_of', 'served_set', 'service_of']
 
+T = TypeVar('T')
 MAX_WORD = 2 ** 64 - 1
 MAX_BODY_BYTES = 2048
 REQUEST, LOOK, QUIT, SHUT, ANSWER, LOOKED, BYE = 0x01, 0x02, 0x03, 0x04, 0x11, 0x12, 0x13
@@ -61,7 +65,8 @@ class Clash(LynxError):
 
 
 class Wrong(LynxError):
-    """The request doesn't fit its program, or there is no such program: nothing was done. `reason` says why."""
+    """The request doesn't fit its program, or there is no such program: nothing was done. `reason` says why. Of a read it
+    is the service's sentence: there is no such table, say."""
 
     def __init__(self, reason: str) -> None:
         self.reason = reason
@@ -175,6 +180,19 @@ class Found:
 
 
 @dataclass(frozen=True)
+class Recorded:
+    """What a server recorded of a request: its program and arguments, and the `chain` that it began with the `results` of
+    its first hop; or, where that refused, the `need` that wasn't met, counted from 0."""
+    server: int
+    stamp: int
+    program: str
+    args: List[int] = field(hash=False)
+    chain: Optional[Chain] = None
+    results: List[int] = field(default_factory=list, hash=False)
+    need: Optional[int] = None
+
+
+@dataclass(frozen=True)
 class Program:
     """A program of a set: its number, its parameters, how many hops it has, and of its first hop the names of its
     results and the needs."""
@@ -220,6 +238,15 @@ class OtherSet(LynxError):
     reason = 'other-set'
 
 
+class NoStatus(LynxError):
+    """The service tells no status, by which cells and requests are read: it is served without `--status`, or the client
+    was given a port and no `status`."""
+    reason = 'no-status'
+
+    def __init__(self) -> None:
+        super().__init__('the service tells no status: serve with --status')
+
+
 def service_of(folder: Union[str, os.PathLike[str]]) -> Tuple[int, str]:
     """The port of the service over the stores of the folder, and the text of the set that it serves."""
     port, _, text = _notice_of(folder)
@@ -254,16 +281,54 @@ def served_set(status: int, host: str = '127.0.0.1', timeout: float = 30.0) -> s
     """The text of the set of the service that tells its status at this port. An OSError where none does."""
     asked = http.client.HTTPConnection(host, status, timeout=timeout)
     try:
-        asked.request('GET', '/set', headers={'Connection': 'close'})
-        answer = asked.getresponse()
-        text = answer.read()
-    except http.client.HTTPException as fault:
-        raise ConnectionError(f'no status: {host}:{status}') from fault
+        return _set_told(asked)
     finally:
         asked.close()
-    if answer.status != 200:
-        raise ConnectionError(f'no status: {host}:{status}')
-    return text.decode('ascii')
+
+
+def _answer_at(asked: http.client.HTTPConnection, path: str) -> Tuple[int, str]:
+    """The status and the text that a service answers at a path of its status port. An OSError where none does."""
+    try:
+        asked.request('GET', path)
+        answer = asked.getresponse()
+        return answer.status, answer.read().decode('ascii')
+    except (http.client.HTTPException, UnicodeDecodeError) as fault:
+        raise ConnectionError(f'no status: {asked.host}:{asked.port}') from fault
+
+
+def _set_told(asked: http.client.HTTPConnection) -> str:
+    """The text of the set of the service. An OSError where none tells it."""
+    status, text = _answer_at(asked, '/set')
+    if status != 200:
+        raise ConnectionError(f'no status: {asked.host}:{asked.port}')
+    return text
+
+
+def _told(asked: http.client.HTTPConnection, path: str, read: Callable[[Any], T]) -> T:
+    """What is read of the JSON at a path. What can't be told is a LynxError with the service's sentence."""
+    status, text = _answer_at(asked, path)
+    sentence = text.rstrip('\n')
+    if status == 503:
+        raise Stopped(sentence) if sentence == 'server stopped' else Wanting(sentence)
+    if status in (400, 404):
+        raise Wrong(sentence)
+    if status != 200:
+        raise ConnectionError(f'no status: {asked.host}:{asked.port}')
+    try:
+        return read(json.loads(text))
+    except (KeyError, TypeError, ValueError) as fault:
+        raise ConnectionError('what came is no answer') from fault
+
+
+def _numbers_of(texts: List[str]) -> List[int]:
+    return [int(text) for text in texts]
+
+
+def _recorded_of(found: Dict[str, Any]) -> Recorded:
+    head = int(found['server']), int(found['stamp']), str(found['program']), _numbers_of(found['args'])
+    if 'refused' in found:
+        return Recorded(*head, need=int(found['refused']))
+    return Recorded(*head, Chain.parse(str(found['chain'])), _numbers_of(found['results']))
 
 
 def _parts_of(text: str) -> Tuple[List[int], List[List[str]], List[List[str]]]:
@@ -354,6 +419,7 @@ class Client:
         self.address, self.status = (host, port), status
         self.timeout, self.tries = timeout, max(1, tries)
         self.socket: Optional[socket.socket] = None
+        self.reader: Optional[http.client.HTTPConnection] = None  # at the port of the status
 
     def __enter__(self) -> Client:
         return self
@@ -428,8 +494,48 @@ class Client:
         return all(self.look(chain, hop, max(0.0, until - time.monotonic())) is not None
                    for chain, hop in list(self.owed.items()))
 
+    def read(self, table: str, key: int) -> int:
+        """What a cell of the table holds, 0 where nothing was put: at its server, at one moment, after whole steps. Nothing
+        is recorded of it. To read at several servers at once, or in the order, begin a program that reads."""
+        return self._looked_up(f'/cells/{quote(table, "")}/{_word(key, "the key")}', lambda found: int(found['value']))
+
+    def read_range(self, table: str, low: int = 0, high: int = MAX_WORD, *, limit: int = 1000) -> Iterator[Tuple[int, int]]:
+        """The cells of the table from key `low` to key `high` that aren't 0, by their keys: pairs of a key and a value. They
+        are asked for as they are taken, a page of at most `limit` cells (10000 at most) at a time. Each page is of one
+        moment at one server, and a later page of a later one: together they are of no one moment."""
+        start: Optional[int] = _word(low, 'the first key')
+        end, most = _word(high, 'the last key'), _word(limit, 'the limit')
+        while start is not None:
+            cells, start = self._page(f'/cells/{quote(table, "")}?from={start}&to={end}&limit={most}', start, end)
+            yield from cells
+
+    def _page(self, path: str, start: int, end: int) -> Tuple[List[Tuple[int, int]], Optional[int]]:
+        """The cells of a page, and from which key to go on, or None."""
+        def page_of(found: Any) -> Tuple[List[Tuple[int, int]], Optional[int]]:
+            cells = [(int(cell['key']), int(cell['value'])) for cell in found['cells']]
+            after = int(found['next']) if 'next' in found else None
+            if after is not None and not start < after <= end:
+                raise ValueError(after)
+            return cells, after
+
+        return self._looked_up(path, page_of)
+
+    def find(self, client: int, number: int) -> List[Recorded]:
+        """What became of the request of that client under that number: what each server recorded of it, by server. There is
+        one record of a number that was used once, and none of a request that wasn't done, or was lost on its way."""
+        def records_of(found: Any) -> List[Recorded]:
+            return [_recorded_of(each) for each in found['records']]
+
+        try:
+            return self._looked_up(f'/requests/{_word(client, "the client")}/{_word(number, "the number")}', records_of)
+        except Wrong as fault:
+            if fault.reason == 'no such request':
+                return []
+            raise
+
     def close(self) -> None:
         """Leaves. A request begins a new connection."""
+        self._hang_up()
         if self.socket is not None:
             try:
                 self._exchange(QUIT, b'', BYE)
@@ -447,6 +553,7 @@ class Client:
             raise ByeLost(f'bye lost: {fault}') from fault
         finally:
             self._drop()
+            self._hang_up()
 
     def _sent(self, tag: int) -> None:
         """Sends an item without a body, over a new connection where the old one takes nothing."""
@@ -495,16 +602,54 @@ class Client:
 
     def _ask(self, tag: int, body: bytes, wanted: int) -> _Body:
         """Asks, over a new connection where the old one is lost: the same request is never done twice."""
+        return self._tried(lambda: self._exchange(tag, body, wanted), self._drop)
+
+    def _tried(self, work: Callable[[], T], drop: Callable[[], None]) -> T:
+        """What the work gives, which is done again where the connection or the service is gone."""
         for attempt in range(self.tries):
             if attempt:
                 time.sleep(min(0.02 * 2 ** min(attempt, 6), 1.0))
             try:
-                return self._exchange(tag, body, wanted)
+                return work()
             except OSError:
-                self._drop()
+                drop()
                 if attempt + 1 == self.tries:
                     raise
         raise ConnectionError('not tried')
+
+    def _looked_up(self, path: str, read: Callable[[Any], T]) -> T:
+        """What is read of what the service tells at a path of its status port."""
+        try:
+            return self._tried(lambda: self._looked_up_once(path, read), self._hang_up)
+        except LynxError:
+            raise
+        except OSError as fault:
+            raise Lost(str(fault)) from fault
+
+    def _looked_up_once(self, path: str, read: Callable[[Any], T]) -> T:
+        """The same over the connection that is kept, and over a new one where the service hung up on that."""
+        if self.reader is not None:
+            try:
+                return _told(self.reader, path, read)
+            except OSError:
+                self._hang_up()
+        self.reader = self._opened()
+        return _told(self.reader, path, read)
+
+    def _opened(self) -> http.client.HTTPConnection:
+        """A connection to where the service tells its status. Its set is this client's, or goes on from it."""
+        status = self.status if self.folder is None else _notice_of(self.folder)[1]
+        if status is None:
+            raise NoStatus()
+        asked = http.client.HTTPConnection(self.address[0], status, timeout=self.timeout)
+        asked.connect()
+        asked.auto_open = 0  # it never goes on over another connection by itself
+        try:
+            self._compare(_set_told(asked))
+        except (LynxError, OSError):
+            asked.close()
+            raise
+        return asked
 
     def _exchange(self, tag: int, body: bytes, wanted: int) -> _Body:
         self._send(tag, body)
@@ -552,3 +697,8 @@ class Client:
         if self.socket is not None:
             self.socket.close()
             self.socket = None
+
+    def _hang_up(self) -> None:
+        if self.reader is not None:
+            self.reader.close()
+            self.reader = None

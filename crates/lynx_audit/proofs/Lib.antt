@@ -1,3 +1,4 @@
 pub mod Openings
 pub mod Lasts
 pub mod Audited
+pub mod Blames

@@ -1,8 +1,8 @@
 //! An audit of stores that nobody has open.
-ghost use Rattle.std.specs.Prelude.{◌≡◌, ◌++◌, ℕ, List, IfOk, OnOk, length};
+ghost use Rattle.std.specs.Prelude.{◌≡◌, ◌++◌, ℕ, List, IfErr, IfOk, OnOk, length};
 ghost use Rattle.std.specs.List.Sorted.{IsPermutation};
 ghost use Rattle.lynx_world.specs.Tables.{cells_of};
-ghost use Rattle.lynx_audit.specs.Audits.{HasAudited, IsKeptWorld};
+ghost use Rattle.lynx_audit.specs.Audits.{BlamesRight, HasAudited, IsKeptWorld};
 ghost use Rattle.lynx_audit.specs.Sizes.{cells_lines};
 
 use crate::histories::histories_of;
@@ -25,7 +25,8 @@ pub(crate) fn kept_world<K: Keeper + Drop>(
     keepers: Vec<K>,
 ) -> Result<World, ServeFault>
     requires { length keepers.items ≡ set.now.servers }
-    ensures { IfOk result (λ world. IsKeptWorld K.terms set.now keepers.items world) }
+    ensures ok { IfOk result (λ world. IsKeptWorld K.terms set.now keepers.items world) }
+    ensures err { IfErr result (BlamesRight K.terms set.now keepers.items) }
 {
     let histories = histories_of(alloc, set, keepers)?;
     woven(alloc, set, histories)
@@ -58,14 +59,18 @@ pub fn audit<K: Keeper + Drop, W: Write>(
     writer: &mut W,
 ) -> Result<Explained, ServeFault>
     requires { length keepers.items ≡ set.now.servers }
-    ensures { IfOk result (HasAudited K.terms set.now keepers.items
+    ensures ok { IfOk result (HasAudited K.terms set.now keepers.items
         (W.contents writer.old) (W.contents writer.new)) }
+    ensures err { IfErr result (BlamesRight K.terms set.now keepers.items) }
 {
     let histories = histories_of(alloc, set, keepers)?;
     let mut sizes = entries_lines(alloc, histories.as_slice())?;
     let world = woven(alloc, set, histories)?;
     put_cells(alloc, &mut sizes, &world)?;
-    let (explained, mut lines) = last_words(alloc, &world)?;
+    // Nothing but memory is ever wanting there.
+    let Ok((explained, mut lines)) = last_words(alloc, &world) else {
+        return Err(ServeFault::Memory);
+    };
     lines.extend_from_slice(sizes.as_slice())?;
     write_bytes(writer, lines.as_slice())?;
     Ok(explained)

@@ -1,7 +1,7 @@
 //! The histories that keepers keep, each judged as the opening of its server judges it.
-ghost use Rattle.std.specs.Prelude.{◌≡◌, ◌∷◌, ◌++◌, [], IfOk, OnOk, length};
+ghost use Rattle.std.specs.Prelude.{◌≡◌, ◌∷◌, ◌++◌, [], IfErr, IfOk, OnOk, length};
 ghost use Rattle.lynx_weave.specs.Rebuilt.{histories_in};
-ghost use Rattle.lynx_audit.specs.Audits.{AreOpenedTo, IsOpenedTo};
+ghost use Rattle.lynx_audit.specs.Audits.{AreOpenedTo, BlamesRight, DoesntOpen, IsOpenedTo};
 
 use lynx_cluster::StartFault;
 use lynx_entry::Entry;
@@ -19,7 +19,9 @@ fn history_of<K: Keeper + Drop>(
     server: ServerId,
     keeper: K,
 ) -> Result<Vec<Entry>, ServeFault>
-    ensures { IfOk result (λ history. IsOpenedTo K.terms set.now server keeper history.items) }
+    ensures ok { IfOk result
+        (λ history. IsOpenedTo K.terms set.now server keeper history.items) }
+    ensures err { IfErr result (DoesntOpen K.terms set.now server keeper) }
 {
     match Server::open(alloc, set, server, keeper) {
         Ok(opened) => Ok(opened.into_parts().0),
@@ -42,8 +44,9 @@ pub(crate) fn histories_of<K: Keeper + Drop>(
     keepers: Vec<K>,
 ) -> Result<Vec<Vec<Entry>>, ServeFault>
     requires { length keepers.items ≡ set.now.servers }
-    ensures { IfOk result (λ histories. AreOpenedTo K.terms set.now keepers.items
+    ensures ok { IfOk result (λ histories. AreOpenedTo K.terms set.now keepers.items
         (histories_in histories.items)) }
+    ensures err { IfErr result (BlamesRight K.terms set.now keepers.items) }
 {
     let count = set.servers();
     let mut histories = Vec::new(alloc);

@@ -1,9 +1,10 @@
 //! The hops that chains owe, of stores that nobody has open.
-ghost use Rattle.std.specs.Prelude.{◌≡◌, ◌++◌, OnOk, IfOk, length};
+ghost use Rattle.std.specs.Prelude.{◌≡◌, ◌++◌, OnOk, IfErr, IfOk, length};
 ghost use Rattle.std.specs.BTreeMap.{get};
 ghost use Rattle.std.specs.String.{string_bytes};
 ghost use Rattle.lynx_names.specs.declared.chain.ChainId.{ChainId};
 ghost use Rattle.lynx_report.specs.Owed.{AreTheOwed, chain_cmp};
+ghost use Rattle.lynx_audit.specs.Audits.{BlamesRight};
 ghost use Rattle.lynx_audit.specs.Latest.{latest_of};
 ghost use Rattle.lynx_audit.specs.Owing.{TellsOwed, owing_by, owing_line, owing_lines, owing_text};
 
@@ -102,8 +103,9 @@ pub fn list_owed<K: Keeper + Drop, W: Write>(
     writer: &mut W,
 ) -> Result<(), ServeFault>
     requires { length keepers.items ≡ set.now.servers }
-    ensures { OnOk result (TellsOwed K.terms set.now keepers.items
+    ensures ok { OnOk result (TellsOwed K.terms set.now keepers.items
         (W.contents writer.old) (W.contents writer.new)) }
+    ensures err { IfErr result (BlamesRight K.terms set.now keepers.items) }
 {
     let world = kept_world(alloc, set, keepers)?;
     let owed = owed_hops(alloc, &world)?;

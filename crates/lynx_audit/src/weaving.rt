@@ -1,7 +1,9 @@
 //! The world that histories weave to.
-ghost use Rattle.std.specs.Prelude.{◌≡◌, [], IfOk, length};
+ghost use Rattle.std.specs.Prelude.{◌≡◌, [], IfErr, IfOk, length};
+ghost use Rattle.lynx_service.specs.Faults.{apart_fault};
 ghost use Rattle.lynx_weave.specs.Rebuilt.{histories_in};
 ghost use Rattle.lynx_weave.specs.Weaving.{IsWoven};
+ghost use Rattle.lynx_weave.specs.declared.fault.WeaveFault.{WeaveFault};
 
 use lynx_entry::Entry;
 use lynx_service::ServeFault;
@@ -17,8 +19,9 @@ pub(crate) fn woven(
     histories: Vec<Vec<Entry>>,
 ) -> Result<World, ServeFault>
     requires { length histories.items ≡ set.now.servers }
-    ensures { IfOk result
+    ensures ok { IfOk result
         (λ world. IsWoven set.now (histories_in histories.items) [] world) }
+    ensures err { IfErr result (λ fault. (why : WeaveFault) × (fault ≡ apart_fault why)) }
 {
     Ok(weave(alloc, set, histories, &[])?)
 }

@@ -2,7 +2,7 @@
 """tests/reference_picture.py [--walk | --late] SET: the picture of the set text in a file, or of the programs of its walk alone,
 or of those that stand in its way and what they meet, by a plain reading of docs/FORMATS.md that was written apart from the
 program; the verdict on the set is that of tests/reference.py. What it prints for a set is what a case of `lynx draw` expects,
-and tests/test_random.py compares the program with it."""
+and tests/test_random.py compares the program with it; tests/test_mend.py does with pictures of changed sets."""
 import os
 import sys
 
@@ -23,6 +23,7 @@ EXCUSED = "accepted by blocks: the orange steps lead all the way round, but no c
     "origins each block goes forward alone.\\l"
 OFFENDING = "offending: by the red steps in their order, each chain may come before the next, all the way round.\\l"
 LATE = "offending: the programs with thick frames stand in the way, since those of other servers meet two hops of theirs.\\l"
+CHANGED = "Thick frames stand around changed hops.\\l"
 LEGEND = ("Solid arrows lead to the next hop. Dashed lines join hops that may conflict, in the tables named.\\l"
           "Where two chains of one program may conflict, it is drawn again. Each server has its colour.\\l")
 CONFLICTS = "  edge [style=dashed, dir=none];\n"
@@ -164,9 +165,23 @@ def in_the_way(chains, status):
     return {end[0] for end in ends}, {other[0] for end in ends for other in reach[end]}
 
 
-def picture(text, extent=None):
+def shows(chains, program, hop):
+    """What the node of a hop shows: its server and its lines of actions. None where the set has no such hop."""
+    hops = chains.hops(program) if program in chains.programs else []
+    return (hops[hop][0], [" ".join(action) for action in hops[hop][1]]) if hop < len(hops) else None
+
+
+def marks(chains, before, shown, drawn_twice):
+    """The frames of the hops of these programs that the set before hasn't."""
+    changed = [(program, hop) for program in shown for hop in range(len(chains.hops(program)))
+               if shows(chains, program, hop) != shows(before, program, hop)]
+    return [f"    {node(place, again)} [penwidth=3];" for place in changed
+            for again in ((False, True) if place[0] in drawn_twice else (False,))]
+
+
+def picture(text, extent=None, before=None):
     """What `lynx draw` prints of a set text without fault, and its status; with --walk, of the programs of the walk alone, with
-    --late, of those in the way and what they meet, without the walk."""
+    --late, of those in the way and what they meet, without the walk. With the text of a set before, changed hops are marked."""
     chains, (verdict, status) = reference.Set(text), reference.check(text)
     edges = conflicts(chains)
     drawn_twice = {left[0] for left, right in edges if left[0] == right[0]}
@@ -197,8 +212,9 @@ def picture(text, extent=None):
     caption, style = LOOKS[verdict.splitlines()[0]]
     if extent == "--late":
         caption = LATE if status else ACCEPTED
-    label = f'  label="{caption}{LEGEND}";\n'
-    return HEAD + label + put(lines) + CONFLICTS + put(dashed) + style + put(coloured) + "}\n", status
+    framed = marks(chains, reference.Set(before), [program for program in shown if program not in boxed], drawn_twice) if before else []
+    label = f'  label="{caption}{CHANGED if before else ""}{LEGEND}";\n'
+    return HEAD + label + put(lines) + CONFLICTS + put(dashed) + style + put(coloured) + put(framed) + "}\n", status
 
 
 if __name__ == "__main__":

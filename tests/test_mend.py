@@ -12,6 +12,7 @@ import subprocess
 
 import pytest
 import reference
+import reference_picture
 from random_sets import set_text
 from serving import TOP
 
@@ -114,6 +115,16 @@ def judge(lynx, path, tally):
     return changes
 
 
+def judge_pictures(lynx, path, tally):
+    """Compares the picture of the set with each change, in which changed hops are marked, and of its walk alone, with the plain reading."""
+    for change in told(lynx, path):
+        mended = written(lynx, path, change.number)
+        for words in ([], ["--walk"]):
+            drawn = ends(lynx, "draw", path, "--mended", str(change.number), *words)
+            expected, _ = reference_picture.picture(mended, *(words or [None]), before=read(path))
+            tally.is_same(f"{path}: picture {change.number} {words}", drawn, (expected, "", 0))
+
+
 def read(path):
     with open(path, encoding="ascii") as file:
         return file.read()
@@ -153,6 +164,26 @@ def test_ours(program, tally, name):
     tally.holds(f"{name} is mended", judge(program, path_of(name), tally))
 
 
+@pytest.mark.parametrize("name", ours())
+def test_pictures(program, tally, name):
+    judge_pictures(program, path_of(name), tally)
+
+
+def test_no_picture(program, tally, tmp_path):
+    """An accepted set is drawn as it is; a change that isn't there, and a run, are refused."""
+    accepted = os.path.join(TOP, "examples", "payment.set")
+    expected, _ = reference_picture.picture(read(accepted), before=read(accepted))
+    tally.is_same("accepted", ends(program, "draw", accepted, "--mended", "1"), (expected, "", 0))
+    offends = path_of(ours()[0])
+    count = len(told(program, offends))
+    if count < 10:
+        tally.is_same("none", ends(program, "draw", offends, "--mended", str(count + 1)), ("", "lynx: no mending was found\n", 1))
+    for number in ("0", "11", "x"):
+        tally.is_same(number, ends(program, "draw", offends, "--mended", number)[2], 2)
+    script = os.path.join(TOP, "examples", "payment.script")
+    tally.is_same("a run", ends(program, "draw", accepted, script, "--mended", "1"), ("", "lynx: --mended draws no run\n", 2))
+
+
 def test_random_sets(program, tally, tmp_path, seed):
     rng = random.Random(f"mend {seed}")
     for number in range(RANDOM_SETS):
@@ -161,6 +192,7 @@ def test_random_sets(program, tally, tmp_path, seed):
         path.write_text(text, encoding="ascii")
         if reference.check(text)[1]:
             judge(program, str(path), tally)
+            judge_pictures(program, str(path), tally)
         else:
             tally.is_same(f"{path} is whole", ends(program, "mend", str(path)), ("nothing to mend\n", "", 0))
             tally.is_same(f"{path} is its own", ends(program, "mend", str(path), "--write", "1"), (text, "", 0))

@@ -3,13 +3,13 @@ use Rattle.std.specs.Prelude.{◌≡◌, ◌≢◌, ◌⊎◌, ℕ, List, Option
 use Rattle.std.specs.Str.Parse.{ParsesUnsigned}
 use Rattle.clap.specs.Words.{Row, Text, first_of, one_of}
 use Rattle.lynx_args.specs.declared.job.Job.{Job}
-use Rattle.lynx_args.specs.declared.job.Job.TheVariants.{Ask, AskFolder, Audit, Chart, Check, Draw, Extend, Mend, Owed, Restore, Run, RunInput, RunStores, Sample, Serve, Show, Upgrade}
+use Rattle.lynx_args.specs.declared.job.Job.TheVariants.{Ask, AskFolder, Audit, Chart, Check, Draw, DrawMended, Extend, Mend, Owed, Restore, Run, RunInput, RunStores, Sample, Serve, Show, Upgrade}
 use Rattle.lynx_args.specs.declared.job.RestorePlace.{RestorePlace}
 use Rattle.lynx_args.specs.declared.job.RunFlags.{RunFlags}
 use Rattle.lynx_args.specs.declared.job.SampleFlags.{SampleFlags}
 use Rattle.lynx_args.specs.declared.job.ServeFlags.{ServeFlags}
 use Rattle.lynx_args.specs.declared.job.CommandFault.{CommandFault}
-use Rattle.lynx_args.specs.declared.job.CommandFault.TheVariants.{NoScript, ScriptTooMany, StoresOfInput, WalkOfRun, LateOfRun, WalkAndLate, StatusOfFolder, NoCommand, NotUtf8}
+use Rattle.lynx_args.specs.declared.job.CommandFault.TheVariants.{NoScript, ScriptTooMany, StoresOfInput, WalkOfRun, LateOfRun, MendedOfRun, WalkAndLate, StatusOfFolder, NoCommand, NotUtf8}
 use Rattle.lynx_draw.specs.declared.shown.Extent.{Extent}
 use Rattle.lynx_draw.specs.declared.shown.Extent.TheVariants.{All, Walk, Late}
 
@@ -43,22 +43,38 @@ ShowsAs walk late (Ok Late) = (walk ≡ false) × (late ≡ true)
 ShowsAs walk late (Err WalkAndLate) = (walk ≡ true) × (late ≡ true)
 ShowsAs walk late (Err other) = ⊥
 
--- a set alone is drawn, and with a script a run, which has no walk and no blocks in its way
-abbrev pub DrawsAs : List ℕ → Option (List ℕ) → Bool → Bool → Result Job CommandFault → Type 0
-DrawsAs set script walk late (Ok (Draw own shown)) =
-    (own.now ≡ set) × (script ≡ None) × ShowsAs walk late (Ok shown)
-DrawsAs set script walk late (Ok (Chart own other)) =
+-- a set is drawn as it is, or with the change of that number
+abbrev pub PicturesAs : List ℕ → Extent → Option ℕ → Job → Type 0
+PicturesAs set shown mended (Draw own other) =
+    (own.now ≡ set) × (other ≡ shown) × (mended ≡ None)
+PicturesAs set shown mended (DrawMended own other change) =
+    (own.now ≡ set) × (other ≡ shown) × (mended ≡ Some change)
+PicturesAs set shown mended other = ⊥
+
+-- a set alone is drawn, and with a script a run, which has no walk, no blocks in its way and no
+-- change
+abbrev pub DrawsAs : List ℕ → Option (List ℕ) → Bool → Bool → Option ℕ → Result Job CommandFault
+    → Type 0
+DrawsAs set script walk late mended (Ok (Draw own shown)) =
+    (own.now ≡ set) × (script ≡ None) × (mended ≡ None) × ShowsAs walk late (Ok shown)
+DrawsAs set script walk late mended (Ok (DrawMended own shown change)) =
+    (own.now ≡ set) × (script ≡ None) × (mended ≡ Some change) × ShowsAs walk late (Ok shown)
+DrawsAs set script walk late mended (Ok (Chart own other)) =
     (own.now ≡ set) × (script ≡ Some other.now) × (walk ≡ false) × (late ≡ false)
-DrawsAs set script walk late (Err WalkOfRun) = IsSome script × (walk ≡ true)
-DrawsAs set script walk late (Err LateOfRun) = IsSome script × (late ≡ true)
-DrawsAs set script walk late (Err WalkAndLate) = (script ≡ None) × (walk ≡ true) × (late ≡ true)
-DrawsAs set script walk late other = ⊥
+    × (mended ≡ None)
+DrawsAs set script walk late mended (Err WalkOfRun) = IsSome script × (walk ≡ true)
+DrawsAs set script walk late mended (Err LateOfRun) = IsSome script × (late ≡ true)
+DrawsAs set script walk late mended (Err MendedOfRun) = IsSome script × IsSome mended
+DrawsAs set script walk late mended (Err WalkAndLate) =
+    (script ≡ None) × (walk ≡ true) × (late ≡ true)
+DrawsAs set script walk late mended other = ⊥
 
 -- the command that asks for a job; standard input is asked for by no command at all, or by `run`
 abbrev pub AskedBy : Option (List ℕ) → Result Job CommandFault → Type 0
 AskedBy command (Ok (Check set why all)) = command ≡ Some (codes "check")
 AskedBy command (Ok (Mend set write)) = command ≡ Some (codes "mend")
 AskedBy command (Ok (Draw set shown)) = command ≡ Some (codes "draw")
+AskedBy command (Ok (DrawMended set shown change)) = command ≡ Some (codes "draw")
 AskedBy command (Ok (Chart set script)) = command ≡ Some (codes "draw")
 AskedBy command (Ok (Sample set flags)) = command ≡ Some (codes "sample")
 AskedBy command (Ok (Show store)) = command ≡ Some (codes "show")
@@ -78,6 +94,7 @@ AskedBy command (Err ScriptTooMany) = command ≡ Some (codes "run")
 AskedBy command (Err StoresOfInput) = command ≡ Some (codes "run")
 AskedBy command (Err WalkOfRun) = command ≡ Some (codes "draw")
 AskedBy command (Err LateOfRun) = command ≡ Some (codes "draw")
+AskedBy command (Err MendedOfRun) = command ≡ Some (codes "draw")
 AskedBy command (Err WalkAndLate) = command ≡ Some (codes "draw")
 AskedBy command (Err StatusOfFolder) = command ≡ Some (codes "ask")
 AskedBy command (Err NoCommand) =
@@ -163,7 +180,10 @@ pub record DrawsFound (rows : List Row) (job : Result Job CommandFault) : Type 0
   pub is_walk : IsFlag (codes "walk") rows walk
   pub late : Bool
   pub is_late : IsFlag (codes "late") rows late
-  pub draws : DrawsAs (text_at (codes "SET") rows) (first_of (codes "SCRIPT") rows) walk late job
+  pub mended : Option ℕ
+  pub is_mended : IsChoice (codes "mended") rows mended
+  pub draws : DrawsAs (text_at (codes "SET") rows) (first_of (codes "SCRIPT") rows) walk late mended
+      job
 
 -- What was found behind a command is what the job is done with. Of the numbers of ports, seeds and
 -- begins it is told only what they are where none was found.
@@ -174,6 +194,8 @@ TakesFound rows (Ok (Check set why all)) =
 TakesFound rows (Ok (Mend set write)) =
     (set.now ≡ text_at (codes "SET") rows) × IsChoice (codes "write") rows write
 TakesFound rows (Ok (Draw set shown)) = DrawsFound rows (Ok (Draw set shown))
+TakesFound rows (Ok (DrawMended set shown change)) =
+    DrawsFound rows (Ok (DrawMended set shown change))
 TakesFound rows (Ok (Chart set script)) = DrawsFound rows (Ok (Chart set script))
 TakesFound rows (Ok (Sample set flags)) =
     (set.now ≡ text_at (codes "SET") rows) × AreSampleFlags rows flags
@@ -201,6 +223,7 @@ TakesFound rows (Err ScriptTooMany) = RunsFound rows (Err ScriptTooMany)
 TakesFound rows (Err StoresOfInput) = RunsFound rows (Err StoresOfInput)
 TakesFound rows (Err WalkOfRun) = DrawsFound rows (Err WalkOfRun)
 TakesFound rows (Err LateOfRun) = DrawsFound rows (Err LateOfRun)
+TakesFound rows (Err MendedOfRun) = DrawsFound rows (Err MendedOfRun)
 TakesFound rows (Err WalkAndLate) = DrawsFound rows (Err WalkAndLate)
 TakesFound rows (Err StatusOfFolder) = first_of (codes "PORT") rows ≡ None
 TakesFound rows (Err NoCommand) = Unit {0}

@@ -1,6 +1,6 @@
 //! What the words of the command line ask for.
 ghost use Rattle.std.specs.Prelude.{option_map};
-ghost use Rattle.lynx_args.specs.Jobs.{DrawsAs, RunsAs, ShowsAs};
+ghost use Rattle.lynx_args.specs.Jobs.{DrawsAs, PicturesAs, RunsAs, ShowsAs};
 
 use lynx_draw::Extent;
 use thiserror::Error;
@@ -73,6 +73,12 @@ pub enum Job<'a> {
     Draw {
         set: &'a str,
         shown: Extent,
+    },
+    /// The same of the set with the change of that number, which makes it accepted.
+    DrawMended {
+        set: &'a str,
+        shown: Extent,
+        change: u8,
     },
     /// Draw a run of the script of the second file over the set of the first.
     Chart {
@@ -169,6 +175,9 @@ pub enum CommandFault {
     /// So are those of blocks that stand in the way.
     #[error("--late draws no run")]
     LateOfRun,
+    /// What makes a set accepted changes no run.
+    #[error("--mended draws no run")]
+    MendedOfRun,
     /// Of a set the ones are drawn or the others.
     #[error("--walk or --late, not both")]
     WalkAndLate,
@@ -224,22 +233,34 @@ fn extent_of(walk: bool, late: bool) -> Result<Extent, CommandFault>
     }
 }
 
+/// Which picture of a set is drawn: its own, or that with a change.
+fn picture_job<'a>(set: &'a str, shown: Extent, mended: Option<u8>) -> Job<'a>
+    ensures { PicturesAs set.now shown mended result }
+{
+    match mended {
+        Some(change) => Job::DrawMended { set, shown, change },
+        None => Job::Draw { set, shown },
+    }
+}
+
 /// What `draw` and its words ask for: the picture of a set, or with a script that of a run.
 pub(crate) fn job_of_draw<'a>(
     set: &'a str,
     script: Option<&'a str>,
     walk: bool,
     late: bool,
+    mended: Option<u8>,
 ) -> Result<Job<'a>, CommandFault>
-    ensures { DrawsAs set.now (option_map (λ own. own.now) script.entry) walk late result }
+    ensures { DrawsAs set.now (option_map (λ own. own.now) script.entry) walk late mended result }
 {
     match script {
         None => match extent_of(walk, late) {
-            Ok(shown) => Ok(Job::Draw { set, shown }),
+            Ok(shown) => Ok(picture_job(set, shown, mended)),
             Err(fault) => Err(fault),
         },
         Some(_) if walk => Err(CommandFault::WalkOfRun),
         Some(_) if late => Err(CommandFault::LateOfRun),
+        Some(_) if mended.is_some() => Err(CommandFault::MendedOfRun),
         Some(script) => Ok(Job::Chart { set, script }),
     }
 }

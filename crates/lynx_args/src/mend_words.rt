@@ -1,10 +1,10 @@
 //! The words that ask for what makes a set accepted.
 ghost use Rattle.std.specs.Prelude.{Ok, Some, codes};
 ghost use Rattle.clap.specs.Words.{found_of, rows_of};
-ghost use Rattle.lynx_args.specs.Jobs.{AskedBy, IsChoice, TakesFound};
+ghost use Rattle.lynx_args.specs.Jobs.{AskedBy, TakesFound};
 
 use crate::job::Job;
-use crate::parser::text_at;
+use crate::parser::{choice_at, text_at};
 use crate::words::{CommandText, HINTS_FLAG, Place, Reads, SET_FILE, Word};
 use clap::ArgMatches;
 
@@ -26,14 +26,6 @@ pub(crate) const MEND: CommandText = CommandText {
     ],
 };
 
-/// The number of the change by which the set is to be printed, if one is given. The parser lets no
-/// other words through.
-fn choice_of(words: &ArgMatches<'_>) -> Option<u8>
-    ensures { IsChoice (codes "write") (rows_of (found_of words.now)) result }
-{
-    words.get_one(WRITE)
-}
-
 /// What the words behind `mend` ask for.
 pub(crate) fn job_of_mending<'a>(words: &ArgMatches<'a>) -> Job<'a>
     ensures asked { AskedBy (Some (codes "mend")) (Ok result) }
@@ -41,6 +33,6 @@ pub(crate) fn job_of_mending<'a>(words: &ArgMatches<'a>) -> Job<'a>
 {
     Job::Mend {
         set: text_at(words, "SET"),
-        write: choice_of(words),
+        write: choice_at(words, WRITE),
     }
 }

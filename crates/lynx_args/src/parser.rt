@@ -1,7 +1,7 @@
 //! The words of the command line.
 ghost use Rattle.std.specs.Prelude.{◌≡◌, Ok, None, Some, codes, option_map};
 ghost use Rattle.clap.specs.Words.{first_of, found_of, rows_of, subcommand_name_of, subcommand_rows_of};
-ghost use Rattle.lynx_args.specs.Jobs.{AreFlags, AreSampleFlags, AskedBy, IsFlag, IsRestorePlace, TakesFound, TakesWords, no_flags, text_at};
+ghost use Rattle.lynx_args.specs.Jobs.{AreFlags, AreSampleFlags, AskedBy, IsChoice, IsFlag, IsRestorePlace, TakesFound, TakesWords, no_flags, text_at};
 
 use crate::commands::{
     ALL, AUDIT, CHECK, CHECKED, EXTEND, LONGEST, OWED, OWES, RESTORE, RUN, SHOW, STORES, UPGRADE,
@@ -104,6 +104,13 @@ pub(crate) fn flag_at(words: &ArgMatches<'_>, name: &str) -> bool
     ensures { IsFlag name.now (rows_of (found_of words.now)) result }
 {
     words.get_flag(name)
+}
+
+/// The number of a change, if one is given. The parser lets no other words through.
+pub(crate) fn choice_at(words: &ArgMatches<'_>, name: &str) -> Option<u8>
+    ensures { IsChoice name.now (rows_of (found_of words.now)) result }
+{
+    words.get_one(name)
 }
 
 /// The flags of a run.

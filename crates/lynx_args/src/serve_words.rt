@@ -63,7 +63,7 @@ pub(crate) const SERVE: CommandText = CommandText {
         Word {
             name: LOG_FILE,
             place: Place::Value("FILE", Reads::Text),
-            help: "Add these lines to a file, which is made where it isn't there, and made anew once it was moved away",
+            help: "Add these lines to a file, which is made where it isn't there, and again once it was moved away",
         },
         Word {
             name: ORDER,

@@ -7,7 +7,7 @@ use crate::auditing::{audit_folder, list_owed_in};
 use crate::extending::extend_folder;
 use crate::fault::Fault;
 use crate::hints::{Hints, Named};
-use crate::mending::mend_set;
+use crate::mending::{MendingView, mend_set};
 use crate::reading::text_of;
 use crate::restoring::restore_folder;
 use crate::serving::{ServePlace, serve_file};
@@ -67,7 +67,11 @@ fn do_to<
 ) -> Result<u8, Fault<'a>> {
     match job {
         Job::Check { set, why, all } => check_file(host, set, why_of(why, all), hints, writer),
-        Job::Mend { set, write } => mend_file(host, set, write, hints, writer),
+        Job::Mend { set, write } => mend_file(host, set, view_of(write), hints, writer),
+        Job::DrawMended { set, shown, change } => {
+            let view = MendingView::Picture { change, shown };
+            mend_file(host, set, view, hints, writer)
+        }
         Job::Draw { set, shown } => draw_file(host, set, shown, hints, writer),
         Job::Chart { set, script } => chart_files(host, set, script, hints, writer),
         Job::Sample { set, flags } => sample_file(host, set, flags, hints, writer),
@@ -142,17 +146,25 @@ fn check_file<'a, R: Files + AllocGlobal, W: Write>(
     done
 }
 
-/// Tells what makes the set of a file accepted.
+/// What `mend` shows: the changes in words, or the text with that one.
+fn view_of(write: Option<u8>) -> MendingView {
+    match write {
+        Some(change) => MendingView::Text(change),
+        None => MendingView::List,
+    }
+}
+
+/// Shows what makes the set of a file accepted.
 fn mend_file<'a, R: Files + AllocGlobal, W: Write>(
     rt: &R,
     set: &'a str,
-    write: Option<u8>,
+    view: MendingView,
     hints: &mut Hints,
     writer: &mut W,
 ) -> Result<u8, Fault<'a>> {
     let read = text_of(rt, set)?;
     let text = read.as_slice();
-    let done = mend_set(rt.alloc(), text, write, writer);
+    let done = mend_set(rt.alloc(), text, view, writer);
     hints.note_set(rt.alloc(), Named::new(set, text), &done);
     done
 }

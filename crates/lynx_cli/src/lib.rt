@@ -6,7 +6,7 @@ pub use fault::Fault;
 pub use hints::Hints;
 pub use input::split_input;
 pub use jobs::do_job;
-pub use mending::mend_set;
+pub use mending::{MendingView, mend_set};
 pub use source::{InputFault, MAX_FILE_BYTES, MAX_INPUT_BYTES, read_all};
 pub use texts::{chart_script, check_set, draw_set, run_input, run_script, sample_set};
 

@@ -1,15 +1,17 @@
-//! What makes the set of a text accepted: changes in words, or the text with one of them.
+//! What makes the set of a text accepted: changes in words, or the text or the picture with one of
+//! them.
 ghost use Rattle.std.specs.Prelude.{◌≡◌, ◌≤◌, true, false, ℕ, List, IfOk, IfErr, IfSome, IfNone, OnErr, codes, length};
 ghost use Rattle.std.specs.Io.KnownBytes.{Appends, Keeps};
 ghost use Rattle.lynx_graph.specs.Acceptance.{IsAccepted};
 ghost use Rattle.lynx_lex.specs.Lines.{with_feed};
 ghost use Rattle.lynx_report.specs.Drawings.{NoPictureFor};
 ghost use Rattle.lynx_set.specs.Rules.{IsSet};
-ghost use Rattle.lynx_cli.specs.Mendings.{AreProposals, BeginsMending, HasMended, IsMendedText, IsProposal, IsProposed, Mends, MendsText, OffendsText, StopsMending};
+ghost use Rattle.lynx_cli.specs.Mendings.{AreProposals, BeginsMending, HasMended, IsChanged, IsMendedPicture, IsMendedText, IsProposal, IsProposed, Mends, MendsText, OffendsText, ShowsChange, StopsMending};
 
 use crate::fault::Fault;
 use crate::texts::DONE;
 use lynx_check::{Verdict, check};
+use lynx_draw::{Extent, draw_changed};
 use lynx_mend::{Change, Mending, mend, put_mending};
 use lynx_names::Memory;
 use lynx_reasons::mends;
@@ -24,20 +26,30 @@ use std::io::Write;
 const SEE_MEND: &str =
     "  see lynx mend: it tells changes each of which makes the set accepted, the smallest first\n";
 
-/// Writes what makes the set of a text accepted, the smallest change first; or the text of the set
-/// with the change of that number.
+/// What is shown of that which makes a set accepted.
+#[derive(Clone, Copy, Debug, PartialEq, Eq)]
+pub enum MendingView {
+    /// The changes in words, the smallest first.
+    List,
+    /// The text of the set with the change of that number.
+    Text(u8),
+    /// The picture of the set with the change of that number, or of some of its programs alone.
+    Picture { change: u8, shown: Extent },
+}
+
+/// Writes what makes the set of a text accepted, as it is to be shown.
 pub fn mend_set<'a, W: Write>(
     alloc: Global,
     text: &[u8],
-    write: Option<u8>,
+    view: MendingView,
     writer: &mut W,
 ) -> Result<u8, Fault<'a>>
-    ensures ok { IfOk result (HasMended write text.now (W.contents writer.old)
+    ensures ok { IfOk result (HasMended view text.now (W.contents writer.old)
         (W.contents writer.new)) }
-    ensures err { IfErr result (StopsMending write text.now (W.contents writer.old)
+    ensures err { IfErr result (StopsMending view text.now (W.contents writer.old)
         (W.contents writer.new)) }
 {
-    match write_mended(alloc, text, write, writer) {
+    match write_mended(alloc, text, view, writer) {
         Ok(true) => Ok(DONE),
         Ok(false) => Err(Fault::NoMending),
         Err(fault) => Err(Fault::of_run(fault)),
@@ -48,21 +60,21 @@ pub fn mend_set<'a, W: Write>(
 fn write_mended<W: Write>(
     alloc: Global,
     text: &[u8],
-    write: Option<u8>,
+    view: MendingView,
     writer: &mut W,
 ) -> Result<bool, RunFault>
     ensures yes { IfOk result (λ found. found ≡ true → (printed : List ℕ)
-        × MendsText write text.now printed
+        × MendsText view text.now printed
         × Appends (W.contents writer.old) (W.contents writer.new) printed) }
     ensures no { IfOk result (λ found. found ≡ false → OffendsText text.now
         × Keeps (W.contents writer.old) (W.contents writer.new)) }
-    ensures part { OnErr result (BeginsMending write text.now (W.contents writer.old)
+    ensures part { OnErr result (BeginsMending view text.now (W.contents writer.old)
         (W.contents writer.new)) }
     ensures err { IfErr result (λ fault. NoPictureFor text.now (Keeps (W.contents writer.old)
         (W.contents writer.new)) fault) }
 {
     let set = read_set(alloc, text)?;
-    match mended(alloc, &set, write)? {
+    match mended(alloc, &set, view)? {
         Some(bytes) => {
             write_bytes(writer, bytes.as_slice())?;
             Ok(true)
@@ -72,15 +84,15 @@ fn write_mended<W: Write>(
 }
 
 /// What is to be written of a set. None where no mending was found.
-fn mended(alloc: Global, set: &ChainSet, write: Option<u8>) -> Result<Option<Vec<u8>>, Memory>
+fn mended(alloc: Global, set: &ChainSet, view: MendingView) -> Result<Option<Vec<u8>>, Memory>
     requires { IsSet set.now }
-    ensures some { IfOk result (λ found. IfSome found (λ bytes. Mends write set.now bytes.items)) }
+    ensures some { IfOk result (λ found. IfSome found (λ bytes. Mends view set.now bytes.items)) }
     ensures none { IfOk result (λ found. IfNone found (¬ IsAccepted set.now)) }
 {
     if is_accepted(alloc, set)? {
-        Ok(Some(of_accepted(alloc, set, write)?))
+        Ok(Some(of_accepted(alloc, set, view)?))
     } else {
-        of_offending(alloc, set, write)
+        of_offending(alloc, set, view)
     }
 }
 
@@ -96,14 +108,15 @@ fn is_accepted(alloc: Global, set: &ChainSet) -> Result<bool, Memory>
 }
 
 /// What is written of an accepted set.
-fn of_accepted(alloc: Global, set: &ChainSet, write: Option<u8>) -> Result<Vec<u8>, Memory>
+fn of_accepted(alloc: Global, set: &ChainSet, view: MendingView) -> Result<Vec<u8>, Memory>
     requires legal { IsSet set.now }
     requires accepted { IsAccepted set.now }
-    ensures { IfOk result (λ bytes. Mends write set.now bytes.items) }
+    ensures { IfOk result (λ bytes. Mends view set.now bytes.items) }
 {
-    match write {
-        Some(_) => print(alloc, set),
-        None => nothing_to_mend(alloc),
+    match view {
+        MendingView::List => nothing_to_mend(alloc),
+        MendingView::Text(_) => print(alloc, set),
+        MendingView::Picture { shown, .. } => picture(alloc, set, set, shown),
     }
 }
 
@@ -116,26 +129,63 @@ fn nothing_to_mend(alloc: Global) -> Result<Vec<u8>, Memory>
 }
 
 /// What is written of a set that offends. None where no mending was found.
-fn of_offending(alloc: Global, set: &ChainSet, write: Option<u8>) -> Result<Option<Vec<u8>>, Memory>
+fn of_offending(alloc: Global, set: &ChainSet, view: MendingView) -> Result<Option<Vec<u8>>, Memory>
     requires { ¬ IsAccepted set.now }
-    ensures { IfOk result (λ found. IfSome found (λ bytes. Mends write set.now bytes.items)) }
+    ensures { IfOk result (λ found. IfSome found (λ bytes. Mends view set.now bytes.items)) }
 {
-    match write {
-        Some(number) => with_change(alloc, set, number),
-        None => proposals(alloc, set),
+    match view {
+        MendingView::List => proposals(alloc, set),
+        MendingView::Text(change) => with_change(alloc, set, change, None),
+        MendingView::Picture { change, shown } => with_change(alloc, set, change, Some(shown)),
     }
 }
 
-/// The text of a set that offends, with the change of that number. None where there are fewer.
-fn with_change(alloc: Global, set: &ChainSet, number: u8) -> Result<Option<Vec<u8>>, Memory>
+/// The text of a set that offends with the change of that number, or the picture where one is asked
+/// for. None where there are fewer changes.
+fn with_change(
+    alloc: Global,
+    set: &ChainSet,
+    change: u8,
+    shown: Option<Extent>,
+) -> Result<Option<Vec<u8>>, Memory>
     requires { ¬ IsAccepted set.now }
-    ensures { IfOk result (λ found. IfSome found (λ bytes. IsMendedText set.now bytes.items)) }
+    ensures { IfOk result (λ found. IfSome found (λ bytes. ShowsChange shown set.now bytes.items)) }
 {
     let found = mend(alloc, set)?;
-    match found.as_slice().get(usize::from(number.saturating_sub(1))) {
-        Some(mending) => Ok(Some(print(alloc, mending.set())?)),
+    match found.as_slice().get(usize::from(change.saturating_sub(1))) {
+        Some(mending) => Ok(Some(changed(alloc, set, mending.set(), shown)?)),
         None => Ok(None),
     }
+}
+
+/// The text of a changed set, or its picture.
+fn changed(
+    alloc: Global,
+    before: &ChainSet,
+    set: &ChainSet,
+    shown: Option<Extent>,
+) -> Result<Vec<u8>, Memory>
+    requires { IsChanged before.now set.now }
+    ensures { IfOk result (λ bytes. ShowsChange shown before.now bytes.items) }
+{
+    match shown {
+        Some(shown) => picture(alloc, before, set, shown),
+        None => print(alloc, set),
+    }
+}
+
+/// The picture of a changed set.
+fn picture(
+    alloc: Global,
+    before: &ChainSet,
+    set: &ChainSet,
+    shown: Extent,
+) -> Result<Vec<u8>, Memory>
+    requires { IsChanged before.now set.now }
+    ensures { IfOk result (λ bytes. IsMendedPicture shown before.now bytes.items) }
+{
+    let verdict = check(alloc, set)?;
+    draw_changed(alloc, before, set, &verdict, shown)
 }
 
 /// What makes a set accepted that offends, in words. None where nothing was found.

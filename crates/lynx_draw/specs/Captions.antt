@@ -21,6 +21,11 @@ unfoldable pub offending_text : List ℕ
 offending_text =
     codes "  label=\"offending: by the red steps in their order, each chain may come before the next, all the way round.\\l"
 
+-- what is said of the marks of a changed set
+unfoldable pub changed_text : List ℕ
+changed_text =
+    codes "Thick frames stand around changed hops.\\l"
+
 -- how the picture is read
 unfoldable pub legend_text : List ℕ
 legend_text =
@@ -80,3 +85,8 @@ pair_words =
 unfoldable pub unseen_end : List ℕ
 unseen_end =
     codes " [style=invis];\n"
+
+-- the end of the line that draws a thick frame around a hop
+unfoldable pub mark_end : List ℕ
+mark_end =
+    codes " [penwidth=3];\n"

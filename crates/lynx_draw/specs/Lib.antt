@@ -12,3 +12,5 @@ pub mod Lines
 pub mod Picture
 pub mod Shown
 pub mod Parts
+pub mod Changes
+pub mod Marks

@@ -1,7 +1,7 @@
 //! The texts of a picture that are the same in each.
 
 ghost use Rattle.std.specs.Prelude.{◌≡◌};
-ghost use Rattle.lynx_draw.specs.Captions.{accepted_text, begin_words, box_start, conflict_style, excused_style, excused_text, head_text, label_start, late_label, late_text, legend_text, offending_text, pair_words, thick_frame, unseen_end, walk_style};
+ghost use Rattle.lynx_draw.specs.Captions.{accepted_text, begin_words, box_start, changed_text, conflict_style, excused_style, excused_text, head_text, label_start, late_label, late_text, legend_text, mark_end, offending_text, pair_words, thick_frame, unseen_end, walk_style};
 
 /// How all of it is drawn.
 #[tactic(auto, unfolding(crate::specs::Captions::head_text))]
@@ -33,6 +33,14 @@ pub(crate) fn offending_text() -> &'static [u8]
     ensures { result.now ≡ offending_text }
 {
     b"  label=\"offending: by the red steps in their order, each chain may come before the next, all the way round.\\l"
+}
+
+/// What is said of the marks of a changed set.
+#[tactic(auto, unfolding(crate::specs::Captions::changed_text))]
+pub(crate) fn changed_text() -> &'static [u8]
+    ensures { result.now ≡ changed_text }
+{
+    b"Thick frames stand around changed hops.\\l"
 }
 
 /// How the picture is read.
@@ -129,4 +137,12 @@ pub(crate) fn unseen_end() -> &'static [u8]
     ensures { result.now ≡ unseen_end }
 {
     b" [style=invis];\n"
+}
+
+/// The end of the line that draws a thick frame around a hop.
+#[tactic(auto, unfolding(crate::specs::Captions::mark_end))]
+pub(crate) fn mark_end() -> &'static [u8]
+    ensures { result.now ≡ mark_end }
+{
+    b" [penwidth=3];\n"
 }

@@ -2,15 +2,17 @@
 #![tactic(auto)]
 
 pub use colours::colour_at;
-pub use picture::draw;
+pub use picture::{draw, draw_changed};
 pub use shown::Extent;
 
 mod boxes;
 mod captions;
+mod changes;
 mod clusters;
 pub mod colours;
 mod late;
 mod lines;
+mod marks;
 mod nodes;
 mod parts;
 pub mod picture;

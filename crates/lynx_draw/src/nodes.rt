@@ -33,7 +33,7 @@ fn put_action(
 
 /// Writes the actions, the first binding one of which binds the name at that place, and answers the
 /// next place.
-fn put_actions(
+pub(crate) fn put_actions(
     alloc: Global,
     out: &mut Vec<u8>,
     tables: &[Name],

@@ -1,4 +1,4 @@
--- What is read of a running server by whoever has no session: its cells at one moment.
+-- A reader without a session gets cells of one server, all of one moment.
 use Rattle.std.specs.Prelude.{◌≡◌, ℕ, take}
 use Rattle.lynx_cells.specs.Ranges.{cells_between}
 use Rattle.lynx_cluster.specs.declared.reading.CellsRead.{CellsRead}

@@ -1,4 +1,4 @@
-//! Where a request is recorded, for whoever has no session.
+//! Looks up the entries that record a client's request. The caller needs no session.
 ghost use Rattle.std.specs.Prelude.{◌≡◌, ◌++◌, IfOk, IfSome, OnOk};
 ghost use Rattle.lynx_cluster.specs.Records.{AreRecords, IsBeginning, recorded_at};
 ghost use Rattle.lynx_entry.specs.Entry.{History};

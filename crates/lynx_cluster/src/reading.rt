@@ -1,5 +1,4 @@
-//! What is read of a running cluster by whoever has no session: cells of one server, all of one
-//! moment.
+//! Reads cells of one server, all of one moment. The caller needs no session.
 ghost use Rattle.std.specs.Prelude.{◌≡◌, ◌≤◌, IfOk, IfSome};
 ghost use Rattle.lynx_cluster.specs.Readings.{IsRead, ReadsHistory};
 ghost use Rattle.lynx_resting.specs.Resting.{settled_front};

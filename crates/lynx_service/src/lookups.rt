@@ -1,4 +1,4 @@
-//! What is looked up of what a service did, for whoever watches it.
+//! Answers look-ups of cells, requests and chains.
 ghost use Rattle.std.specs.Prelude.{◌≡◌, IfOk};
 ghost use Rattle.lynx_service.specs.Lookups.{FindsCells};
 

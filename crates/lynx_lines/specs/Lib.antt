@@ -1,4 +1,5 @@
 pub mod Printed
+pub mod Full
 pub mod Scripts
 pub mod Written
 pub mod inner

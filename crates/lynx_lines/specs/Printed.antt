@@ -26,11 +26,19 @@ values_text (value ∷ values) = decimal value ++ spaced values
 abbrev pub again_text : Bool → List ℕ
 again_text again = if again then codes " again" else []
 
+-- a chain that began
+abbrev pub begun_text : ChainId → ℕ → List ℕ → List ℕ
+begun_text chain stamp results =
+    codes "begun " ++ chain_text chain ++ codes " stamp " ++ decimal stamp ++ codes " results "
+    ++ values_text results
+
+-- a request that the need of that number refused
+abbrev pub refused_text : ℕ → ℕ → List ℕ
+refused_text need stamp = codes "refused " ++ decimal need ++ codes " stamp " ++ decimal stamp
+
 -- what a begin is answered
 abbrev pub answer_text : Answer → List ℕ
-answer_text (Begun chain stamp results again) =
-    codes "begun " ++ chain_text chain ++ codes " stamp " ++ decimal stamp ++ codes " results "
-    ++ values_text results ++ again_text again
+answer_text (Begun chain stamp results again) = begun_text chain stamp results ++ again_text again
 answer_text Clash = codes "clash"
 answer_text UnknownProgram = codes "unknown-program"
 answer_text WrongOrigin = codes "wrong-origin"
@@ -39,8 +47,7 @@ answer_text OutsideRange = codes "outside-range"
 answer_text WrongShard = codes "wrong-shard"
 answer_text Full = codes "full"
 answer_text Busy = codes "busy"
-answer_text (Refused need stamp again) =
-    codes "refused " ++ decimal need ++ codes " stamp " ++ decimal stamp ++ again_text again
+answer_text (Refused need stamp again) = refused_text need stamp ++ again_text again
 answer_text Stopped = codes "stopped"
 answer_text Memory = []
 
@@ -53,11 +60,16 @@ next_text None = codes " end"
 abbrev pub hop_text : List ℕ → ChainId → ℕ → List ℕ
 hop_text word chain hop = word ++ 32 ∷ chain_text chain ++ 32 ∷ decimal hop
 
--- a hop that ran
+-- a hop that ran, with a word before it
+abbrev pub hop_done_text : List ℕ → ChainId → ℕ → ℕ → List ℕ → List ℕ
+hop_done_text word chain hop stamp results =
+    hop_text word chain hop ++ codes " stamp " ++ decimal stamp ++ codes " results "
+    ++ values_text results
+
+-- the same, and where its chain goes on
 abbrev pub ran_text : List ℕ → ChainId → ℕ → ℕ → List ℕ → Option Message → List ℕ
 ran_text word chain hop stamp results next =
-    hop_text word chain hop ++ codes " stamp " ++ decimal stamp ++ codes " results "
-    ++ values_text results ++ next_text next
+    hop_done_text word chain hop stamp results ++ next_text next
 
 -- what a delivery is answered
 abbrev pub delivered_text : ChainId → ℕ → Delivered → List ℕ
@@ -91,11 +103,7 @@ chains_text (chain ∷ chains) = flat_map (λ one. 32 ∷ chain_text one) (chain
 
 -- what a server kept
 abbrev pub entry_text : Entry → List ℕ
-entry_text (BegunOnce begun) =
-    codes "begun " ++ chain_text begun.chain ++ codes " stamp " ++ decimal begun.stamp
-    ++ codes " results " ++ values_text begun.results
-entry_text (RefusedOnce refused) =
-    codes "refused " ++ decimal refused.need ++ codes " stamp " ++ decimal refused.stamp
+entry_text (BegunOnce begun) = begun_text begun.chain begun.stamp begun.results
+entry_text (RefusedOnce refused) = refused_text refused.need refused.stamp
 entry_text (Hop ran) =
-    hop_text (codes "hop") ran.message.chain ran.message.hop ++ codes " stamp " ++ decimal ran.stamp
-    ++ codes " results " ++ values_text ran.results
+    hop_done_text (codes "hop") ran.message.chain ran.message.hop ran.stamp ran.results

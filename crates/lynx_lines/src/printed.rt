@@ -4,11 +4,11 @@ ghost use Rattle.std.specs.String.{string_bytes};
 ghost use Rattle.std.specs.Fmt.{decimal};
 ghost use Rattle.std.specs.List.{flat_map};
 ghost use Rattle.lynx_names.specs.Chain.{chain_text};
-ghost use Rattle.lynx_lines.specs.Printed.{spaced, values_text, again_text, answer_text, chains_text, next_text, hop_text, ran_text, delivered_text, outcome_text, entry_text};
+ghost use Rattle.lynx_lines.specs.Printed.{spaced, values_text, again_text, answer_text, begun_text, chains_text, next_text, hop_done_text, hop_text, refused_text, delivered_text, outcome_text, entry_text};
 ghost use Rattle.lynx_lex.specs.Lines.{with_feed};
 
 use lynx_entry::{Answer, Delivered, Entry, Message, Outcome};
-use lynx_names::ChainId;
+use lynx_names::{ChainId, Stamp};
 use std::alloc::{AllocError, Global};
 use std::fmt::Write;
 
@@ -45,6 +45,28 @@ fn push_again(text: &mut String, again: bool) -> Result<(), AllocError>
     Ok(())
 }
 
+/// A chain that began.
+pub fn push_begun(
+    text: &mut String,
+    chain: &ChainId,
+    stamp: Stamp,
+    results: &[u64],
+) -> Result<(), AllocError>
+    ensures { OnOk result (string_bytes text.new ≡ string_bytes text.old
+        ++ begun_text chain.now stamp results.now) }
+{
+    write!(text, "begun {chain} stamp {stamp} results ")?;
+    push_values(text, results)
+}
+
+/// A request that the need of that number refused.
+pub fn push_refused(text: &mut String, need: u8, stamp: Stamp) -> Result<(), AllocError>
+    ensures { OnOk result (string_bytes text.new ≡ string_bytes text.old
+        ++ refused_text need stamp) }
+{
+    write!(text, "refused {need} stamp {stamp}")
+}
+
 /// What a begin is answered.
 fn push_answer(text: &mut String, answer: &Answer) -> Result<(), AllocError>
     ensures { OnOk result (string_bytes text.new ≡ string_bytes text.old
@@ -57,8 +79,7 @@ fn push_answer(text: &mut String, answer: &Answer) -> Result<(), AllocError>
             results,
             again,
         } => {
-            write!(text, "begun {chain} stamp {stamp} results ")?;
-            push_values(text, results.as_slice())?;
+            push_begun(text, chain, *stamp, results.as_slice())?;
             push_again(text, *again)
         }
         Answer::Clash => text.push_str("clash"),
@@ -70,7 +91,7 @@ fn push_answer(text: &mut String, answer: &Answer) -> Result<(), AllocError>
         Answer::Full => text.push_str("full"),
         Answer::Busy => text.push_str("busy"),
         Answer::Refused { need, stamp, again } => {
-            write!(text, "refused {need} stamp {stamp}")?;
+            push_refused(text, *need, *stamp)?;
             push_again(text, *again)
         }
         Answer::Stopped => text.push_str("stopped"),
@@ -92,11 +113,28 @@ fn push_next(text: &mut String, next: &Option<Message>) -> Result<(), AllocError
 }
 
 /// A hop of a chain, with a word before it.
-fn push_hop(text: &mut String, word: &str, chain: &ChainId, hop: u8) -> Result<(), AllocError>
+pub fn push_hop(text: &mut String, word: &str, chain: &ChainId, hop: u8) -> Result<(), AllocError>
     ensures { OnOk result (string_bytes text.new ≡ string_bytes text.old
         ++ hop_text word.now chain.now hop) }
 {
     write!(text, "{word} {chain} {hop}")
+}
+
+/// A hop that ran, with a word before it.
+pub fn push_hop_done(
+    text: &mut String,
+    word: &str,
+    chain: &ChainId,
+    hop: u8,
+    stamp: Stamp,
+    results: &[u64],
+) -> Result<(), AllocError>
+    ensures { OnOk result (string_bytes text.new ≡ string_bytes text.old
+        ++ hop_done_text word.now chain.now hop stamp results.now) }
+{
+    push_hop(text, word, chain, hop)?;
+    write!(text, " stamp {stamp} results ")?;
+    push_values(text, results)
 }
 
 /// What a delivery is answered.
@@ -115,9 +153,7 @@ fn push_delivered(
             results,
             next,
         } => {
-            push_hop(text, "done", chain, hop)?;
-            write!(text, " stamp {stamp} results ")?;
-            push_values(text, results.as_slice())?;
+            push_hop_done(text, "done", chain, hop, *stamp, results.as_slice())?;
             push_next(text, next)
         }
         Delivered::Repeat {
@@ -125,9 +161,7 @@ fn push_delivered(
             results,
             next,
         } => {
-            push_hop(text, "repeat", chain, hop)?;
-            write!(text, " stamp {stamp} results ")?;
-            push_values(text, results.as_slice())?;
+            push_hop_done(text, "repeat", chain, hop, *stamp, results.as_slice())?;
             push_next(text, next)
         }
         Delivered::Held => push_hop(text, "held", chain, hop),
@@ -176,24 +210,17 @@ pub fn outcome_line(alloc: Global, outcome: &Outcome) -> Result<String, AllocErr
 }
 
 /// What a server kept, without its LF.
-fn push_entry(text: &mut String, entry: &Entry) -> Result<(), AllocError>
+pub fn push_entry(text: &mut String, entry: &Entry) -> Result<(), AllocError>
     ensures { OnOk result (string_bytes text.new ≡ string_bytes text.old ++ entry_text entry.now) }
 {
     match entry {
         Entry::Begun(begun) => {
-            let (chain, stamp) = (&begun.chain, begun.stamp);
-            write!(text, "begun {chain} stamp {stamp} results ")?;
-            push_values(text, begun.results.as_slice())
+            push_begun(text, &begun.chain, begun.stamp, begun.results.as_slice())
         }
-        Entry::Refused(refused) => {
-            let (need, stamp) = (refused.need, refused.stamp);
-            write!(text, "refused {need} stamp {stamp}")
-        }
+        Entry::Refused(refused) => push_refused(text, refused.need, refused.stamp),
         Entry::Hop(ran) => {
-            push_hop(text, "hop", &ran.message.chain, ran.message.hop)?;
-            let stamp = ran.stamp;
-            write!(text, " stamp {stamp} results ")?;
-            push_values(text, ran.results.as_slice())
+            let Message { chain, hop, .. } = &ran.message;
+            push_hop_done(text, "hop", chain, *hop, ran.stamp, ran.results.as_slice())
         }
     }
 }

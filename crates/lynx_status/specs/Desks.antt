@@ -14,6 +14,7 @@ use Rattle.lynx_status.specs.Commands.{ObeysCommand, command_in, command_refused
 use Rattle.lynx_status.specs.Lookups.{LooksUp, allowed}
 use Rattle.lynx_status.specs.Questions.{has_origin, host_of, method_of, target_of, wanted_of}
 use Rattle.lynx_status.specs.Replies.{Replies, fields_for}
+use Rattle.lynx_status.specs.Shapes.{shape_of}
 use Rattle.lynx_status.specs.Watching.{Finds, Obeys, Reads, Records, Tells, Traces}
 
 -- memory is wanting: it says so, or says nothing but the status
@@ -33,7 +34,7 @@ abbrev pub LookedUp : {W : Type 0} → Reads W → Records W → Traces W → W 
     → W → Type 0
 LookedUp reads records traces old request reply new =
     (wanted : Result Wanted Refusal) × (wanted_of request ≡ Some wanted)
-    × LooksUp reads records traces old
+    × LooksUp reads records traces old (shape_of request)
     (allowed (refused_by (method_of request) (host_of request)) wanted) reply new
 
 -- it looks up nothing, and what it asks for is answered, or refused

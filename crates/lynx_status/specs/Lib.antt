@@ -19,5 +19,8 @@ pub mod SetHash
 pub mod Wanted
 pub mod Cells
 pub mod Records
+pub mod Shapes
+pub mod CellLines
+pub mod RecordLines
 pub mod Lookups
 pub mod Watching

@@ -86,7 +86,7 @@ fn put_next(text: &mut String, next: Option<u64>) -> Result<(), AllocError>
 }
 
 /// What the cell of a key holds among these.
-fn value_of(key: u64, cells: &[(u64, u64)]) -> u64
+pub(crate) fn value_of(key: u64, cells: &[(u64, u64)]) -> u64
     ensures { result ≡ value_of key cells.now }
 {
     for cell in cells {

@@ -7,6 +7,7 @@ use crate::commanding::{command_of, obey, refusal_of};
 use crate::lookups::look_up;
 use crate::question::{allowed, question_of, wanted_of};
 use crate::reply::{Content, Reply, fill};
+use crate::shapes::shape_of;
 use crate::watched::Watched;
 use bytes::Bytes;
 use http::{Request, StatusCode};
@@ -58,7 +59,10 @@ impl<W: Watched> StatusDesk<W> {
         ensures version { self.new.version.now ≡ self.old.version.now }
     {
         match wanted_of(request) {
-            Some(wanted) => look_up(self.alloc, &mut self.watched, allowed(request, wanted)),
+            Some(wanted) => {
+                let wanted = allowed(request, wanted);
+                look_up(self.alloc, &mut self.watched, shape_of(request), wanted)
+            }
             None => {
                 let question = question_of(request);
                 reply_to(self.alloc, &mut self.watched, self.version, question)

@@ -20,12 +20,14 @@ pub use recent::{RecentEntry, RecentKind};
 pub use records::{
     ChainRecord, RecordFigures, RecordOutcome, RecordsFound, chain_record_json, request_json,
 };
+pub use shapes::Shape;
 pub use wanted::{CellRange, Wanted};
 pub use watched::Watched;
 
 mod answering;
 pub mod asking;
 pub mod begins;
+mod cell_lines;
 pub mod cells;
 pub mod chain;
 mod chart;
@@ -48,9 +50,11 @@ mod parted;
 mod paths;
 mod question;
 pub mod recent;
+mod record_lines;
 pub mod records;
 mod reply;
 mod script;
+pub mod shapes;
 mod style;
 mod tables;
 mod timing;

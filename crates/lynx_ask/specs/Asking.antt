@@ -1,6 +1,7 @@
 -- What a line asks, and what a client sends.
-use Rattle.std.specs.Prelude.{◌≡◌, ◌<◌, ℕ, Bool, Option, List, [], ◌∷◌, ◌++◌, length, true, false, codes}
+use Rattle.std.specs.Prelude.{◌≡◌, ◌<◌, ◌==◌, ◌&&◌, ℕ, Bool, Option, List, [], ◌∷◌, ◌++◌, length, true, false, codes, nat_lt, option_map, slice_get, unwrap_or}
 use Rattle.std.specs.Io.KnownBytes.{Appends}
+use Rattle.std.specs.List.{list_any}
 use Rattle.lynx_codec.specs.Form.{form}
 use Rattle.lynx_codec.specs.declared.item.Item.{Item}
 use Rattle.lynx_codec.specs.declared.item.Item.TheVariants.{Request, Look, Quit, Shut}
@@ -13,6 +14,7 @@ use Rattle.lynx_names.specs.declared.chain.ChainId.{ChainId}
 use Rattle.lynx_names.specs.declared.limits.TheConstants.{MAX_PARAMETERS}
 use Rattle.lynx_lines.specs.Scripts.{script_of}
 use Rattle.lynx_set.specs.Set.{Set}
+use Rattle.lynx_set.specs.declared.program.Program.{Program}
 use Rattle.lynx_ask.specs.declared.reading.Asked.{Asked}
 use Rattle.lynx_ask.specs.declared.reading.Asked.TheVariants as asks
 
@@ -72,10 +74,20 @@ item_of (asks.Look chain hop waits) = Look (record { chain = chain; hop = hop })
 item_of asks.Quit = Quit
 item_of asks.Shut = Shut
 
--- whether it is asked until a hop is done
-abbrev pub waits_in : Asked → Bool
-waits_in (asks.Look chain hop waits) = waits
-waits_in other = false
+-- a program that begins at that server and has that hop
+abbrev pub has_hop_from : ℕ → ℕ → List ℕ × Program → Bool
+has_hop_from origin hop named =
+    unwrap_or (option_map (λ first. first.server == origin) (slice_get named.1.hops 0)) false
+    && nat_lt hop (length named.1.hops)
+
+-- a chain that began there may do that hop
+abbrev pub may_run : Set → ChainId → ℕ → Bool
+may_run set chain hop = list_any (has_hop_from chain.origin hop) set.programs
+
+-- whether it is asked until a hop is done: where it says so, and a chain may do it
+abbrev pub waits_in : Set → Asked → Bool
+waits_in set (asks.Look chain hop waits) = waits && may_run set chain hop
+waits_in set other = false
 
 -- a begin with more arguments than any program has parameters, which has no byte form
 abbrev pub IsTooLong : Asked → FaultKind → Type 0
@@ -88,7 +100,7 @@ pub record Sends (set : Set) (line : List ℕ) (item : Item) (waits : Bool) : Ty
   pub asked : Asked
   pub asks_it : IsAskedBy set line asked
   pub item_is : item ≡ item_of asked
-  pub waits_is : waits ≡ waits_in asked
+  pub waits_is : waits ≡ waits_in set asked
 
 -- The bytes were sent right behind all that was sent before: with nothing between them, the stream
 -- held them.

@@ -3,10 +3,12 @@
 #![tactic(auto)]
 
 pub use fault::AskFault;
+pub use lookup::{Lookup, range_in, read_lookup};
 pub use reading::{Asked, read_asked};
 pub use session::{AskSession, LineReply};
 
 mod answering;
 pub mod fault;
+pub mod lookup;
 pub mod reading;
 pub mod session;

@@ -1,8 +1,8 @@
 //! What a line asks.
-ghost use Rattle.std.specs.Prelude.{◌≡◌, ◌++◌, ◌∷◌, [], IfErr, IfOk, IfSome};
+ghost use Rattle.std.specs.Prelude.{ℕ, List, ◌≡◌, ◌++◌, ◌∷◌, [], IfErr, IfOk, IfSome};
 ghost use Rattle.lynx_lines.specs.Scripts.{script_of};
 ghost use Rattle.lynx_codec.specs.Ranges.{IsInRange};
-ghost use Rattle.lynx_ask.specs.Asking.{IsAskedBy, IsBeginOf, IsFromClient, IsLookOf, IsTooLong, Sends, item_of, waits_in, with_wait};
+ghost use Rattle.lynx_ask.specs.Asking.{IsAskedBy, IsBeginOf, IsFromClient, IsLookOf, IsTooLong, Sends, has_hop_from, item_of, may_run, waits_in, with_wait};
 
 use lynx_codec::{Item, Look};
 use lynx_entry::{Event, Request};
@@ -10,8 +10,8 @@ use lynx_lex::lines::first_word;
 use lynx_lex::{FaultKind, WordFault};
 use lynx_lines::parse_script;
 use lynx_names::limits::MAX_PARAMETERS;
-use lynx_names::{ChainId, Memory};
-use lynx_set::ChainSet;
+use lynx_names::{ChainId, Memory, ServerId};
+use lynx_set::{ChainSet, Program};
 use std::alloc::Global;
 
 /// What a line asks for.
@@ -28,12 +28,38 @@ pub enum Asked {
     Shut,
 }
 
+/// Whether it is a program that begins at that server and has that hop.
+fn has_hop_from(origin: ServerId, hop: u8, program: &Program) -> bool
+    ensures { (name : List ℕ) → result ≡ has_hop_from origin hop (name, program.now) }
+{
+    match program.hops.as_slice().first() {
+        Some(first) => first.server == origin && usize::from(hop) < program.hops.len(),
+        None => false,
+    }
+}
+
+/// Whether a chain that began at that server may do that hop.
+fn may_run(set: &ChainSet, chain: &ChainId, hop: u8) -> bool
+    ensures { result ≡ may_run set.now chain.now hop }
+{
+    for (_, program) in set.programs() {
+        if has_hop_from(chain.origin, hop, program) {
+            return true;
+        }
+    }
+    false
+}
+
 impl Asked {
-    /// Whether it is asked until a hop is done.
-    pub fn waits(&self) -> bool
-        ensures { result ≡ waits_in self.now }
+    /// Whether it is asked until a hop is done: where the line says so, and a chain of the set may
+    /// do it.
+    pub fn waits(&self, set: &ChainSet) -> bool
+        ensures { result ≡ waits_in set.now self.now }
     {
-        matches!(self, Asked::Look { waits: true, .. })
+        match self {
+            Asked::Look { chain, hop, waits } => *waits && may_run(set, chain, *hop),
+            _ => false,
+        }
     }
 }
 
@@ -175,6 +201,6 @@ pub(crate) fn read_item(
     ensures asked { IfOk result (λ sent. Sends set.now line.now sent.0 sent.1) }
 {
     let asked = read_asked(alloc, set, line)?;
-    let waits = asked.waits();
+    let waits = asked.waits(set);
     Ok((item_of(asked)?, waits))
 }

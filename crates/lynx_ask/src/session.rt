@@ -55,13 +55,21 @@ impl AskSession {
         }
     }
 
+    /// Counts a line that is asked otherwise: the faults of those behind it tell their numbers.
+    pub fn pass_by(&mut self)
+        ensures { self.new.feed ≡ self.old.feed }
+    {
+        self.lines = self.lines.saturating_add(1);
+    }
+
     /// Asks the service at the other end of the stream what the line asks, which stands without its
     /// LF, and writes the line of the answer: that of a run for a begin, `found stamp S results
     /// LIST` or `absent` for a look, `bye` for `quit` and `shut`. A faulty line leaves the talk as
     /// it was: the next one can be asked. After an error nothing can be.
     ///
     /// A look that waits is asked again and again while the answer is that the hop isn't done, for
-    /// ten seconds, with pauses between; the last answer alone is written.
+    /// ten seconds, with pauses between; the last answer alone is written. One of a hop that no
+    /// program has which begins at that origin is asked once.
     pub fn ask<R: Clock, S: Read + Write, W: Write>(
         &mut self,
         rt: &R,

@@ -1,2 +1,4 @@
 pub mod Listing
 pub mod Upgraded
+pub mod Reads
+pub mod Finds

@@ -125,3 +125,30 @@ refilling_more terms first all place d old new within was asked =
           did first.set first.server all place d old new found.0 within before at_old
           (repeats old new entry found.0 history_lawful before.idle added found.1);
     }
+
+-- it did as much where nothing was added
+pub refilling_still : {K : Type 0} (terms : Terms K) (first : Serving K) (all : History) (place : ℕ) (old new : Serving K) →
+    IsRefilling terms first all place old → RunsOn terms old None old.held new → IsRefilling terms first all place new
+refilling_still terms first all place old new was on =
+    let went = was.goes_on in
+    record {
+      goes_on = record {
+        set_is = on.becomes.set_is ∙ went.set_is;
+        server_is = on.becomes.server_is ∙ went.server_is;
+        runs = on.runs;
+        sound_before = λ sound. went.sound_before (on.sound_before sound);
+      };
+      replayed = λ fresh lawful.
+          let before = was.replayed fresh lawful in
+          record {
+            set_is = on.becomes.set_is ∙ before.set_is;
+            server_is = on.becomes.server_is ∙ before.server_is;
+            history_is = on.becomes.history_is ∙ before.history_is;
+            idle = record {
+              runs = on.runs;
+              held_is = on.becomes.held_is ∙ before.idle.held_is;
+              acknowledged_is = on.becomes.acknowledged_is ∙ before.idle.acknowledged_is;
+            };
+            lawful = before.lawful;
+          };
+    }

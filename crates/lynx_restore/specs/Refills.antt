@@ -4,7 +4,9 @@ use Rattle.lynx_entry.specs.declared.entry.Entry.{Entry}
 use Rattle.lynx_entry.specs.declared.entry.Entry.TheVariants.{Begun, Refused, Hop}
 use Rattle.lynx_entry.specs.declared.message.Message.{Message}
 use Rattle.lynx_entry.specs.Entry.{History}
+use Rattle.lynx_keep.specs.HeldBack.{Holding, held_terms}
 use Rattle.lynx_keep.specs.Kept.{Terms}
+use Rattle.lynx_server.specs.Keeping.{kept_of}
 use Rattle.lynx_server.specs.Serving.{Becomes, Serving, begins_here, delivery_of}
 
 -- it did nothing, and holds nothing
@@ -36,8 +38,15 @@ pub record GoesOn {K : Type 0} (terms : Terms K) (old new : Serving K) : Type 0 
   pub runs : new.is_stopped ≡ false
   pub sound_before : terms.sound new.keeper → terms.sound old.keeper
 
--- The same server, which runs, and whose history is just these entries.
-pub record IsRefilled {K : Type 0} (terms : Terms K) (old : Serving K) (entries : History)
-    (new : Serving K) : Type 0 where
-  pub goes_on : GoesOn terms old new
+-- the keeper under it keeps for good all that the server did, and nothing waits
+pub record HasSettled {K : Type 0} (terms : Terms K) (server : Serving (Holding K)) : Type 0 where
+  pub kept : terms.sound server.keeper.inner
+      → terms.keeps server.keeper.inner (kept_of server.set server.history)
+  pub empty : server.keeper.waiting ≡ []
+
+-- The same server, which runs, whose history is just these entries, and which settled all of them.
+pub record IsRefilled {K : Type 0} (terms : Terms K) (old : Serving (Holding K))
+    (entries : History) (new : Serving (Holding K)) : Type 0 where
+  pub goes_on : GoesOn (held_terms terms) old new
   pub history_is : new.history ≡ entries
+  pub settled : HasSettled terms new

@@ -1,8 +1,9 @@
-//! How much of the histories of servers fits together.
+//! Copies of the histories of servers, and how much of them fits together.
 ghost use Rattle.std.specs.Prelude.{◌≡◌, ◌++◌, ◌∷◌, [], IfOk, OnOk, length};
-ghost use Rattle.lynx_weave.specs.Cuts.{IsCut};
+ghost use Rattle.lynx_weave.specs.Cuts.{IsCut, fronts};
 ghost use Rattle.lynx_weave.specs.Rebuilt.{histories_in};
 ghost use Rattle.lynx_weave.specs.Servers.{histories_of};
+ghost use Rattle.lynx_restore.specs.Restored.{AreWithin};
 
 use crate::fault::RestoreFault;
 use lynx_entry::Entry;
@@ -51,6 +52,24 @@ fn copy_histories<K: Keeper>(
     let mut copied = Vec::new(alloc);
     for server in servers {
         add_history(alloc, &mut copied, server.history())?;
+    }
+    Ok(copied)
+}
+
+/// Copies of so many of the first entries of each of these servers.
+pub(crate) fn copy_fronts<K: Keeper>(
+    alloc: Global,
+    servers: &[Server<K>],
+    counts: &[usize],
+) -> Result<Vec<Vec<Entry>>, Memory>
+    requires many { length counts.now ≡ length servers.now }
+    requires within { AreWithin counts.now (histories_of servers.now) }
+    ensures { IfOk result (λ copied. histories_in copied.items
+        ≡ fronts counts.now (histories_of servers.now)) }
+{
+    let mut copied = Vec::new(alloc);
+    for (number, server) in servers.iter().enumerate() {
+        add_history(alloc, &mut copied, &server.history()[..counts[number]])?;
     }
     Ok(copied)
 }

@@ -8,6 +8,7 @@ pub use refill_fault::RefillFault;
 pub use refilling::refill;
 pub use restored::{Restored, RestoredServer};
 pub use restoring::restore;
+pub use storing::store_histories;
 pub use telling::restored_lines;
 pub use undone::Undone;
 
@@ -18,7 +19,7 @@ pub mod refill_fault;
 pub mod refilling;
 pub mod restored;
 pub mod restoring;
-mod storing;
+pub mod storing;
 mod summing;
 pub mod telling;
 pub mod undone;

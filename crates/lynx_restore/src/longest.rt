@@ -12,7 +12,7 @@ use crate::restored::{Restored, RestoredServer};
 use crate::storing::store_all;
 use crate::summing::sum_up;
 use lynx_entry::Entry;
-use lynx_keep::{Keeper, MemoryKeeper};
+use lynx_keep::{BatchKeeper, MemoryKeeper};
 use lynx_names::{Memory, ServerId};
 use lynx_server::{OpenFault, Server, first_unlawful, rebuild};
 use lynx_set::ChainSet;
@@ -134,8 +134,8 @@ fn sum_up_found(
 /// ever were the server's. So clients may have been answered more than is told.
 ///
 /// It holds the histories in memory a few times over, and takes about four times as long as opening
-/// servers over them, and a commit for each entry.
-pub fn restore_longest<L: Keeper + Drop, S: Stores<L>>(
+/// servers over them, and a commit for each 64 entries of a server.
+pub fn restore_longest<L: BatchKeeper + Drop, S: Stores<L>>(
     alloc: Global,
     set: &ChainSet,
     found: Vec<Vec<Entry>>,

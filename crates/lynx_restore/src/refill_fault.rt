@@ -9,7 +9,7 @@ pub enum RefillFault {
     /// something before.
     #[error("another history")]
     Differs,
-    /// Its keeper failed, and it stopped.
+    /// Its keeper failed, or had no memory to settle what it did, and it stopped.
     #[error("the store failed")]
     Store,
     /// Want of memory.

@@ -8,7 +8,7 @@ use crate::restored::Restored;
 use crate::storing::store_all;
 use crate::summing::sum_up;
 use lynx_cluster::Opened;
-use lynx_keep::Keeper;
+use lynx_keep::{BatchKeeper, Keeper};
 use lynx_set::ChainSet;
 use lynx_store_files::Stores;
 use std::alloc::Global;
@@ -20,8 +20,8 @@ use std::alloc::Global;
 /// set yet, and none is made before it is known what all of them are to have.
 ///
 /// It holds the histories in memory a few times over, and takes about three times as long as
-/// opening servers over the copies, and a commit for each entry.
-pub fn restore<K: Keeper + Drop, L: Keeper + Drop, S: Stores<L>>(
+/// opening servers over the copies, and a commit for each 64 entries of a server.
+pub fn restore<K: Keeper + Drop, L: BatchKeeper + Drop, S: Stores<L>>(
     alloc: Global,
     set: &ChainSet,
     copies: Vec<K>,

@@ -1,8 +1,0 @@
-use Rattle.lynx_weave.specs.Cuts.{fronts}
-use Rattle.lynx_weave.specs.Servers.{histories_of}
-use Rattle.lynx_restore.proofs.Storings.{AreStoredBelow}
-use Rattle.lynx_restore.proofs.storing.store_all.Given as goal
-
--- the servers so far have their stores
-abbrev pub invariant-loop-number : goal.invariant-loop-number
-invariant-loop-number g l = AreStoredBelow g.L.Keeper.terms g.S.Stores.store_terms l.folder l.set l.number (fronts l.counts (histories_of l.servers))

@@ -18,8 +18,9 @@ use lynx_world::World;
 use std::alloc::Global;
 use std::io::Write;
 
-/// The world of what these keepers keep, one for each server of the set.
-pub(crate) fn kept_world<K: Keeper + Drop>(
+/// The world of what these keepers keep, one for each server of the set. The faults are those of
+/// [`crate::audit`].
+pub fn kept_world<K: Keeper + Drop>(
     alloc: Global,
     set: &ChainSet,
     keepers: Vec<K>,

@@ -2,8 +2,8 @@
 //! owed.
 #![tactic(auto)]
 
-pub use auditing::audit;
-pub use owing::list_owed;
+pub use auditing::{audit, kept_world};
+pub use owing::{list_owed, owing_lines};
 
 pub mod auditing;
 mod histories;

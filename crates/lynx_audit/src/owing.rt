@@ -79,8 +79,8 @@ fn put_owing(
     Ok(())
 }
 
-/// A line for each of the hops.
-fn owing_lines(alloc: Global, world: &World, owed: &[OwedHop]) -> Result<Vec<u8>, Memory>
+/// A line for each of the hops, which chains of the world owe: what [`list_owed`] writes.
+pub fn owing_lines(alloc: Global, world: &World, owed: &[OwedHop]) -> Result<Vec<u8>, Memory>
     ensures { IfOk result
         (λ text. text.items ≡ owing_lines world.now.set world.now.list owed.now) }
 {

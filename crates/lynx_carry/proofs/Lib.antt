@@ -1,0 +1,4 @@
+pub mod Numbered
+pub mod Wholes
+pub mod Takes
+pub mod Triples

@@ -33,7 +33,7 @@ calls_length server outcome Calls old new (inl none) = ap length none.2
 calls_length server outcome Calls old new (inr one) = ap length one.others ∙ length-set old server one.after
 
 -- what is written back of a slice that kept its length
-written : {X : Type 0} (len : ℕ) (old new : List X) → length new ≡ length old → length old ≡ len → take len (new ++ drop (length new) old) ≡ new
+pub written : {X : Type 0} (len : ℕ) (old new : List X) → length new ≡ length old → length old ≡ len → take len (new ++ drop (length new) old) ≡ new
 written {X} len old new same many = ap (λ n. take n (new ++ drop (length new) old)) (sym (same ∙ many)) ∙ take-append_seam new (drop (length new) old)
 
 -- the event of a call of one server

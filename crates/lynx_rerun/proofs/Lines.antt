@@ -18,6 +18,7 @@ use Rattle.lynx_rerun.specs.Events.{CallsAt, ComeTo, ComesTo, DeliversSent, sent
 use Rattle.std.specs.Prelude.{IfOk, IsOk, OnOk}
 use Rattle.lynx_lines.specs.Scripts.{IsScript, script_of}
 use Rattle.lynx_report.specs.declared.run.Ending.{Ending}
+use Rattle.lynx_store_files.specs.Closed.{AreClosed}
 use Rattle.lynx_store_files.specs.Terms.{StoreTerms}
 use Rattle.lynx_rerun.specs.Reruns.{AreOpened, EndsAs, Reruns, keepers_of, lines_of}
 
@@ -106,31 +107,33 @@ still_many (Ok done) terms set events opened last first second keepers slice man
 not_both : false ≡ true → ⊥
 not_both bad = cc
 
--- the lines of the events, and those of the end
-pub run_closed : {K E : Type 0} (ran : Result (Unit {0}) E) (terms : Terms K) (set : Set) (events : List Event) (opened last : List (Serving K)) (owed : Bool) (ending : Ending) (first second third : Option (List ℕ)) (keepers slice : List K) →
+-- the lines of the events, and those of the end, behind which the stores are closed
+pub run_closed : {K E : Type 0} (ran : Result (Unit {0}) E) (terms : Terms K) (Closed : K → Bool → Type 0) (set : Set) (events : List Event) (opened last : List (Serving K)) (owed : Bool) (ending : Ending) (first second third : Option (List ℕ)) (keepers slice read : List K) →
     IsOk ran → OnOk ran ((outcomes : List Outcome) × ComeTo terms set events outcomes opened last × Appends first second (lines_of outcomes)) →
-    keepers ≡ keepers_of last → slice ≡ keepers → ((printed : List ℕ) × EndsAs terms set owed slice ending printed × Appends second third printed) →
-    (outcomes : List Outcome) × (after : List (Serving K)) × (end_lines : List ℕ) × ComeTo terms set events outcomes opened after × EndsAs terms set owed (keepers_of after) ending end_lines
-    × Appends first third (lines_of outcomes ++ end_lines)
-run_closed (Err fault) terms set events opened last owed ending first second third keepers slice is_ok come keepers_are slice_is end = absurd (not_both is_ok)
-run_closed {K} (Ok done) terms set events opened last owed ending first second third keepers slice is_ok come keepers_are slice_is end = (
+    keepers ≡ keepers_of last → slice ≡ keepers → ((printed : List ℕ) × EndsAs terms set owed slice read ending printed × Appends second third printed) → AreClosed Closed read →
+    (outcomes : List Outcome) × (after : List (Serving K)) × (gone : List K) × (end_lines : List ℕ) × ComeTo terms set events outcomes opened after
+    × EndsAs terms set owed (keepers_of after) gone ending end_lines × AreClosed Closed gone × Appends first third (lines_of outcomes ++ end_lines)
+run_closed (Err fault) terms Closed set events opened last owed ending first second third keepers slice read is_ok come keepers_are slice_is end closed = absurd (not_both is_ok)
+run_closed {K} (Ok done) terms Closed set events opened last owed ending first second third keepers slice read is_ok come keepers_are slice_is end closed = (
   come.0,
   last,
+  read,
   end.0,
   come.1,
-  subst (λ (ks : List K). EndsAs terms set owed ks ending end.0) (slice_is ∙ keepers_are) end.1,
+  subst (λ (ks : List K). EndsAs terms set owed ks read ending end.0) (slice_is ∙ keepers_are) end.1,
+  closed,
   appends_both first second third (lines_of come.0) end.0 come.2 end.2,
 )
 
 -- a whole run over stores
 pub reruns : {K E : Type 0} (r : Result Ending E) (terms : Terms K) (stores : StoreTerms K) (folder : List ℕ) (set : Set) (script : List ℕ) (owed : Bool) (events : List Event) (opened : List (Serving K)) (first third : Option (List ℕ)) →
     IsScript set events × (script ≡ script_of set events) → AreOpened terms stores folder set opened →
-    IfOk r (λ ending. (outcomes : List Outcome) × (last : List (Serving K)) × (end_lines : List ℕ) × ComeTo terms set events outcomes opened last × EndsAs terms set owed (keepers_of last) ending end_lines
-    × Appends first third (lines_of outcomes ++ end_lines)) →
+    IfOk r (λ ending. (outcomes : List Outcome) × (last : List (Serving K)) × (read : List K) × (end_lines : List ℕ) × ComeTo terms set events outcomes opened last
+    × EndsAs terms set owed (keepers_of last) read ending end_lines × AreClosed stores.closed read × Appends first third (lines_of outcomes ++ end_lines)) →
     IfOk r (λ ending. (printed : List ℕ) × Reruns terms stores folder set script owed ending printed × Appends first third printed)
 reruns (Err fault) terms stores folder set script owed events opened first third is_script are_opened ran = tt
 reruns (Ok ending) terms stores folder set script owed events opened first third is_script are_opened ran = (
-  lines_of ran.0 ++ ran.2,
+  lines_of ran.0 ++ ran.3,
   record {
     events = events;
     is_script = is_script.0;
@@ -139,10 +142,12 @@ reruns (Ok ending) terms stores folder set script owed events opened first third
     are_opened = are_opened;
     outcomes = ran.0;
     last = ran.1;
-    come = ran.3;
-    end_lines = ran.2;
-    ends = ran.4;
+    come = ran.4;
+    read = ran.2;
+    end_lines = ran.3;
+    ends = ran.5;
+    let_go = ran.6;
     lines = refl;
   },
-  ran.5,
+  ran.7,
 )

@@ -12,6 +12,7 @@ use Rattle.lynx_report.specs.Options.{EndPrintsWith}
 use Rattle.lynx_report.specs.declared.run.Ending.{Ending}
 use Rattle.lynx_server.specs.Opening.{IsOpened}
 use Rattle.lynx_server.specs.Serving.{Serving}
+use Rattle.lynx_store_files.specs.Closed.{AreClosed}
 use Rattle.lynx_store_files.specs.Folders.{StandIn}
 use Rattle.lynx_store_files.specs.Terms.{StoreTerms}
 use Rattle.lynx_weave.specs.Gathering.{IsGathered}
@@ -46,17 +47,17 @@ keepers_of {K} servers = map (λ (here : Serving K). here.keeper) servers
 abbrev pub lines_of : List Outcome → List ℕ
 lines_of outcomes = flat_map (λ outcome. with_feed (outcome_text outcome)) outcomes
 
--- the last lines are of the world that the keepers keep together
-pub record EndsAs {K : Type 0} (terms : Terms K) (set : Set) (owed : Bool) (keepers : List K)
+-- the last lines are of the world that the keepers keep together, which are these once they were
+-- read
+pub record EndsAs {K : Type 0} (terms : Terms K) (set : Set) (owed : Bool) (keepers read : List K)
     (ending : Ending) (printed : List ℕ) : Type 0 where
-  pub read : List K
   pub world : WorldState
   pub gathered : IsGathered terms set keepers read [] world
   pub end : EndPrintsWith owed world ending printed
 
 -- What a run of a script prints at servers that were opened over their stores in that folder: a
 -- line for each event, of what the server answered that it was for, and the lines of the world that
--- the stores keep then.
+-- the stores keep then. All stores are closed, and that went well.
 pub record Reruns {K : Type 0} (terms : Terms K) (stores : StoreTerms K) (folder : List ℕ)
     (set : Set) (script : List ℕ) (owed : Bool) (ending : Ending)
     (printed : List ℕ) : Type 0 where
@@ -68,6 +69,8 @@ pub record Reruns {K : Type 0} (terms : Terms K) (stores : StoreTerms K) (folder
   pub outcomes : List Outcome
   pub last : List (Serving K)
   pub come : ComeTo terms set events outcomes opened last
+  pub read : List K
   pub end_lines : List ℕ
-  pub ends : EndsAs terms set owed (keepers_of last) ending end_lines
+  pub ends : EndsAs terms set owed (keepers_of last) read ending end_lines
+  pub let_go : AreClosed stores.closed read
   pub lines : printed ≡ lines_of outcomes ++ end_lines

@@ -21,8 +21,9 @@ pub(crate) fn write_end<K: Keeper, W: Write>(
     writer: &mut W,
 ) -> Result<Ending, RerunFault>
     requires { length keepers.old ≡ set.now.servers }
-    ensures { IfOk result (λ ending. (printed : List ℕ)
-        × EndsAs K.terms set.now options.owed keepers.old ending printed
+    ensures many { length keepers.new ≡ length keepers.old }
+    ensures ends { IfOk result (λ ending. (printed : List ℕ)
+        × EndsAs K.terms set.now options.owed keepers.old keepers.new ending printed
         × Appends (W.contents writer.old) (W.contents writer.new) printed) }
 {
     let world = gather(alloc, set, keepers, &[])?;

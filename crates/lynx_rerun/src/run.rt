@@ -3,6 +3,7 @@ ghost use Rattle.std.specs.Prelude.{◌≡◌, ◌++◌, ℕ, List, IfOk, IsOk, 
 ghost use Rattle.std.specs.Io.KnownBytes.{Appends};
 ghost use Rattle.lynx_entry.specs.declared.event.Outcome.{Outcome};
 ghost use Rattle.lynx_server.specs.Serving.{Serving};
+ghost use Rattle.lynx_store_files.specs.Closed.{AreClosed};
 ghost use Rattle.lynx_rerun.specs.Events.{ComeTo};
 ghost use Rattle.lynx_rerun.specs.Reruns.{EndsAs, Reruns, keepers_of, lines_of};
 
@@ -30,9 +31,10 @@ fn end_after<K: Keeper, W: Write>(
     writer: &mut W,
 ) -> Result<Ending, RerunFault>
     requires { OnOk ran (length keepers.old ≡ set.now.servers) }
+    ensures many { length keepers.new ≡ length keepers.old }
     ensures ran { OnOk result (IsOk ran) }
     ensures ends { IfOk result (λ ending. (printed : List ℕ)
-        × EndsAs K.terms set.now options.owed keepers.old ending printed
+        × EndsAs K.terms set.now options.owed keepers.old keepers.new ending printed
         × Appends (W.contents writer.old) (W.contents writer.new) printed) }
 {
     ran?;
@@ -52,8 +54,10 @@ fn run_and_close<K: Keeper + Drop, S: Stores<K>, W: Write>(
 ) -> Result<Ending, RerunFault>
     requires { length servers.items ≡ set.now.servers }
     ensures { IfOk result (λ ending. (outcomes : List Outcome) × (last : List (Serving K))
-        × (end_lines : List ℕ) × ComeTo K.terms set.now events.items outcomes servers.items last
-        × EndsAs K.terms set.now options.owed (keepers_of last) ending end_lines
+        × (read : List K) × (end_lines : List ℕ)
+        × ComeTo K.terms set.now events.items outcomes servers.items last
+        × EndsAs K.terms set.now options.owed (keepers_of last) read ending end_lines
+        × AreClosed S.store_terms.closed read
         × Appends (W.contents writer.old) (W.contents writer.new)
         (lines_of outcomes ++ end_lines)) }
 {

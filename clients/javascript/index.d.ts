@@ -69,6 +69,20 @@ export class OtherSet extends LynxError {
   constructor();
 }
 
+/** The books were closed before the answer came, and the folder leads to the next ones, which have no record of it: it was
+ * done or not, and `lynx find` in the old folder tells. This client never asks for it in other books. */
+export class BooksClosed extends LynxError {
+  constructor(old: bigint, next: bigint, client: bigint, number?: bigint | null, chain?: Chain | null);
+  /** The number of the books that were closed. */
+  readonly old: bigint;
+  /** The number of the books to which the folder leads. */
+  readonly new: bigint;
+  /** The request's client; the request's number is null where a chain was looked for that no begin told. */
+  readonly client: bigint;
+  /** The chain that was looked for, null where a begin was asked for. */
+  readonly chain: Chain | null;
+}
+
 /** The service tells no status, by which cells and requests are read. */
 export class NoStatus extends LynxError {
   constructor();
@@ -76,9 +90,11 @@ export class NoStatus extends LynxError {
 
 /** A chain's name: its origin, and its index among the chains that began there. */
 export class Chain {
-  constructor(origin: number, index: Word);
+  constructor(origin: number, index: Word, books?: Word | null);
   readonly origin: number;
   readonly index: bigint;
+  /** The number of the books that have it, null where that isn't known: others may have another chain of this name. */
+  readonly books: bigint | null;
   /** The chain of a text like `0:7`. */
   static parse(text: string): Chain;
   toString(): string;
@@ -156,9 +172,12 @@ export interface Notice {
   readonly port: number;
   readonly status: number | null;
   readonly setText: string;
+  /** The number of the books. */
+  readonly books: bigint;
 }
 
-/** The port of the service over the stores of the folder, that of its status if it tells one, and its set. */
+/** The port of the service over the stores of the folder, that of its status if it tells one, its set, and the number of the
+ * books. */
 export function serviceOf(folder: string): Promise<Notice>;
 
 /** Whether the set of the text `next` has all that the one of `old` has, under the same numbers. Neither is judged. */
@@ -191,8 +210,11 @@ export class Client {
   static at(folder: string, options?: Options): Promise<Client>;
   /** A client of the service at a port, by the set of the file `setPath` or of the text `setText`. */
   static connect(port: number, options?: PortOptions): Promise<Client>;
-  constructor(options: Options & { port: number; setText: string; status?: number | null; folder?: string | null });
+  constructor(options: Options & { port: number; setText: string; status?: number | null; folder?: string | null;
+    books?: bigint | null });
   readonly client: bigint;
+  /** The number of the books that the folder led to when it was read last, null at a port. */
+  readonly books: bigint | null;
   readonly setText: string;
   readonly programs: Map<string, Program>;
   /** The chains that it began and whose last hop it hasn't seen, by their names, with the number of that hop. */
@@ -200,12 +222,15 @@ export class Client {
   tries: number;
   nextNumber: bigint;
   /** Begins a chain of the program, by its name or its number in the set; other answers are thrown. The last argument may
-   * be `{ number }`. A client with an id of its own and no `first` needs one: it throws a TypeError. */
+   * be `{ number, books }`. A client with an id of its own and no `first` needs a number: it throws a TypeError. `books` are
+   * those in which an earlier process asked under the number: it is asked in no others. */
   begin(program: string | number, ...args: Word[]): Promise<Begun | Refused>;
-  begin(program: string | number, ...args: [...Word[], { number?: Word }]): Promise<Begun | Refused>;
-  /** What that hop of the chain did: Found, or null where it isn't done within `wait` seconds. */
+  begin(program: string | number, ...args: [...Word[], { number?: Word, books?: Word }]): Promise<Begun | Refused>;
+  /** What that hop of the chain did: Found, or null where it isn't done within `wait` seconds. A chain whose books aren't
+   * known is one of the books that the client had last. */
   look(chain: Chain | string, hop: number, options?: { wait?: number }): Promise<Found | null>;
-  /** Whether all chains that it began are done, within so many seconds. */
+  /** Whether all chains that it began are done, within so many seconds. Of chains that were owed when their books were closed
+   * it is BooksClosed, once. */
   settle(seconds?: number): Promise<boolean>;
   /** What a cell of the table holds, 0n where nothing was put: at its server, at one moment, after whole steps. */
   read(table: string, key: Word): Promise<bigint>;

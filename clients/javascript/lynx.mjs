@@ -18,6 +18,9 @@
  * own doesn't count by itself, since each process would count from 1 again: give each begin its number, or the client
  * `first`, the first that is free.
  *
+ * The folder may be a link to that of the books that are served now. A begin whose answer was lost in books that are
+ * closed (`lynx carry`) isn't asked again in the next ones, which have no record of it: it is BooksClosed.
+ *
  * `await Client.connect(7000, { setPath: 'payment.set' })` asks at a port by a set of its own. A request tells a program
  * by its number, so that set is to be the service's, or one that it extends.
  *
@@ -25,7 +28,7 @@
  * Waits are in seconds. Calls of one client may overlap: they are asked one after the other. docs/FORMATS.md has the bytes.
  */
 import { randomBytes } from 'node:crypto';
-import { readFile, stat } from 'node:fs/promises';
+import { lstat, readFile, realpath, stat } from 'node:fs/promises';
 import { Agent, request } from 'node:http';
 import { connect } from 'node:net';
 import { join } from 'node:path';
@@ -105,6 +108,19 @@ export class OtherSet extends LynxError {
   constructor() { super('other-set'); }
 }
 
+/** The books numbered `old` were closed before the answer came, and the folder leads to those numbered `new`, which have no
+ * record of it. `client` and `number` are the request's; of a look for a `chain` there may be no number. It was done or not:
+ * `lynx find` in the old folder tells. This client never asks for it in other books: what wasn't done is begun under a new
+ * number. */
+export class BooksClosed extends LynxError {
+  constructor(old, next, client, number = null, chain = null) {
+    const what = number === null ? `the look for chain ${chain}` : `request ${number} of client ${client}`;
+    super('books-closed', `the books were closed before the answer to ${what} came: \`lynx find\` in the old folder tells what `
+      + 'became of it');
+    Object.assign(this, { old, new: next, client, number, chain });
+  }
+}
+
 /** The service tells no status, by which cells and requests are read: it is served without `--status`, or the client was
  * given a port and no `status`. */
 export class NoStatus extends LynxError {
@@ -114,11 +130,13 @@ export class NoStatus extends LynxError {
 /** A connection that is lost, or on which something came that is no answer. */
 class Broken extends Error {}
 
-/** A chain's name: its origin, and its index among the chains that began there. */
+/** A chain's name: its origin, and its index among the chains that began there. `books` is the number of the books that have
+ * it, or null where that isn't known: others may have another chain of this name. */
 export class Chain {
-  constructor(origin, index) {
+  constructor(origin, index, books = null) {
     this.origin = origin;
     this.index = wordOf(index, 'the index');
+    this.books = books === null ? null : wordOf(books, 'the books');
   }
 
   /** The chain of a text like `0:7`. */
@@ -151,7 +169,10 @@ export class Begun {
     const until = performance.now() + seconds * 1000;
     const results = [this.results];
     for (let hop = 1; hop < this.#hops; hop += 1) {
-      const found = await this.#client.look(this.chain, hop, { wait: (until - performance.now()) / 1000 });
+      const found = await this.#client.look(this.chain, hop, { wait: (until - performance.now()) / 1000 }).catch((fault) => {
+        if (!(fault instanceof BooksClosed)) throw fault;
+        throw new BooksClosed(fault.old, fault.new, fault.client, this.number, this.chain);
+      });
       if (!found) return null;
       results.push(found.results);
     }
@@ -276,27 +297,55 @@ export async function servedSet(status, host = '127.0.0.1', timeout = 30) {
   }
 }
 
-/** The text of a file, or null where there is none, or a pipe, say: that isn't opened, since it would wait for a writer. */
-async function textOf(path) {
+/** What the work gives, or null where a file isn't there. */
+async function unlessAbsent(work) {
   try {
-    return (await stat(path)).isFile() ? await readFile(path, 'latin1') : null;
+    return await work;
   } catch (fault) {
     if (fault.code === 'ENOENT' || fault.code === 'ENOTDIR') return null;
     throw fault;
   }
 }
 
-/** The port of the service over the stores of the folder, that of its status if it tells one, and the text of the set that
- * it serves. */
-export async function serviceOf(folder) {
-  const text = await textOf(join(folder, 'service'));
+/** The text of a file, or null where there is none, or a pipe, say: that isn't opened, since it would wait for a writer. */
+async function textOf(path) {
+  const found = await unlessAbsent(stat(path));
+  return found?.isFile() ? unlessAbsent(readFile(path, 'latin1')) : null;
+}
+
+/** The number of the books of a folder: 1n where it has no file of them, and null where that tells no number. */
+async function booksOf(folder) {
+  const path = join(folder, 'books');
+  if (!await unlessAbsent(lstat(path))) return 1n;
+  const number = BigInt(/^books ([0-9]{1,20})(?:\n|$)/.exec(await textOf(path) ?? '')?.[1] ?? 0);
+  return number >= 1n && number <= MAX_WORD ? number : null;
+}
+
+/** Whether the books of a folder are closed. It has no service any more: another may have the port of its notice. */
+async function isCarried(folder) {
+  return Boolean(await unlessAbsent(lstat(join(folder, 'carried'))));
+}
+
+/** What a folder tells of its service, and the real folder, which a link led to. The link is resolved once, so that all is of
+ * the same books. */
+async function noticeOf(folder) {
+  const real = await unlessAbsent(realpath(folder));
+  const text = real === null ? null : await textOf(join(real, 'service'));
   if (text === null || /[^\0-\x7f]/.test(text)) throw new NoService(folder);
   const end = text.indexOf('--\n');
   const head = text.slice(0, Math.max(end, 0));
   const listening = /^listening 127\.0\.0\.1:([0-9]+)$/m.exec(head);
   const status = /^status 127\.0\.0\.1:([0-9]+)$/m.exec(head);
-  if (!listening) throw new NoService(folder);
-  return { port: Number(listening[1]), status: status && Number(status[1]), setText: text.slice(end + 3) };
+  const books = await booksOf(real);
+  if (!listening || books === null || await isCarried(real)) throw new NoService(folder);
+  return { real, port: Number(listening[1]), status: status && Number(status[1]), setText: text.slice(end + 3), books };
+}
+
+/** The port of the service over the stores of the folder, that of its status if it tells one, the text of the set that it
+ * serves, and the number of the books. */
+export async function serviceOf(folder) {
+  const { port, status, setText, books } = await noticeOf(folder);
+  return { port, status, setText, books };
 }
 
 /** The version and the count of servers of a set's text, and the text of each of its tables and programs. */
@@ -381,11 +430,17 @@ class Line {
     this.#socket = connect({ host, port, noDelay: true });
     this.#socket.on('timeout', () => this.#socket.destroy(new Error('the service is silent')));
     this.#socket.on('error', (fault) => this.#end(fault));
-    this.#socket.on('close', () => this.#end(new Error('the service closed the connection')));
+    for (const event of ['end', 'close']) this.#socket.on(event, () => this.#end(new Error('the service closed the connection')));
+    this.#socket.on('connect', () => this.#wake());
     this.#socket.on('data', (piece) => {
       this.#data = Buffer.concat([this.#data, piece]);
       this.#wake();
     });
+  }
+
+  /** Waits until it is connected. */
+  async open() {
+    await this.#awake(() => this.#until(() => !this.#socket.connecting && !this.#socket.destroyed));
   }
 
   #end(cause) {
@@ -400,15 +455,17 @@ class Line {
   }
 
   async read(count) {
-    await this.#awake(async () => {
-      while (this.#data.length < count) {
-        if (this.lost) throw this.lost;
-        await new Promise((wake) => { this.#wake = wake; });
-      }
-    });
+    await this.#awake(() => this.#until(() => this.#data.length >= count));
     const found = this.#data.subarray(0, count);
     this.#data = this.#data.subarray(count);
     return found;
+  }
+
+  async #until(fact) {
+    while (!fact()) {
+      if (this.lost) throw this.lost;
+      await new Promise((wake) => { this.#wake = wake; });
+    }
   }
 
   async #awake(work) {
@@ -434,6 +491,11 @@ function faultOf(kind) {
   return Fault ? new Fault() : new LynxError('error');
 }
 
+/** Whether nothing was done by this answer, and nothing is recorded of it. */
+function isUndone(fault) {
+  return [Clash, Wrong, Full, Busy].some((kind) => fault instanceof kind);
+}
+
 /** The cells of a page from `start` to `end`, pairs of a key and a value, and from which key to go on, or null. */
 function pageOf({ cells, next }, start, end) {
   const pairs = cells.map(({ key, value }) => [BigInt(key), BigInt(value)]);
@@ -442,10 +504,11 @@ function pageOf({ cells, next }, start, end) {
   return [pairs, after];
 }
 
-function recordedOf({ server, stamp, program, args, chain, results, refused }) {
-  const isBegun = refused === undefined;
-  return new Recorded(Number(server), BigInt(stamp), program, args.map(BigInt), isBegun ? Chain.parse(chain) : null,
-    isBegun ? results.map(BigInt) : [], isBegun ? null : Number(refused));
+function recordedOf({ server, stamp, program, args, chain, results, refused }, books) {
+  const head = [Number(server), BigInt(stamp), program, args.map(BigInt)];
+  if (refused !== undefined) return new Recorded(...head, null, [], Number(refused));
+  const { origin, index } = Chain.parse(chain);
+  return new Recorded(...head, new Chain(origin, index, books), results.map(BigInt), null);
 }
 
 /** How long to pause before a request is asked for the so manieth time again. */
@@ -459,6 +522,10 @@ function milliseconds(attempt) {
  * an id of its own and no `first` gives none by itself. It connects with its first request. A connection that is lost is made again, at most `tries` times for a request, with growing pauses; each wait
  * for the service ends after `timeout` seconds. A service that is begun anew over a folder may have another port, and a
  * set that extends the one before; one of another set is OtherSet.
+ *
+ * `books` is the number of the books that the folder led to when it was read last, and null at a port. Each time that it
+ * connects, it follows a link anew. Begins that weren't sent, reads and finds go on in the next books. A begin whose answer
+ * isn't known, and a look for a chain of the books before, is BooksClosed, also when it is asked once more.
  */
 export class Client {
   #folder;
@@ -468,9 +535,17 @@ export class Client {
   #timeout;
   #line = null;
   #reader = null;
+  #readBooks = null;
   #last = Promise.resolve();
   #byNumber;
   #counts;
+
+  /** The books of each chain that was owed when they were closed, by its name, and what `settle` tells of one of these. */
+  #closed = new Map();
+  #unsettled = null;
+
+  /** The books in which it sent a request first, by its number: it lost the answer. */
+  #unknown = new Map();
 
   /** The chains that this client began and whose last hop it hasn't seen, by their names, with the number of that hop. */
   owed = new Map();
@@ -486,8 +561,10 @@ export class Client {
     return new Client({ ...options, port, setText: setText ?? (setPath ? await readFile(setPath, 'latin1') : '') });
   }
 
-  constructor({ port, setText, status = null, folder = null, client, first, host = '127.0.0.1', timeout = 30, tries = 5 }) {
+  constructor({ port, setText, status = null, folder = null, books = null, client, first, host = '127.0.0.1', timeout = 30,
+    tries = 5 }) {
     this.#folder = folder;
+    this.books = books;
     this.#host = host;
     this.#port = port;
     this.#status = status;
@@ -502,23 +579,42 @@ export class Client {
   }
 
   /** Begins a chain of the program, by its name (or its number in the set), and gives Begun or Refused; other answers are
-   * thrown. The last argument may be `{ number }`; without one it draws the next number of its own. A client with an id of
-   * its own and no `first` has none, and throws a TypeError. */
+   * thrown. The last argument may be `{ number, books }`; without a number it draws the next one of its own. A client with
+   * an id of its own and no `first` has none, and throws a TypeError. `books` are those in which an earlier process asked
+   * under the number: it is asked in no others, but is BooksClosed there. */
   async begin(program, ...args) {
     const options = (typeof args.at(-1) === 'object' ? args.pop() : null) ?? {};
     const number = wordOf(options.number ?? this.#next(), 'the number');
+    if (options.books !== undefined && !this.#unknown.has(number)) this.#unknown.set(number, wordOf(options.books, 'the books'));
     const values = args.map((value) => wordOf(value, 'an argument'));
     try {
       const kind = this.#kindOf(program, values);
       const body = Buffer.concat([bytesOf(this.client, number, kind, values.length), bytesOf(...values)]);
-      const answer = await this.#alone(async () => this.#ask(REQUEST, body, ANSWER, (found) => this.#answerOf(found, number, kind)));
-      const { hops } = this.#programAt(kind);
-      if (answer instanceof Begun && hops > 1) this.owed.set(String(answer.chain), hops - 1);
-      return answer;
+      return await this.#alone(() => this.#tried(() => this.#begunOnce(body, number, kind)));
     } catch (fault) {
       if (fault instanceof LynxError) fault.number = number;
       throw fault;
     }
+  }
+
+  /** Asks for a begin, unless it was sent in books that are closed. Where its answer isn't known, it notes in which. */
+  async #begunOnce(body, number, kind) {
+    const books = this.#unknown.get(number) ?? null;
+    await this.#ready(books, number);
+    try {
+      const answer = await this.#exchange(REQUEST, body, ANSWER, (found) => this.#answerOf(found, number, kind));
+      this.#unknown.delete(number);
+      if (answer instanceof Begun) this.#note(String(answer.chain), this.#programAt(kind).hops - 1);
+      return answer;
+    } catch (fault) {
+      if (!isUndone(fault) && this.books !== null) this.#unknown.set(number, books ?? this.books);
+      throw fault;
+    }
+  }
+
+  #note(name, hop) {
+    this.#closed.delete(name);
+    if (hop > 0) this.owed.set(name, hop);
   }
 
   /** The next number of its own. */
@@ -530,16 +626,23 @@ export class Client {
     return this.nextNumber++;
   }
 
-  /** What that hop of the chain did: Found, or null where it isn't done yet, also not within `wait` seconds. */
+  /** What that hop of the chain did: Found, or null where it isn't done yet, also not within `wait` seconds. A chain whose
+   * books aren't known, as one that a text names, is one of the books that the client had last. */
   async look(chain, hop, { wait = 0 } = {}) {
-    const { origin, index } = typeof chain === 'string' ? Chain.parse(chain) : chain;
+    const named = typeof chain === 'string' ? Chain.parse(chain) : chain;
+    const { origin, index } = named;
+    const name = `${origin}:${index}`;
+    const books = named.books ?? this.#closed.get(name) ?? this.books;
     if (!(origin >= 0 && origin <= 15 && hop >= 0 && hop <= 255)) return null;
     const body = bytesOf(origin, wordOf(index, 'the index'), hop);
     const until = performance.now() + wait * 1000;
     for (let next = 1; ; next = Math.min(next * 2, 100)) {
-      const found = await this.#alone(async () => this.#ask(LOOK, body, LOOKED, foundOf));
+      const found = await this.#alone(() => this.#tried(async () => {
+        await this.#ready(books, null, named);
+        return this.#exchange(LOOK, body, LOOKED, foundOf);
+      }));
       if (found) {
-        if (this.owed.get(`${origin}:${index}`) === hop) this.owed.delete(`${origin}:${index}`);
+        if (this.owed.get(name) === hop && books === this.books) this.owed.delete(name);
         return found;
       }
       const left = until - performance.now();
@@ -548,13 +651,20 @@ export class Client {
     }
   }
 
-  /** Whether all chains that this client began are done, within so many seconds. */
+  /** Whether all chains that this client began are done, within so many seconds. Of chains that were owed when their books
+   * were closed it is BooksClosed, once. */
   async settle(seconds = 10) {
     const until = performance.now() + seconds * 1000;
-    for (const [chain, hop] of [...this.owed]) {
-      if (!await this.look(chain, hop, { wait: (until - performance.now()) / 1000 })) return false;
+    try {
+      if (this.#unsettled) throw this.#unsettled;
+      for (const [chain, hop] of [...this.owed]) {
+        if (!await this.look(chain, hop, { wait: (until - performance.now()) / 1000 })) return false;
+      }
+      return true;
+    } catch (fault) {
+      if (fault instanceof BooksClosed) this.#unsettled = null;
+      throw fault;
     }
-    return true;
   }
 
   /** What a cell of the table holds, 0n where nothing was put: at its server, at one moment, after whole steps. Nothing is
@@ -578,11 +688,12 @@ export class Client {
   }
 
   /** What became of the request of that client under that number: what each server recorded of it, by server. There is one
-   * record of a number that was used once, and none of a request that wasn't done, or was lost on its way. */
+   * record of a number that was used once, and none of a request that wasn't done, or was lost on its way. Books have no
+   * record of what was done in the books before. */
   async find(client, number) {
     const path = `/requests/${wordOf(client, 'the client')}/${wordOf(number, 'the number')}`;
     try {
-      return await this.#lookedUp(path, ({ records }) => records.map(recordedOf));
+      return await this.#lookedUp(path, ({ records }) => records.map((found) => recordedOf(found, this.#readBooks)));
     } catch (fault) {
       if (fault instanceof Wrong && fault.reason === 'no such request') return [];
       throw fault;
@@ -604,7 +715,10 @@ export class Client {
   async shut() {
     await this.#alone(async () => {
       try {
-        await this.#tried(() => this.#send(SHUT, bytesOf()));
+        await this.#tried(async () => {
+          await this.#ready();
+          await this.#send(SHUT, bytesOf());
+        });
         await this.#answer(BYE, (found) => found.end());
       } catch (fault) {
         throw fault instanceof Broken ? new ByeLost(fault) : fault;
@@ -642,7 +756,7 @@ export class Client {
     const { hops, names, needs } = this.#programAt(kind);
     const answer = found.byte();
     if (answer === 0) {
-      const chain = new Chain(found.byte(), found.word());
+      const chain = new Chain(found.byte(), found.word(), this.books);
       const [stamp, again, results] = [found.word(), found.byte() !== 0, found.words()];
       found.end();
       return new Begun(chain, stamp, results, again, number, names, this, hops);
@@ -656,12 +770,7 @@ export class Client {
     throw faultOf(answer);
   }
 
-  /** Asks, over a new connection where the old one is lost: the same request is never done twice. */
-  async #ask(tag, body, wanted, read) {
-    return this.#tried(() => this.#exchange(tag, body, wanted, read));
-  }
-
-  /** Does the work, again and again where the connection or the service is gone. */
+  /** Does the work, again and again where the connection or the service is gone: the same request is never done twice. */
   async #tried(work, drop = () => this.#drop()) {
     for (let attempt = 1; ; attempt += 1) {
       try {
@@ -696,11 +805,14 @@ export class Client {
 
   /** A connection to where the service tells its status. Its set is this client's, or goes on from it. */
   async #opened() {
-    const status = this.#folder === null ? this.#status : (await serviceOf(this.#folder)).status;
+    const notice = this.#folder === null ? null : await noticeOf(this.#folder);
+    const status = notice ? notice.status : this.#status;
     if (status === null) throw new NoStatus();
     const reader = new Reader(this.#host, status, this.#timeout);
     try {
       this.#compare(await reader.set());
+      await this.#check(notice);
+      this.#readBooks = notice && notice.books;
       return reader;
     } catch (fault) {
       reader.drop();
@@ -713,13 +825,31 @@ export class Client {
     return this.#answer(wanted, read);
   }
 
-  async #send(tag, body) {
+  /** Connects, where it isn't connected any more, to ask what can be asked in these books alone, or in any. */
+  async #ready(books = null, number = null, chain = null) {
     if (this.#line?.lost) this.#drop();
-    if (!this.#line) {
-      if (this.#folder !== null) await this.#find();
-      if (this.#status !== null) this.#compare(await servedSet(this.#status, this.#host, this.#timeout));
-      this.#line = new Line(this.#host, this.#port, this.#timeout);
+    const notice = this.#line || this.#folder === null ? null : await this.#find();
+    if (books !== null && this.books !== null && books !== this.books) {
+      throw new BooksClosed(books, this.books, this.client, number, chain);
     }
+    if (!this.#line) await this.#connect(notice);
+  }
+
+  async #connect(notice) {
+    if (this.#status !== null) this.#compare(await servedSet(this.#status, this.#host, this.#timeout));
+    else if (notice) this.#compare(notice.setText);
+    const line = new Line(this.#host, this.#port, this.#timeout);
+    try {
+      await line.open();
+      await this.#check(notice);
+    } catch (fault) {
+      line.drop();
+      throw fault;
+    }
+    this.#line = line;
+  }
+
+  async #send(tag, body) {
     const head = Buffer.alloc(5);
     head.writeUInt8(tag);
     head.writeUInt32BE(body.length, 1);
@@ -734,12 +864,24 @@ export class Client {
   }
 
   /** Looks again where the service over the folder listens, and where its set is told: a kill leaves what the folder tells,
-   * and another service may have its ports by now. */
+   * and another service may have its ports by now. The folder may lead to the next books. */
   async #find() {
-    const { port, status, setText } = await serviceOf(this.#folder);
-    if (status === null) this.#compare(setText);
-    this.#port = port;
-    this.#status = status;
+    const notice = await noticeOf(this.#folder);
+    this.#port = notice.port;
+    this.#status = notice.status;
+    if (this.books !== notice.books && this.owed.size) {
+      const [first] = this.owed.keys();
+      this.#unsettled = new BooksClosed(this.books, notice.books, this.client, null, Chain.parse(first));
+      for (const name of this.owed.keys()) this.#closed.set(name, this.books);
+      this.owed.clear();
+    }
+    this.books = notice.books;
+    return notice;
+  }
+
+  /** It is connected to a service of the books of the notice, since these weren't closed before. */
+  async #check(notice) {
+    if (notice && await isCarried(notice.real)) throw new NoService(this.#folder);
   }
 
   /** The set that is served is this client's, or goes on from it. */

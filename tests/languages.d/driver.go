@@ -24,7 +24,7 @@ var kinds = []struct {
 	{"Clash", lynx.ErrClash}, {"Outside", lynx.ErrOutside}, {"Wrong", lynx.ErrWrong}, {"Full", lynx.ErrFull},
 	{"Busy", lynx.ErrBusy}, {"Stopped", lynx.ErrStopped}, {"Wanting", lynx.ErrWanting}, {"Lost", lynx.ErrLost},
 	{"ByeLost", lynx.ErrByeLost}, {"NoService", lynx.ErrNoService}, {"OtherSet", lynx.ErrOtherSet},
-	{"NoNumber", lynx.ErrNoNumber}, {"NoStatus", lynx.ErrNoStatus},
+	{"NoNumber", lynx.ErrNoNumber}, {"NoStatus", lynx.ErrNoStatus}, {"BooksClosed", lynx.ErrBooksClosed},
 }
 
 // list gives what stands for a list, of whatever it is.
@@ -87,16 +87,21 @@ func numbers(texts []string) (found []uint64) {
 func seconds(text string) time.Duration { return time.Duration(number(text)) * time.Second }
 
 type driver struct {
-	bank  *lynx.Client
-	begun *lynx.Begun
-	fault error
+	bank    *lynx.Client
+	begun   *lynx.Begun
+	records []lynx.Recorded
+	fault   error
 }
 
 func (d *driver) begin(under, program string, arguments []uint64) (string, error) {
 	var err error
+	under, books, earlier := strings.Cut(under, "@")
 	if under == "-" {
 		d.begun, err = d.bank.Begin(program, arguments...)
 	} else {
+		if earlier {
+			d.bank.SentIn(number(under), number(books))
+		}
 		d.begun, err = d.bank.BeginNumbered(number(under), program, arguments...)
 	}
 	if err != nil {
@@ -121,7 +126,9 @@ func (d *driver) many(count uint64, program string, arguments []uint64) (string,
 
 func (d *driver) look(text, hop, wait string) (string, error) {
 	chain, err := lynx.ParseChain(text)
-	if err != nil {
+	if text == "found" {
+		chain = d.records[0].Chain
+	} else if err != nil {
 		return "", err
 	}
 	found, err := d.bank.Look(chain, int(number(hop)), seconds(wait))
@@ -160,6 +167,7 @@ func recordedOf(it lynx.Recorded) string {
 
 func (d *driver) find(client, under uint64) (string, error) {
 	records, err := d.bank.Find(client, under)
+	d.records = records
 	var all []string
 	for _, each := range records {
 		all = append(all, recordedOf(each))
@@ -168,6 +176,21 @@ func (d *driver) find(client, under uint64) (string, error) {
 		return "-", err
 	}
 	return strings.Join(all, " | "), err
+}
+
+func (d *driver) closed() string {
+	var it *lynx.BooksClosed
+	if !errors.As(d.fault, &it) {
+		return "-"
+	}
+	number, chain := "-", "-"
+	if it.Numbered {
+		number = fmt.Sprint(it.Number)
+	}
+	if it.Chain != (lynx.Chain{}) {
+		chain = it.Chain.String()
+	}
+	return fmt.Sprintf("old %d new %d client %d number %s chain %s", it.Old, it.New, it.Client, number, chain)
 }
 
 func (d *driver) do(line []string) (string, error) {
@@ -191,6 +214,10 @@ func (d *driver) do(line []string) (string, error) {
 		return d.find(number(line[1]), number(line[2]))
 	case "why":
 		return d.fault.Error(), nil
+	case "books":
+		return fmt.Sprint(d.bank.Books), nil
+	case "closed":
+		return d.closed(), nil
 	case "close":
 		return "closed", d.bank.Close()
 	}

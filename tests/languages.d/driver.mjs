@@ -6,7 +6,7 @@ import { createInterface } from 'node:readline';
 import * as lynx from '../../clients/javascript/lynx.mjs';
 
 const list = (values) => values.join(' ') || '-';
-let bank, begun, lastFault;
+let bank, begun, records, lastFault;
 
 function toldOf(answer) {
   const { stamp, again, number } = answer;
@@ -22,7 +22,8 @@ function recordedOf({ server, stamp, program, args, chain, results, need }) {
 
 const verbs = {
   async begin(number, program, ...args) {
-    const options = number === '-' ? [] : [{ number: BigInt(number) }];
+    const [under, books] = number.split('@');
+    const options = under === '-' ? [] : [{ number: BigInt(under), ...(books && { books: BigInt(books) }) }];
     begun = await bank.begin(program, ...args.map(BigInt), ...options);
     return toldOf(begun);
   },
@@ -31,7 +32,7 @@ const verbs = {
     return list(all.map(({ chain, number }) => `${chain}/${number}`));
   },
   async look(chain, hop, seconds) {
-    const found = await bank.look(chain, Number(hop), { wait: Number(seconds) });
+    const found = await bank.look(chain === 'found' ? records[0].chain : chain, Number(hop), { wait: Number(seconds) });
     return found ? `found stamp ${found.stamp} results ${list(found.results)}` : 'absent';
   },
   async wait(seconds) {
@@ -52,10 +53,18 @@ const verbs = {
     return list(cells);
   },
   async find(client, number) {
-    return (await bank.find(BigInt(client), BigInt(number))).map(recordedOf).join(' | ') || '-';
+    records = await bank.find(BigInt(client), BigInt(number));
+    return records.map(recordedOf).join(' | ') || '-';
   },
   async why() {
     return lastFault.message;
+  },
+  async books() {
+    return String(bank.books ?? '-');
+  },
+  async closed() {
+    const { old, new: next, client, number, chain } = lastFault;
+    return `old ${old} new ${next} client ${client} number ${number ?? '-'} chain ${chain ?? '-'}`;
   },
   async close() {
     await bank.close();

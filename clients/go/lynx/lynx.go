@@ -14,6 +14,9 @@
 // old number and gets the recorded answer, with Again true. A client with an id of its own doesn't count by itself, since
 // each process would count from 1 again: use BeginNumbered, or give First, the first number that is free.
 //
+// The folder may be a link to that of the books that are served now. A begin whose answer was lost in books that are closed
+// (lynx carry) isn't asked again in the next ones, which have no record of it: it is ErrBooksClosed.
+//
 // lynx.Dial(7000, set, nil) asks at a port by the text of a set of its own. A request tells a program by its number, so
 // that set is to be the service's, or one that it extends: Options{Status: 7001} looks whether it is.
 //
@@ -52,6 +55,8 @@ const Version = "0.1.0"
 
 const (
 	maxBodyBytes = 2048
+
+	idle = 500 * time.Millisecond
 
 	tagRequest = 0x01
 	tagLook    = 0x02
@@ -93,6 +98,9 @@ var (
 	// ErrNoStatus: the service tells no status, by which cells and requests are read. It is served without --status, or the
 	// client was given a port and no Status.
 	ErrNoStatus = errors.New("no-status")
+	// ErrBooksClosed: the books were closed before the answer came, and the folder leads to the next ones, which have no
+	// record of it. errors.As gives the *BooksClosed.
+	ErrBooksClosed = errors.New("books-closed")
 	// ErrNoNumber: Begin was called of a client that has an ID of its own and no First. Each process would count from 1
 	// again, and get the answers of the one before: use BeginNumbered, or give First.
 	ErrNoNumber = errors.New("no-number")
@@ -129,6 +137,25 @@ func (e *Error) Is(target error) bool {
 // Unwrap gives what the system said, where it said something.
 func (e *Error) Unwrap() error { return e.cause }
 
+// BooksClosed tells which request wasn't answered before the books numbered Old were closed: the folder leads to those
+// numbered New, which have no record of it. It was done or not: lynx find in the old folder tells. This client never asks for
+// it in other books: what wasn't done is begun under a new number.
+type BooksClosed struct {
+	Old, New uint64
+	Client   uint64 // the request's
+	Number   uint64 // the request's
+	Numbered bool   // whether the number is known: not where a chain was looked for that no begin told
+	Chain    Chain  // the chain that was looked for, with its Books; they are 0 where a begin was asked for
+}
+
+func (b *BooksClosed) Error() string {
+	what := "the look for chain " + b.Chain.String()
+	if b.Numbered {
+		what = fmt.Sprintf("request %d of client %d", b.Number, b.Client)
+	}
+	return "the books were closed before the answer to " + what + " came: `lynx find` in the old folder tells what became of it"
+}
+
 // Refused is the answer of a first hop that refuses: this need of it, counted from 0, wasn't met. It is recorded under the
 // request's number, as a begin is.
 type Refused struct {
@@ -141,13 +168,18 @@ type Refused struct {
 
 func (r *Refused) Error() string { return fmt.Sprintf("lynx: refused: need %d: %s", r.Need, r.Text) }
 
-// Chain is a chain's name: its origin, and its index among the chains that began there.
+// Chain is a chain's name: its origin, and its index among the chains that began there. Books is the number of the books that
+// have it, or 0 where that isn't known: others may have another chain of this name.
 type Chain struct {
 	Origin int
 	Index  uint64
+	Books  uint64
 }
 
 func (c Chain) String() string { return fmt.Sprintf("%d:%d", c.Origin, c.Index) }
+
+// bare gives the name without its books.
+func (c Chain) bare() Chain { return Chain{Origin: c.Origin, Index: c.Index} }
 
 // ParseChain gives the chain of a text like 0:7.
 func ParseChain(text string) (Chain, error) {
@@ -157,7 +189,7 @@ func ParseChain(text string) (Chain, error) {
 	if firstFault != nil || secondFault != nil {
 		return Chain{}, fmt.Errorf("lynx: not a chain: %q", text)
 	}
-	return Chain{int(first), second}, nil
+	return Chain{Origin: int(first), Index: second}, nil
 }
 
 // Begun says that the chain began, and what its first hop gave: Named has the results by what the set calls them. Again: it
@@ -179,7 +211,10 @@ func (b *Begun) Wait(within time.Duration) ([][]uint64, error) {
 	results := [][]uint64{b.Results}
 	for hop := 1; hop < b.hops; hop++ {
 		found, err := b.client.Look(b.Chain, hop, time.Until(until))
-		if err != nil {
+		var closed *BooksClosed
+		if errors.As(err, &closed) {
+			return nil, b.client.closedBy(closed.Old, b.Number, true, b.Chain)
+		} else if err != nil {
 			return nil, err
 		}
 		results = append(results, found.Results)
@@ -329,8 +364,8 @@ func (r *reader) told(path string, read func(text []byte) error) error {
 
 // Service gives the port of the service over the stores of the folder, and the text of the set that it serves.
 func Service(folder string) (port int, set string, err error) {
-	port, _, set, err = noticeOf(folder)
-	return port, set, err
+	found, err := noticeOf(folder)
+	return found.port, found.set, err
 }
 
 // portOf gives the port of a line of a notice behind its word, 0 where the line has another.
@@ -362,26 +397,71 @@ func textOf(path string) ([]byte, error) {
 	return data, err
 }
 
-// noticeOf gives what the folder tells of its service: its port, that of its status or 0, and the text of its set.
-func noticeOf(folder string) (port, status int, set string, err error) {
-	data, err := textOf(filepath.Join(folder, "service"))
+// isThere tells whether there is something of this name.
+func isThere(path string) bool {
+	_, err := os.Lstat(path)
+	return err == nil
+}
+
+// booksOf gives the number of the books of a folder: 1 where it has no file of them, and 0 where that tells no number.
+func booksOf(folder string) (uint64, error) {
+	path := filepath.Join(folder, "books")
+	if !isThere(path) {
+		return 1, nil
+	}
+	data, err := textOf(path)
+	if err != nil && !errors.Is(err, fs.ErrNotExist) {
+		return 0, err
+	}
+	line, _, _ := strings.Cut(string(data), "\n")
+	digits, found := cutPrefix(line, "books ")
+	number, fault := strconv.ParseUint(digits, 10, 64)
+	if !found || fault != nil {
+		return 0, nil
+	}
+	return number, nil
+}
+
+// isCarried tells whether the books of a folder are closed. It has no service any more: another may have the port of its
+// notice.
+func isCarried(folder string) bool { return isThere(filepath.Join(folder, "carried")) }
+
+// notice is what a folder tells of its service: its port, that of its status or 0, the text of its set, and the number of the
+// books. The folder is the real one, which a link led to.
+type notice struct {
+	folder       string
+	port, status int
+	set          string
+	books        uint64
+}
+
+// noticeOf gives what the folder tells of its service. A link is resolved once, so that all is of the same books.
+func noticeOf(folder string) (found notice, err error) {
+	var data []byte
+	if found.folder, err = filepath.EvalSymlinks(folder); err == nil {
+		data, err = textOf(filepath.Join(found.folder, "service"))
+	}
 	if errors.Is(err, fs.ErrNotExist) {
-		return 0, 0, "", fault(ErrNoService, errors.New(folder))
+		return notice{}, fault(ErrNoService, errors.New(folder))
 	} else if err != nil {
-		return 0, 0, "", err
+		return notice{}, err
 	}
 	head, set, whole := strings.Cut(string(data), "--\n")
+	found.set = set
 	for _, line := range strings.Split(head, "\n") {
-		if found := portOf(line, "listening"); found != 0 {
-			port = found
-		} else if found := portOf(line, "status"); found != 0 {
-			status = found
+		if port := portOf(line, "listening"); port != 0 {
+			found.port = port
+		} else if port := portOf(line, "status"); port != 0 {
+			found.status = port
 		}
 	}
-	if !whole || port == 0 {
-		return 0, 0, "", fault(ErrNoService, errors.New(folder))
+	if found.books, err = booksOf(found.folder); err != nil {
+		return notice{}, err
 	}
-	return port, status, set, nil
+	if !whole || found.port == 0 || found.books == 0 || isCarried(found.folder) {
+		return notice{}, fault(ErrNoService, errors.New(folder))
+	}
+	return found, nil
 }
 
 func cutPrefix(text, prefix string) (rest string, found bool) {
@@ -452,29 +532,39 @@ type Options struct {
 // Client is a client of a service, made by Open or Dial. A connection that is lost is made again, with growing pauses. A
 // service that is begun anew over a folder may have another port, and a set that extends the one before; one of another
 // set is ErrOtherSet.
+//
+// Each time that it connects, it follows a link anew. Begins that weren't sent, reads and finds go on in the next books. A
+// begin whose answer isn't known, and a look for a chain of the books before, is ErrBooksClosed, also when it is asked once
+// more.
 type Client struct {
-	ID       uint64             // its own, as in Options
-	Set      string             // the text of its set
-	Programs map[string]Program // the programs of the set
-	options  Options
-	folder   string
-	port     int
-	next     uint64
-	owed     map[Chain]int // the last hop of each chain that it began, until it has seen that hop
-	stream   net.Conn
-	reader   *reader // at the port of the status
+	ID        uint64             // its own, as in Options
+	Set       string             // the text of its set
+	Programs  map[string]Program // the programs of the set
+	Books     uint64             // the number of the books that the folder led to when it was read last, 0 at a port
+	options   Options
+	folder    string
+	port      int
+	next      uint64
+	owed      map[Chain]int     // the last hop of each chain that it began, until it has seen that hop
+	closed    map[Chain]uint64  // the books of each chain that was owed when they were closed, by its bare name
+	unsettled error             // what Settle tells of one of these
+	unknown   map[uint64]uint64 // the books in which it sent a request first, by its number: it lost the answer
+	stream    net.Conn
+	used      time.Time // when the stream was used last
+	reader    *reader   // at the port of the status
+	readBooks uint64    // those of the reader
 }
 
 // Open gives a client of the service over the stores of a folder, by the set that it serves. It connects with its first
 // request.
 func Open(folder string, options *Options) (*Client, error) {
-	port, set, err := Service(folder)
+	found, err := noticeOf(folder)
 	if err != nil {
 		return nil, err
 	}
-	client, err := Dial(port, set, options)
+	client, err := Dial(found.port, found.set, options)
 	if err == nil {
-		client.folder = folder
+		client.folder, client.Books = folder, found.books
 	}
 	return client, err
 }
@@ -505,7 +595,7 @@ func Dial(port int, set string, options *Options) (*Client, error) {
 		chosen.Host = "127.0.0.1"
 	}
 	return &Client{ID: chosen.Client, Set: set, Programs: Programs(set), options: chosen, port: port,
-		next: chosen.First, owed: map[Chain]int{}}, nil
+		next: chosen.First, owed: map[Chain]int{}, closed: map[Chain]uint64{}, unknown: map[uint64]uint64{}}, nil
 }
 
 // Begin begins a chain of the program, under the next number of the client's own. A client with an ID of its own and no
@@ -519,6 +609,14 @@ func (c *Client) Begin(program string, arguments ...uint64) (*Begun, error) {
 	return c.BeginNumbered(number, program, arguments...)
 }
 
+// SentIn notes that an earlier process asked under this number in these books: it is asked in no others, but is
+// ErrBooksClosed there.
+func (c *Client) SentIn(number, books uint64) {
+	if _, sent := c.unknown[number]; !sent {
+		c.unknown[number] = books
+	}
+}
+
 // BeginNumbered begins a chain of the program, under this number. A first hop that refuses is the error *Refused, every
 // other answer an *Error with the number.
 func (c *Client) BeginNumbered(number uint64, name string, arguments ...uint64) (*Begun, error) {
@@ -530,6 +628,7 @@ func (c *Client) BeginNumbered(number uint64, name string, arguments ...uint64) 
 	if err != nil {
 		return nil, err
 	}
+	delete(c.closed, begun.Chain.bare())
 	if begun.hops > 1 {
 		c.owed[begun.Chain] = begun.hops - 1
 	}
@@ -550,30 +649,60 @@ func (c *Client) begin(number uint64, name string, arguments []uint64) (begun *B
 	for _, argument := range arguments {
 		item = binary.BigEndian.AppendUint64(item, argument)
 	}
-	err = c.ask(tagRequest, item, tagAnswer, func(found *body) error {
-		begun, err = c.answerOf(found, number, program)
+	err = c.tried(func() error {
+		begun, err = c.begunOnce(item, number, program)
 		return err
-	})
+	}, c.drop)
 	return begun, err
 }
 
-// Look tells what that hop of the chain did, or ErrAbsent where it isn't done yet, also not within the time to wait.
+// begunOnce asks for a begin, unless it was sent in books that are closed. Where its answer isn't known, it notes in which.
+func (c *Client) begunOnce(item []byte, number uint64, program Program) (begun *Begun, err error) {
+	books, sent := c.unknown[number]
+	if err = c.ready(books, func() error { return c.closedBy(books, number, true, Chain{}) }); err != nil {
+		return nil, err
+	}
+	err = c.exchange(tagRequest, item, tagAnswer, func(found *body) error {
+		begun, err = c.answerOf(found, number, program)
+		return err
+	})
+	var refused *Refused
+	if err == nil || errors.As(err, &refused) {
+		delete(c.unknown, number)
+	} else if !isUndone(err) && !sent && c.Books != 0 {
+		c.unknown[number] = c.Books
+	}
+	return begun, err
+}
+
+// isUndone tells whether nothing was done by this answer, and nothing is recorded of it.
+func isUndone(err error) bool {
+	return errors.Is(err, ErrClash) || errors.Is(err, ErrWrong) || errors.Is(err, ErrFull) || errors.Is(err, ErrBusy)
+}
+
+// closedBy tells that these books were closed before the answer came.
+func (c *Client) closedBy(books, number uint64, numbered bool, chain Chain) error {
+	err := fault(ErrBooksClosed, &BooksClosed{books, c.Books, c.ID, number, numbered, chain})
+	err.Number, err.Numbered = number, numbered
+	return err
+}
+
+// Look tells what that hop of the chain did, or ErrAbsent where it isn't done yet, also not within the time to wait. A chain
+// whose books aren't known, as one of ParseChain, is one of the books that the client had last.
 func (c *Client) Look(chain Chain, hop int, wait time.Duration) (*Found, error) {
 	if chain.Origin < 0 || chain.Origin > 15 || hop < 0 || hop > 255 {
 		return nil, fault(ErrAbsent, nil)
 	}
 	item := append(binary.BigEndian.AppendUint64([]byte{byte(chain.Origin)}, chain.Index), byte(hop))
+	books := c.booksWith(chain)
 	until := time.Now().Add(wait)
 	for pause := time.Millisecond; ; pause = shorter(2*pause, 100*time.Millisecond) {
-		var found *Found
-		err := c.ask(tagLook, item, tagLooked, func(data *body) error {
-			found = foundOf(data)
-			return data.end()
-		})
+		found, err := c.lookedFor(item, books, chain)
 		if err != nil {
 			return nil, err
 		}
 		if found != nil {
+			chain.Books = c.Books
 			if last, owed := c.owed[chain]; owed && last == hop {
 				delete(c.owed, chain)
 			}
@@ -587,15 +716,47 @@ func (c *Client) Look(chain Chain, hop int, wait time.Duration) (*Found, error) 
 	}
 }
 
-// Settle returns once all chains that this client began are done, or ErrAbsent where they aren't in time.
-func (c *Client) Settle(within time.Duration) error {
-	until := time.Now().Add(within)
-	for chain, hop := range c.owed {
-		if _, err := c.Look(chain, hop, time.Until(until)); err != nil {
+// booksWith gives the number of the books that have the chain.
+func (c *Client) booksWith(chain Chain) uint64 {
+	if chain.Books != 0 {
+		return chain.Books
+	}
+	if books, closed := c.closed[chain]; closed {
+		return books
+	}
+	return c.Books
+}
+
+// lookedFor looks for a hop, unless its chain is of books that are closed.
+func (c *Client) lookedFor(item []byte, books uint64, chain Chain) (found *Found, err error) {
+	chain.Books = books
+	err = c.tried(func() error {
+		if err := c.ready(books, func() error { return c.closedBy(books, 0, false, chain) }); err != nil {
 			return err
 		}
+		return c.exchange(tagLook, item, tagLooked, func(data *body) error {
+			found = foundOf(data)
+			return data.end()
+		})
+	}, c.drop)
+	return found, err
+}
+
+// Settle returns once all chains that this client began are done, or ErrAbsent where they aren't in time. Of chains that were
+// owed when their books were closed it gives ErrBooksClosed, once.
+func (c *Client) Settle(within time.Duration) (err error) {
+	until := time.Now().Add(within)
+	err = c.unsettled
+	for chain, hop := range c.owed {
+		if err != nil {
+			break
+		}
+		_, err = c.Look(chain, hop, time.Until(until))
 	}
-	return nil
+	if errors.Is(err, ErrBooksClosed) {
+		c.unsettled = nil
+	}
+	return err
 }
 
 // Read tells what a cell of a table holds, 0 where nothing was put: at its server, at one moment, after whole steps. Nothing
@@ -660,7 +821,8 @@ func (p *page) isOf(from, to uint64) bool {
 }
 
 // Find tells what became of the request of a client under a number: what each server recorded of it, by server. There is one
-// record of a number that was used once, and none of a request that wasn't done, or was lost on its way.
+// record of a number that was used once, and none of a request that wasn't done, or was lost on its way. Books have no record
+// of what was done in the books before.
 func (c *Client) Find(client, number uint64) (records []Recorded, err error) {
 	err = c.lookedUp(fmt.Sprintf("/requests/%d/%d", client, number), func(text []byte) error {
 		var found struct{ Records []record }
@@ -672,6 +834,9 @@ func (c *Client) Find(client, number uint64) (records []Recorded, err error) {
 			recorded, err := each.recorded()
 			if err != nil {
 				return err
+			}
+			if !recorded.Refused {
+				recorded.Chain.Books = c.readBooks
 			}
 			records = append(records, recorded)
 		}
@@ -735,7 +900,13 @@ func (c *Client) Close() error {
 func (c *Client) Shut() error {
 	defer c.hangUp()
 	defer c.drop()
-	if err := c.tried(func() error { return c.send(tagShut, nil) }, c.drop); err != nil {
+	err := c.tried(func() error {
+		if err := c.ready(0, nil); err != nil {
+			return err
+		}
+		return c.send(tagShut, nil)
+	}, c.drop)
+	if err != nil {
 		return err
 	}
 	if err := c.answer(tagBye, (*body).end); err != nil {
@@ -797,7 +968,7 @@ func (c *Client) answerOf(found *body, number uint64, program Program) (*Begun, 
 	answer := found.number()
 	switch {
 	case answer == 0:
-		begun := &Begun{Chain: Chain{found.number(), found.word()}, Stamp: found.word(), Again: found.number() != 0,
+		begun := &Begun{Chain: Chain{found.number(), found.word(), c.Books}, Stamp: found.word(), Again: found.number() != 0,
 			Results: found.words(), Number: number, Named: map[string]uint64{}, client: c, hops: program.Hops}
 		for place, result := range begun.Results {
 			if place < len(program.Names) {
@@ -828,11 +999,6 @@ func firstOf(faults ...error) error {
 	return nil
 }
 
-// ask asks, over a new connection where the old one is lost: the same request is never done twice.
-func (c *Client) ask(tag byte, item []byte, wanted byte, read func(*body) error) error {
-	return c.tried(func() error { return c.exchange(tag, item, wanted, read) }, c.drop)
-}
-
 // isAnswer tells whether the service answered, or there is nothing to ask it again.
 func isAnswer(err error) bool {
 	var answer *Error
@@ -840,7 +1006,7 @@ func isAnswer(err error) bool {
 	return err == nil || errors.As(err, &answer) && !errors.Is(err, ErrNoService) || errors.As(err, &refused)
 }
 
-// tried does the work, again and again where the connection or the service is gone.
+// tried does the work, again and again where the connection or the service is gone: the same request is never done twice.
 func (c *Client) tried(work func() error, drop func()) error {
 	for attempt := 1; ; attempt++ {
 		err := work()
@@ -880,29 +1046,29 @@ func (c *Client) lookedUpOnce(path string, read func(text []byte) error) error {
 
 // openReader connects to where the service tells its status, whose set has to be the client's or to go on from it.
 func (c *Client) openReader() error {
-	status := c.options.Status
+	told := notice{status: c.options.Status}
 	var err error
 	if c.folder != "" {
-		if _, status, _, err = noticeOf(c.folder); err != nil {
+		if told, err = noticeOf(c.folder); err != nil {
 			return err
 		}
 	}
-	if status == 0 {
+	if told.status == 0 {
 		return fault(ErrNoStatus, errors.New("the service tells no status: serve with --status"))
 	}
-	asked, err := readerAt(c.options.Host, status, c.options.Timeout)
+	asked, err := readerAt(c.options.Host, told.status, c.options.Timeout)
 	if err != nil {
 		return err
 	}
 	set, err := asked.set()
 	if err == nil {
-		err = c.compare(set)
+		err = firstOf(c.compare(set), c.check(told))
 	}
 	if err != nil {
 		asked.stream.Close()
 		return err
 	}
-	c.reader = asked
+	c.reader, c.readBooks = asked, told.books
 	return nil
 }
 
@@ -928,51 +1094,102 @@ func (c *Client) exchange(tag byte, item []byte, wanted byte, read func(*body) e
 	return c.answer(wanted, read)
 }
 
-func (c *Client) send(tag byte, item []byte) error {
-	if c.stream == nil {
-		if err := c.connect(); err != nil {
+// ready connects, where it isn't connected any more, to ask what can be asked in these books alone, or in any where they are
+// 0. What is sent over a connection that the service ended may have been done, so it is looked at first.
+func (c *Client) ready(books uint64, closed func() error) error {
+	if c.stream != nil && c.isHungUp() {
+		c.drop()
+	}
+	told := notice{port: c.port, status: c.options.Status}
+	if c.stream == nil && c.folder != "" {
+		var err error
+		if told, err = c.find(); err != nil {
 			return err
 		}
 	}
+	if books != 0 && c.Books != 0 && books != c.Books {
+		return closed()
+	}
+	if c.stream == nil {
+		return c.connect(told)
+	}
+	return nil
+}
+
+// isHungUp tells whether the service ended the connection, or sent what wasn't asked for. A service that ends lets go of a
+// client that is silent for a second; one that asks more often isn't kept waiting by this.
+func (c *Client) isHungUp() bool {
+	if time.Since(c.used) < idle {
+		return false
+	}
+	if c.stream.SetReadDeadline(time.Now().Add(time.Millisecond)) != nil {
+		return true
+	}
+	_, err := c.stream.Read(make([]byte, 1))
+	return !errors.Is(err, os.ErrDeadlineExceeded)
+}
+
+func (c *Client) send(tag byte, item []byte) error {
 	if err := c.stream.SetDeadline(time.Now().Add(c.options.Timeout)); err != nil {
 		return err
 	}
 	frame := binary.BigEndian.AppendUint32([]byte{tag}, uint32(len(item)))
 	_, err := c.stream.Write(append(frame, item...))
+	c.used = time.Now()
 	return err
 }
 
-// find looks again where the service over the folder listens, and tells the text of its set: at the port of its status,
-// where it has one, since a kill leaves what the folder tells, and another service may have its ports by now.
-func (c *Client) find() (set string, err error) {
-	status := c.options.Status
-	if c.folder != "" {
-		if c.port, status, set, err = noticeOf(c.folder); err != nil {
-			return "", err
+// find looks again where the service over the folder listens. The folder may lead to the next books.
+func (c *Client) find() (notice, error) {
+	told, err := noticeOf(c.folder)
+	if err != nil {
+		return told, err
+	}
+	if told.books != c.Books {
+		former := c.Books
+		c.Books = told.books
+		for chain := range c.owed {
+			c.unsettled = c.closedBy(former, 0, false, chain)
+			c.closed[chain.bare()] = former
+			delete(c.owed, chain)
 		}
 	}
-	if status != 0 {
-		return ServedSet(c.options.Host, status, c.options.Timeout)
-	}
-	return set, nil
+	return told, nil
 }
 
-// connect connects to the service, whose set has to be the client's or to go on from it, as far as that is told.
-func (c *Client) connect() error {
-	set, err := c.find()
-	if err != nil {
-		return err
+// connect connects to the service, whose set has to be the client's or to go on from it, as far as that is told: at the port
+// of its status, where it has one, since a kill leaves what the folder tells, and another service may have its ports by now.
+func (c *Client) connect(told notice) (err error) {
+	set := told.set
+	if told.status != 0 {
+		if set, err = ServedSet(c.options.Host, told.status, c.options.Timeout); err != nil {
+			return err
+		}
 	}
 	if set != "" {
 		if err = c.compare(set); err != nil {
 			return err
 		}
 	}
-	stream, err := net.DialTimeout("tcp", net.JoinHostPort(c.options.Host, strconv.Itoa(c.port)), c.options.Timeout)
-	if err == nil {
-		c.stream = stream
+	address := net.JoinHostPort(c.options.Host, strconv.Itoa(told.port))
+	stream, err := net.DialTimeout("tcp", address, c.options.Timeout)
+	if err != nil {
+		return err
 	}
-	return err
+	if err = c.check(told); err != nil {
+		stream.Close()
+		return err
+	}
+	c.stream, c.used = stream, time.Now()
+	return nil
+}
+
+// check tells whether it is connected to a service of the books of the notice: it is where these weren't closed before.
+func (c *Client) check(told notice) error {
+	if c.folder != "" && isCarried(told.folder) {
+		return fault(ErrNoService, errors.New(c.folder))
+	}
+	return nil
 }
 
 func (c *Client) answer(wanted byte, read func(*body) error) error {

@@ -16,6 +16,9 @@ keeps what it asks for (`Client(.., client=7)`, `bank.begin('pay', 30, number=12
 the old number and gets the recorded answer, with `again` true. A client with an id of its own doesn't count by itself,
 since each process would count from 1 again: give each begin its number, or `first=` the first that is free.
 
+The folder may be a link to that of the books that are served now. A begin whose answer was lost in books that are closed
+(`lynx carry`) isn't asked again in the next ones, which have no record of it: it is BooksClosed.
+
 `lynx.Client(7000, 'payment.set')` asks at a port by a set of its own. A request tells a program by its number, so that
 set is to be the service's, or one that it extends: `lynx.Client(7000, 'payment.set', status=7001)` looks whether it is.
 
@@ -33,14 +36,14 @@ import struct
 import time
 from dataclasses import dataclass, field, replace
 from types import TracebackType
-from typing import Any, Callable, Dict, Iterator, List, Optional, Tuple, Type, TypeVar, Union
+from typing import Any, Callable, Dict, Iterator, List, NamedTuple, Optional, Tuple, Type, TypeVar, Union
 from urllib.parse import quote
 
 __version__ = '0.1.0'
 
-__all__ = ['Begun', 'Busy', 'ByeLost', 'Chain', 'Clash', 'Client', 'Found', 'Full', 'Lost', 'LynxError', 'NoService',
-           'NoStatus', 'OtherSet', 'Outside', 'Program', 'Recorded', 'Refused', 'Stopped', 'Wanting', 'Wrong', 'extends',
-           'programs_of', 'served_set', 'service_of']
+__all__ = ['Begun', 'BooksClosed', 'Busy', 'ByeLost', 'Chain', 'Clash', 'Client', 'Found', 'Full', 'Lost', 'LynxError',
+           'NoService', 'NoStatus', 'OtherSet', 'Outside', 'Program', 'Recorded', 'Refused', 'Stopped', 'Wanting', 'Wrong',
+           'extends', 'programs_of', 'served_set', 'service_of']
 
 T = TypeVar('T')
 MAX_WORD = 2 ** 64 - 1
@@ -118,9 +121,11 @@ class ByeLost(LynxError):
 
 @dataclass(frozen=True)
 class Chain:
-    """A chain's name: its origin, and its index among the chains that began there."""
+    """A chain's name: its origin, and its index among the chains that began there. `books` is the number of the books that
+    have it, as far as that is known: others may have another chain of this name. Names are compared without it."""
     origin: int
     index: int
+    books: Optional[int] = field(default=None, compare=False, repr=False)
 
     def __str__(self) -> str:
         return f'{self.origin}:{self.index}'
@@ -132,6 +137,20 @@ class Chain:
         if not (colon and origin.isascii() and index.isascii() and origin.isdigit() and index.isdigit()):
             raise ValueError(f'not a chain: {text!r}')
         return Chain(int(origin), int(index))
+
+
+class BooksClosed(LynxError):
+    """The books numbered `old` were closed before the answer came, and the folder leads to those numbered `new`, which have
+    no record of it. `client` and `number` are the request's; of a look for a `chain` there may be no number. It was done or
+    not: `lynx find` in the old folder tells. This client never asks for it in other books: what wasn't done is begun under
+    a new number."""
+    reason = 'books-closed'
+
+    def __init__(self, old: int, new: int, client: int, number: Optional[int] = None, chain: Optional[Chain] = None) -> None:
+        self.old, self.new, self.client, self.number, self.chain = old, new, client, number, chain
+        what = f'the look for chain {chain}' if number is None else f'request {number} of client {client}'
+        super().__init__(f'the books were closed before the answer to {what} came: `lynx find` in the old folder tells what '
+                         'became of it')
 
 
 @dataclass(frozen=True)
@@ -154,7 +173,10 @@ class Begun:
         for hop in range(1, self.hops):
             if self.client is None:
                 raise ValueError('a begin of no client')
-            found = self.client.look(self.chain, hop, max(0.0, until - time.monotonic()))
+            try:
+                found = self.client.look(self.chain, hop, max(0.0, until - time.monotonic()))
+            except BooksClosed as fault:
+                raise BooksClosed(fault.old, fault.new, fault.client, self.number, self.chain) from None
             if found is None:
                 return None
             results.append(found.results)
@@ -249,8 +271,8 @@ class NoStatus(LynxError):
 
 def service_of(folder: Union[str, os.PathLike[str]]) -> Tuple[int, str]:
     """The port of the service over the stores of the folder, and the text of the set that it serves."""
-    port, _, text = _notice_of(folder)
-    return port, text
+    notice = _notice_of(folder)
+    return notice.port, notice.text
 
 
 def _port_of(address: str) -> Optional[int]:
@@ -259,22 +281,52 @@ def _port_of(address: str) -> Optional[int]:
     return int(port) if host == '127.0.0.1' and port.isascii() and port.isdigit() else None
 
 
-def _notice_of(folder: Union[str, os.PathLike[str]]) -> Tuple[int, Optional[int], str]:
-    """What the folder tells of its service: its port, that of its status or None, and the text of its set. A pipe, say,
-    or a text that no service wrote tells of none; it isn't opened, since that would wait for a writer."""
-    path = os.path.join(folder, 'service')
+class _Notice(NamedTuple):
+    """What a folder tells of its service: its port, that of its status or None, the text of its set, and the number of the
+    books. `folder` is the real one, which a link led to."""
+    folder: str
+    port: int
+    status: Optional[int]
+    text: str
+    books: int
+
+
+def _ascii_of(path: str) -> Optional[str]:
+    """The text of a file, None where there is none. A pipe, say, or bytes that aren't ASCII are none: a pipe isn't opened,
+    since that would wait for a writer."""
     try:
         if not stat.S_ISREG(os.stat(path).st_mode):
-            raise NoService(f'no service: {folder}')
+            return None
         with open(path, encoding='ascii', newline='') as file:
-            head, line, text = file.read().partition('--\n')
+            return file.read()
     except (FileNotFoundError, NotADirectoryError, UnicodeDecodeError):
-        raise NoService(f'no service: {folder}') from None
+        return None
+
+
+def _books_of(folder: str) -> Optional[int]:
+    """The number of the books of a folder: 1 where it has no file of them, and None where that tells no number."""
+    path = os.path.join(folder, 'books')
+    if not os.path.lexists(path):
+        return 1
+    word, _, digits = (_ascii_of(path) or '').partition('\n')[0].partition(' ')
+    number = int(digits) if word == 'books' and digits.isdigit() and len(digits) <= 20 else 0
+    return number if 1 <= number <= MAX_WORD else None
+
+
+def _is_carried(folder: str) -> bool:
+    """Whether the books of a folder are closed. It has no service any more: another may have the port of its notice."""
+    return os.path.lexists(os.path.join(folder, 'carried'))
+
+
+def _notice_of(folder: Union[str, os.PathLike[str]]) -> _Notice:
+    """What the folder tells of its service. A link is resolved once, so that all is of the same books."""
+    real = os.path.realpath(os.fspath(folder))
+    head, line, text = (_ascii_of(os.path.join(real, 'service')) or '').partition('--\n')
     found = dict(each.split(' ', 1) for each in head.splitlines() if ' ' in each)
-    port = _port_of(found.get('listening', ''))
-    if not line or port is None:
+    port, books = _port_of(found.get('listening', '')), _books_of(real)
+    if not line or port is None or books is None or _is_carried(real):
         raise NoService(f'no service: {folder}')
-    return port, _port_of(found.get('status', '')), text
+    return _Notice(real, port, _port_of(found.get('status', '')), text, books)
 
 
 def served_set(status: int, host: str = '127.0.0.1', timeout: float = 30.0) -> str:
@@ -324,11 +376,11 @@ def _numbers_of(texts: List[str]) -> List[int]:
     return [int(text) for text in texts]
 
 
-def _recorded_of(found: Dict[str, Any]) -> Recorded:
+def _recorded_of(found: Dict[str, Any], books: Optional[int]) -> Recorded:
     head = int(found['server']), int(found['stamp']), str(found['program']), _numbers_of(found['args'])
     if 'refused' in found:
         return Recorded(*head, need=int(found['refused']))
-    return Recorded(*head, Chain.parse(str(found['chain'])), _numbers_of(found['results']))
+    return Recorded(*head, replace(Chain.parse(str(found['chain'])), books=books), _numbers_of(found['results']))
 
 
 def _parts_of(text: str) -> Tuple[List[int], List[List[str]], List[List[str]]]:
@@ -382,6 +434,7 @@ def _word(value: object, what: str) -> int:
 
 _WRONG = {2: 'unknown-program', 3: 'wrong-origin', 4: 'arg-count', 5: 'wrong-shard'}
 _FAULTS: Dict[int, Type[LynxError]] = {1: Clash, 6: Full, 7: Busy, 9: Stopped, 10: Wanting, 11: Outside}
+_UNDONE = (Clash, Wrong, Full, Busy)  # answers by which nothing was done, and nothing is recorded of it
 
 
 class Client:
@@ -394,18 +447,24 @@ class Client:
     `timeout` seconds. A service that is started again over a folder may have another port, and a set that extends the one
     before; one of another set is OtherSet. At a port the sets are compared where `status` is given, the port at which
     the service tells its status (`lynx serve .. --status PORT`).
+
+    `books` is the number of the books that the folder led to when it was read last, and None at a port. Each time that it
+    connects, it follows the link `where` anew. Begins that weren't sent, reads and finds go on in the next books. A begin
+    whose answer isn't known, and a look for a chain of the books before, is BooksClosed, also when it is asked once more.
     """
 
     def __init__(self, where: Union[int, str, os.PathLike[str]], set_path: Union[None, str, os.PathLike[str]] = None, *,
                  set_text: Optional[str] = None, status: Optional[int] = None, client: Optional[int] = None,
                  first: Optional[int] = None, host: str = '127.0.0.1', timeout: float = 30.0, tries: int = 5) -> None:
         self.folder = None if isinstance(where, int) else os.fspath(where)
+        self.books: Optional[int] = None
         if isinstance(where, int):
             port = where
         else:
             if set_path is not None or set_text is not None or status is not None:
                 raise TypeError('the set of a folder is that of its service')
-            port, set_text = service_of(where)
+            notice = _notice_of(where)
+            port, set_text, self.books = notice.port, notice.text, notice.books
         if set_text is None and set_path is not None:
             with open(set_path, encoding='ascii') as file:
                 set_text = file.read()
@@ -413,6 +472,9 @@ class Client:
         self.programs = programs_of(set_text or '')
         self.numbered = {program.number: program for program in self.programs.values()}
         self.owed: Dict[Chain, int] = {}  # the last hop of each chain that it began, until it has seen that hop
+        self.closed: Dict[Chain, int] = {}  # the books of each chain that was owed when they were closed
+        self.unsettled: Optional[BooksClosed] = None  # what `settle` tells of one of these
+        self.unknown: Dict[int, int] = {}  # the books in which it sent a request first, by its number: it lost the answer
         self.client = secrets.randbits(64) if client is None else _word(client, 'the client')
         self.counts = client is None or first is not None
         self.next_number = _word(1 if first is None else first, 'the first number')
@@ -420,6 +482,7 @@ class Client:
         self.timeout, self.tries = timeout, max(1, tries)
         self.socket: Optional[socket.socket] = None
         self.reader: Optional[http.client.HTTPConnection] = None  # at the port of the status
+        self.read_books: Optional[int] = None  # those of the reader
 
     def __enter__(self) -> Client:
         return self
@@ -428,27 +491,46 @@ class Client:
                  _trace: Optional[TracebackType]) -> None:
         self.close()
 
-    def begin(self, program: Union[str, int], *args: int, number: Optional[int] = None) -> Union[Begun, Refused]:
+    def begin(self, program: Union[str, int], *args: int, number: Optional[int] = None,
+              books: Optional[int] = None) -> Union[Begun, Refused]:
         """Begins a chain of the program, by its name (or its number in the set), and gives Begun or Refused; other
         answers are exceptions. Without a `number` it draws the next one of its own; a client with an id of its own and
-        no `first` has none, and raises TypeError."""
-        if number is None:
-            number = self._next()
+        no `first` has none, and raises TypeError. `books` are those in which an earlier process asked under the number:
+        it is asked in no others, but is BooksClosed there."""
+        under = self._next() if number is None else number
+        if books is not None:
+            self.unknown.setdefault(under, books)
         kind = program if isinstance(program, int) and not isinstance(program, bool) else self._number_of(program, args)
         if not 0 <= kind <= 63 or len(args) > 8:
             raise Wrong('unknown-program' if len(args) <= 8 else 'arg-count')
-        body = struct.pack('>QQBB', self.client, _word(number, 'the number'), kind, len(args))
+        body = struct.pack('>QQBB', self.client, _word(under, 'the number'), kind, len(args))
         body += b''.join(struct.pack('>Q', _word(arg, 'an argument')) for arg in args)
         try:
-            answer = self._answer_of(self._ask(REQUEST, body, ANSWER), number, kind)
+            answer = self._tried(lambda: self._begun_once(body, under, kind), self._drop)
         except LynxError as fault:
-            fault.number = number
+            fault.number = under
             raise
         except OSError as fault:
             self._drop()
-            raise Lost(str(fault), number) from fault
-        if isinstance(answer, Begun) and answer.hops > 1:
-            self.owed[answer.chain] = answer.hops - 1
+            raise Lost(str(fault), under) from fault
+        if isinstance(answer, Begun):
+            self.closed.pop(answer.chain, None)
+            if answer.hops > 1:
+                self.owed[answer.chain] = answer.hops - 1
+        return answer
+
+    def _begun_once(self, body: bytes, number: int, kind: int) -> Union[Begun, Refused]:
+        """Asks for a begin, unless it was sent in books that are closed. Where its answer isn't known, it notes in which."""
+        self._ready(self.unknown.get(number), number)
+        try:
+            answer = self._answer_of(self._exchange(REQUEST, body, ANSWER), number, kind)
+        except _UNDONE:
+            raise
+        except BaseException:
+            if self.books is not None:
+                self.unknown.setdefault(number, self.books)
+            raise
+        self.unknown.pop(number, None)
         return answer
 
     def _next(self) -> int:
@@ -461,21 +543,22 @@ class Client:
         return number
 
     def look(self, chain: Union[Chain, str], hop: int, wait: float = 0.0) -> Optional[Found]:
-        """What that hop of the chain did: Found, or None where it isn't done yet, also not within `wait` seconds."""
-        chain = Chain.parse(chain) if isinstance(chain, str) else chain
-        if not 0 <= chain.origin <= 15 or not 0 <= hop <= 255:
+        """What that hop of the chain did: Found, or None where it isn't done yet, also not within `wait` seconds. A chain
+        whose books aren't known, as one that a text names, is one of the books that the client had last."""
+        named = Chain.parse(chain) if isinstance(chain, str) else chain
+        books = self._books_with(named)
+        if not 0 <= named.origin <= 15 or not 0 <= hop <= 255:
             return None
-        body = struct.pack('>BQB', chain.origin, _word(chain.index, 'the index'), hop)
+        body = struct.pack('>BQB', named.origin, _word(named.index, 'the index'), hop)
         until, pause = time.monotonic() + wait, 0.001
         while True:
             try:
-                found = self._found_of(self._ask(LOOK, body, LOOKED))
+                found = self._tried(lambda: self._looked_once(body, books, named), self._drop)
             except OSError as fault:
-                self._drop()
                 raise Lost(str(fault)) from fault
             if found is not None:
-                if self.owed.get(chain) == hop:
-                    del self.owed[chain]
+                if self.owed.get(named) == hop:
+                    del self.owed[named]
                 return found
             left = until - time.monotonic()
             if left <= 0:
@@ -483,16 +566,34 @@ class Client:
             time.sleep(min(pause, left))
             pause = min(pause * 2, 0.1)
 
+    def _books_with(self, chain: Chain) -> Optional[int]:
+        """The number of the books that have the chain."""
+        if chain.books is not None:
+            return chain.books
+        return self.closed.get(chain, self.books)
+
+    def _looked_once(self, body: bytes, books: Optional[int], chain: Chain) -> Optional[Found]:
+        """Looks for a hop, unless its chain is of books that are closed."""
+        self._ready(books, chain=chain)
+        return self._found_of(self._exchange(LOOK, body, LOOKED))
+
     def wait_for(self, begun: Begun, program: str, wait: float = 10.0) -> Optional[List[List[int]]]:
         """The results of all hops of a chain that began, hop 0 first, once its last is done; None where it isn't within
         `wait` seconds."""
         return replace(begun, client=self, hops=self.programs[program].hops).wait(wait)
 
     def settle(self, wait: float = 10.0) -> bool:
-        """Whether all chains that this client began are done, within `wait` seconds."""
+        """Whether all chains that this client began are done, within `wait` seconds. Of chains that were owed when their
+        books were closed it is BooksClosed, once."""
         until = time.monotonic() + wait
-        return all(self.look(chain, hop, max(0.0, until - time.monotonic())) is not None
-                   for chain, hop in list(self.owed.items()))
+        try:
+            if self.unsettled is not None:
+                raise self.unsettled
+            return all(self.look(chain, hop, max(0.0, until - time.monotonic())) is not None
+                       for chain, hop in list(self.owed.items()))
+        except BooksClosed:
+            self.unsettled = None
+            raise
 
     def read(self, table: str, key: int) -> int:
         """What a cell of the table holds, 0 where nothing was put: at its server, at one moment, after whole steps. Nothing
@@ -522,9 +623,10 @@ class Client:
 
     def find(self, client: int, number: int) -> List[Recorded]:
         """What became of the request of that client under that number: what each server recorded of it, by server. There is
-        one record of a number that was used once, and none of a request that wasn't done, or was lost on its way."""
+        one record of a number that was used once, and none of a request that wasn't done, or was lost on its way. Books
+        have no record of what was done in the books before."""
         def records_of(found: Any) -> List[Recorded]:
-            return [_recorded_of(each) for each in found['records']]
+            return [_recorded_of(each, self.read_books) for each in found['records']]
 
         try:
             return self._looked_up(f'/requests/{_word(client, "the client")}/{_word(number, "the number")}', records_of)
@@ -559,6 +661,7 @@ class Client:
         """Sends an item without a body, over a new connection where the old one takes nothing."""
         for attempt in range(self.tries):
             try:
+                self._ready()
                 self._send(tag, b'')
                 return
             except OSError as fault:
@@ -583,7 +686,7 @@ class Client:
             results = body.values()
             body.end()
             named = dict(zip(program.names, results))
-            return Begun(Chain(origin, index), stamp, results, bool(again), number, named, self, program.hops)
+            return Begun(Chain(origin, index, self.books), stamp, results, bool(again), number, named, self, program.hops)
         if answer == 8:
             need, stamp, again = body.take('>BQB')
             body.end()
@@ -600,12 +703,9 @@ class Client:
         body.end()
         return found
 
-    def _ask(self, tag: int, body: bytes, wanted: int) -> _Body:
-        """Asks, over a new connection where the old one is lost: the same request is never done twice."""
-        return self._tried(lambda: self._exchange(tag, body, wanted), self._drop)
-
     def _tried(self, work: Callable[[], T], drop: Callable[[], None]) -> T:
-        """What the work gives, which is done again where the connection or the service is gone."""
+        """What the work gives, which is done again where the connection or the service is gone: the same request is never
+        done twice."""
         for attempt in range(self.tries):
             if attempt:
                 time.sleep(min(0.02 * 2 ** min(attempt, 6), 1.0))
@@ -638,44 +738,95 @@ class Client:
 
     def _opened(self) -> http.client.HTTPConnection:
         """A connection to where the service tells its status. Its set is this client's, or goes on from it."""
-        status = self.status if self.folder is None else _notice_of(self.folder)[1]
+        notice = None if self.folder is None else _notice_of(self.folder)
+        status = self.status if notice is None else notice.status
         if status is None:
             raise NoStatus()
         asked = http.client.HTTPConnection(self.address[0], status, timeout=self.timeout)
         asked.connect()
         asked.auto_open = 0  # it never goes on over another connection by itself
         try:
+            self._check(notice)
             self._compare(_set_told(asked))
         except (LynxError, OSError):
             asked.close()
             raise
+        self.read_books = None if notice is None else notice.books
         return asked
 
     def _exchange(self, tag: int, body: bytes, wanted: int) -> _Body:
         self._send(tag, body)
         return self._answer(wanted)
 
-    def _find(self, folder: str) -> None:
+    def _find(self) -> Optional[_Notice]:
         """Looks again where the service over the folder listens, and where its set is told: a kill leaves what the folder
-        tells, and another service may have its ports by now."""
-        port, self.status, text = _notice_of(folder)
-        self.address = (self.address[0], port)
-        if self.status is None:
-            self._compare(text)
+        tells, and another service may have its ports by now. The folder may lead to the next books."""
+        if self.folder is None:
+            return None
+        notice = _notice_of(self.folder)
+        self.address, self.status = (self.address[0], notice.port), notice.status
+        if self.books is not None and self.books != notice.books and self.owed:
+            self.closed.update(dict.fromkeys(self.owed, self.books))
+            self.unsettled = BooksClosed(self.books, notice.books, self.client, chain=next(iter(self.owed)))
+            self.owed.clear()
+        self.books = notice.books
+        return notice
+
+    def _check(self, notice: Optional[_Notice]) -> None:
+        """It is connected to a service of the books of the notice, since these weren't closed before."""
+        if notice is not None and _is_carried(notice.folder):
+            raise NoService(f'no service: {self.folder}')
+
+    def _in_books(self, books: Optional[int], number: Optional[int], chain: Optional[Chain]) -> None:
+        """What was asked in these books is asked in no others."""
+        if books is not None and self.books is not None and books != self.books:
+            raise BooksClosed(books, self.books, self.client, number, chain)
 
     def _compare(self, text: str) -> None:
         """The set that is served is this client's, or goes on from it."""
         if text != self.set_text and not extends(text, self.set_text):
             raise OtherSet()
 
+    def _ready(self, books: Optional[int] = None, number: Optional[int] = None, chain: Optional[Chain] = None) -> None:
+        """Connects, where it isn't connected any more, to ask what can be asked in these books alone, or in any. What is
+        sent over a connection that the service ended may have been done, so it is looked at first."""
+        if self.socket is not None and self._is_hung_up(self.socket):
+            self._drop()
+        notice = self._find() if self.socket is None else None
+        self._in_books(books, number, chain)
+        if self.socket is None:
+            self._connect(notice)
+
+    def _connect(self, notice: Optional[_Notice]) -> None:
+        if self.status is not None:
+            self._compare(served_set(self.status, self.address[0], self.timeout))
+        elif notice is not None:
+            self._compare(notice.text)
+        stream = socket.create_connection(self.address, self.timeout)
+        try:
+            stream.setsockopt(socket.IPPROTO_TCP, socket.TCP_NODELAY, 1)
+            self._check(notice)
+        except BaseException:
+            stream.close()
+            raise
+        self.socket = stream
+
+    def _is_hung_up(self, stream: socket.socket) -> bool:
+        """Whether the connection ended, or something came that wasn't asked for."""
+        stream.settimeout(0.0)
+        try:
+            stream.recv(1, socket.MSG_PEEK)
+        except BlockingIOError:
+            return False
+        except OSError:
+            return True
+        finally:
+            stream.settimeout(self.timeout)
+        return True
+
     def _send(self, tag: int, body: bytes) -> None:
         if self.socket is None:
-            if self.folder is not None:
-                self._find(self.folder)
-            if self.status is not None:
-                self._compare(served_set(self.status, self.address[0], self.timeout))
-            self.socket = socket.create_connection(self.address, self.timeout)
-            self.socket.setsockopt(socket.IPPROTO_TCP, socket.TCP_NODELAY, 1)
+            raise ConnectionError('not connected')
         self.socket.sendall(struct.pack('>BI', tag, len(body)) + body)
 
     def _answer(self, wanted: int) -> _Body:

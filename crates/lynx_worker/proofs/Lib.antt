@@ -3,3 +3,5 @@ pub mod Tellings
 pub mod RouteLemmas
 pub mod Advancing
 pub mod CatchingUp
+pub mod Takings
+pub mod Unheards

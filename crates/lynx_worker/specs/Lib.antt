@@ -1,3 +1,5 @@
 pub mod Sending
 pub mod Telling
 pub mod Routes
+pub mod Unheard
+pub mod Taking

@@ -1,6 +1,7 @@
 //! What a worker sends to one server.
-ghost use Rattle.std.specs.Prelude.{◌≡◌, IfSome, MatchBool, None, Some, take, unwrap_or};
+ghost use Rattle.std.specs.Prelude.{◌≡◌, IfSome, MatchBool, None, Some, take, true, unwrap_or};
 ghost use Rattle.lynx_worker.specs.Sending.{CatchesUp, SendsAll, SendsNothing, SendsTo};
+ghost use Rattle.lynx_worker.specs.Unheard.{HearsAbsent, IsUnheard, StayUnheard, StayUnheardBut, has_place};
 
 use crate::resending::{Passes, Reach};
 use crate::steps::{Due, Owed, Steps};
@@ -63,14 +64,24 @@ fn send_due(ends: &mut Ends, due: Due) -> bool
     offer(ends, due.to, Parcel::Message(due.message))
 }
 
+/// One of the messages is of that place.
+fn has_place(dues: &[Due], place: u64) -> bool
+    ensures { result ≡ has_place dues.now place }
+{
+    dues.iter().any(|due| due.place == place)
+}
+
 impl Flight {
     /// Those of the places that owe nothing any more were acknowledged, though nobody told.
-    fn hear_absent(&mut self, places: &[u64], dues: &[Due]) {
+    fn hear_absent(&mut self, places: &[u64], dues: &[Due])
+        // What still owes a message stays unheard.
+        ensures { HearsAbsent dues.now self.old.unheard.sent.items self.new.unheard.sent.items }
+    {
         if dues.len() >= places.len() {
             return;
         }
         for place in places {
-            if !dues.iter().any(|due| due.place == *place) {
+            if !has_place(dues, *place) {
                 self.unheard.hear(*place);
                 self.trips.forget(*place);
             }
@@ -174,6 +185,10 @@ impl Route {
         ensures lags { MatchBool result
             ((self.old.lags_at ≡ None) × (self.new.lags_at ≡ None))
             (self.new.lags_at ≡ Some (unwrap_or self.old.lags_at due.place)) }
+        ensures noted { result ≡ true
+            → IsUnheard self.new.flight.unheard.sent.items due.place }
+        ensures stay { StayUnheard self.old.flight.unheard.sent.items
+            self.new.flight.unheard.sent.items }
         ensures to { self.new.to ≡ self.old.to }
     {
         if self.lags_at.is_some() {
@@ -246,6 +261,8 @@ impl Route {
     pub(crate) fn hear<R: Clock>(&mut self, rt: &R, place: u64)
         ensures to { self.new.to ≡ self.old.to }
         ensures lags { self.new.lags_at ≡ self.old.lags_at }
+        ensures stay { StayUnheardBut place self.old.flight.unheard.sent.items
+            self.new.flight.unheard.sent.items }
     {
         self.flight.trips.hear(rt, place);
         self.flight.unheard.hear(place);

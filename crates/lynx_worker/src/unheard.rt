@@ -1,10 +1,14 @@
 //! What was sent to one server, and of what nothing was heard.
+ghost use Rattle.std.specs.Prelude.{◌≡◌, ◌<◌, OnOk};
+ghost use Rattle.std.specs.VecDeque.{deque_capacity, deque_len};
+ghost use Rattle.lynx_worker.specs.Unheard.{IsUnheard, StayUnheard, StayUnheardBut};
+
 use std::alloc::{AllocError, Global};
 use std::collections::VecDeque;
 
 /// A message that was sent.
 #[derive(Clone, Copy)]
-struct Sent {
+pub(crate) struct Sent {
     /// The place of the entry that sends it.
     place: u64,
     /// It was acknowledged.
@@ -27,32 +31,52 @@ impl Unheard {
     }
 
     /// Makes room for one message more.
-    pub(crate) fn reserve(&mut self) -> Result<(), AllocError> {
+    pub(crate) fn reserve(&mut self) -> Result<(), AllocError>
+        ensures room { OnOk result (deque_len self.new.sent < deque_capacity self.new.sent) }
+        ensures same { self.new.sent.items ≡ self.old.sent.items }
+    {
         self.sent.reserve(1)
     }
 
-    /// The message of that place was sent, which is behind those before. It takes no memory where
-    /// there is room.
-    pub(crate) fn went(&mut self, place: u64) {
-        let _ = self.sent.push_back(Sent {
+    /// The message of that place was sent, which is behind those before. Takes no memory.
+    pub(crate) fn went(&mut self, place: u64)
+        requires { deque_len self.old.sent < deque_capacity self.old.sent }
+        ensures noted { IsUnheard self.new.sent.items place }
+        ensures stay { StayUnheard self.old.sent.items self.new.sent.items }
+    {
+        self.sent.push_back_reserved(Sent {
             place,
             is_heard: false,
         });
     }
 
     /// The message of that place was acknowledged. A search by halves.
-    pub(crate) fn hear(&mut self, place: u64) {
+    pub(crate) fn hear(&mut self, place: u64)
+        ensures stay { StayUnheardBut place self.old.sent.items self.new.sent.items }
+        ensures none_new { StayUnheard self.new.sent.items self.old.sent.items }
+    {
         let index = self.sent.partition_point(|sent| sent.place < place);
+        self.mark(index, place);
+        self.forget_first();
+    }
+
+    /// Marks the message at that index as acknowledged, if it is of that place.
+    fn mark(&mut self, index: usize, place: u64)
+        ensures stay { StayUnheardBut place self.old.sent.items self.new.sent.items }
+        ensures none_new { StayUnheard self.new.sent.items self.old.sent.items }
+    {
         if let Some(sent) = self.sent.get_mut(index) {
             if sent.place == place {
                 sent.is_heard = true;
             }
         }
-        self.forget_first();
     }
 
     /// Forgets the first messages that were acknowledged.
-    fn forget_first(&mut self) {
+    fn forget_first(&mut self)
+        ensures stay { StayUnheard self.old.sent.items self.new.sent.items }
+        ensures none_new { StayUnheard self.new.sent.items self.old.sent.items }
+    {
         for _ in 0..self.sent.len() {
             match self.sent.front() {
                 Some(sent) if sent.is_heard => {}

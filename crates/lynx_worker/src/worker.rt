@@ -2,12 +2,13 @@
 //! in.
 ghost use Rattle.std.specs.Prelude.{◌≡◌};
 ghost use Rattle.lynx_worker.specs.Sending.{reached_after, Sends};
+ghost use Rattle.lynx_worker.specs.Taking.{Takes, TakesOut};
 
 use crate::rest::{pause, rest};
 use crate::routes::Routes;
 use crate::steps::{Arrived, Owed, Receipt, Steps};
 use crate::telling::{add_receipts, tell};
-use lynx_link::Ends;
+use lynx_link::{Ends, Receiver};
 use lynx_names::{Memory, ServerId};
 use std::alloc::Global;
 use std::collections::VecDeque;
@@ -37,6 +38,22 @@ pub struct Worker<S: Steps> {
     inbox: VecDeque<Arrived>,
     /// What was done, of which the senders weren't told yet.
     untold: VecDeque<Receipt>,
+}
+
+/// Puts what comes out of a ring, which leads from that server, into the inbox. What there is no
+/// memory for stays in the ring.
+fn take_out(receiver: &mut Receiver, from: ServerId, inbox: &mut VecDeque<Arrived>)
+    ensures { TakesOut from receiver.old inbox.old.items receiver.new inbox.new.items }
+{
+    for _ in 0..ROUND_PARCELS {
+        if inbox.reserve(1).is_err() {
+            break;
+        }
+        let Some(parcel) = receiver.take() else {
+            break;
+        };
+        inbox.push_back_reserved(Arrived { from, parcel });
+    }
 }
 
 impl<S: Steps> Worker<S> {
@@ -88,23 +105,18 @@ impl<S: Steps> Worker<S> {
 
     /// Puts what came from that server into the inbox. What there is no memory for stays in its
     /// ring.
-    fn take_from(&mut self, from: ServerId) {
-        let Some(receiver) = self.ends.receiver(from) else {
-            return;
-        };
-        for _ in 0..ROUND_PARCELS {
-            if self.inbox.reserve(1).is_err() {
-                break;
-            }
-            let Some(parcel) = receiver.take() else {
-                break;
-            };
-            self.inbox.push_back_reserved(Arrived { from, parcel });
+    fn take_from(&mut self, from: ServerId)
+        ensures { Takes self.old.ends self.old.inbox.items self.new.ends self.new.inbox.items }
+    {
+        if let Some(receiver) = self.ends.receiver(from) {
+            take_out(receiver, from, &mut self.inbox);
         }
     }
 
     /// Puts what came from each server into the inbox.
-    fn take_round(&mut self) {
+    fn take_round(&mut self)
+        ensures { Takes self.old.ends self.old.inbox.items self.new.ends self.new.inbox.items }
+    {
         for number in 0..self.routes.len() {
             if let Some(from) = u8::try_from(number).ok().and_then(ServerId::new) {
                 self.take_from(from);
@@ -114,7 +126,9 @@ impl<S: Steps> Worker<S> {
 
     /// Puts what came into the inbox, round by round, once all that it held was served. Whether
     /// there is any.
-    fn take(&mut self) -> bool {
+    fn take(&mut self) -> bool
+        ensures { Takes self.old.ends self.old.inbox.items self.new.ends self.new.inbox.items }
+    {
         if !self.inbox.is_empty() {
             return true;
         }

@@ -17,6 +17,7 @@ use Rattle.lynx_cluster.specs.declared.fault.CloseFault.{CloseFault}
 use Rattle.lynx_cluster.specs.declared.fault.CloseFault.TheVariants.{Mismatch, Told, Stopped, Memory, Absent, Uncounted}
 use Rattle.lynx_cluster.specs.Closing.{AreTakenBack, IsClosed, IsCounted, IsMiscounted, IsUnclosed, told_to}
 use Rattle.lynx_cluster.specs.Clusters.{ClusterState}
+use Rattle.lynx_cluster.specs.inner.Absent.{IsAbsent}
 use Rattle.lynx_cluster.specs.inner.Closing.{IsFirstUncounted, IsTakeFault, close_fault}
 use Rattle.lynx_cluster.specs.Sessions.{SessionState}
 
@@ -56,17 +57,18 @@ counts_many set histories starts told woven counts is are =
 -- a world of what was taken back, all counts of which agree
 pub closed_by : {K : Type 0} (terms : Terms K) (cluster : ClusterState) (sessions : List SessionState) (set : Set) (starts : List ℕ) (told : List (List ToldItem)) (histories : List History) (keepers : List K) (woven : Woven) (counts : List ServerCounts) →
     record { set = set; starts = starts } ≡ cluster → told ≡ told_to sessions → AreTakenBack terms set histories keepers →
-    IsWovenSince set histories starts told woven → counts ≡ woven.counts.items → IsFirstUncounted counts None →
-    IsClosed terms cluster sessions woven.world keepers
-closed_by terms cluster sessions set starts told histories keepers woven counts cluster_is told_is taken is are agree =
+    IsWovenSince set histories starts told woven → counts ≡ woven.counts.items → IsFirstUncounted counts None → (made : ℕ) → IsAbsent made sessions None →
+    IsClosed terms cluster sessions made woven.world keepers
+closed_by terms cluster sessions set starts told histories keepers woven counts cluster_is told_is taken is are agree made handed_in =
     let well = subst (λ (t : List (List ToldItem)). IsWovenSince set histories starts t woven) told_is is in
-    subst (λ (c : ClusterState). IsClosed terms c sessions woven.world keepers) cluster_is
+    subst (λ (c : ClusterState). IsClosed terms c sessions made woven.world keepers) cluster_is
     (record {
       histories = histories;
       taken = taken;
       woven = well.world_is;
       none_old = well.none_old;
       counted = counted_all histories starts (told_to sessions) set.servers counts (are ∙ well.counts_are) agree;
+      handed_in = handed_in;
     })
 
 -- .. and those of that server don't

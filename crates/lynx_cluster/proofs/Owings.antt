@@ -1,6 +1,6 @@
 -- The messages that a server owes, found one after another.
-use Rattle.std.proofs.Common.{◌≡◌, ◌∙◌, ◌⊎◌, ℕ, ◌+◌, ◌<◌, ◌≤◌, List, [], ◌∷◌, ◌++◌, length, length-take, take, Some, inl, inr, sym, ap, subst, arith}
-use Rattle.std.specs.Prelude.{slice_get}
+use Rattle.std.proofs.Common.{◌≡◌, ◌∙◌, ◌⊎◌, ℕ, ◌+◌, ◌<◌, ◌≤◌, List, [], ◌∷◌, ◌++◌, length, length-take, max, take, Option, None, Some, inl, inr, sym, ap, subst, arith}
+use Rattle.std.specs.Prelude.{IfSome, MatchOption, slice_get}
 use Rattle.std.proofs.lemmas.Bool.{cases_lt}
 use Rattle.std.proofs.lemmas.Option.{slice_get_within}
 use Rattle.lynx_entry.specs.declared.entry.Entry.{Entry}
@@ -16,7 +16,8 @@ use Rattle.lynx_server.specs.Serving.{Serving}
 use Rattle.lynx_set.specs.Lookups.{server_at}
 use Rattle.lynx_set.specs.Set.{Set}
 use Rattle.lynx_worker.specs.declared.steps.Due.{Due}
-use Rattle.lynx_cluster.specs.inner.Serving.{AddsFound, AreOwed, AreOwedBetween, AreRising, HasPlace, IsDueOf, OwesOnlyAt}
+use Rattle.lynx_worker.specs.declared.steps.Owed.{Owed}
+use Rattle.lynx_cluster.specs.inner.Serving.{AddsFound, AreOwed, AreOwedBetween, AreRising, HasPlace, IsDueOf, OwesFrom, OwesOnlyAt}
 
 nothing_on : {K : Type 0} (serving : Serving K) (from mid to : ℕ) → OwesNothingBetween serving from mid → OwesNothingBetween serving mid to → OwesNothingBetween serving from to
 nothing_on serving from mid to first second other low high message owed = elim (cases_lt other mid) [
@@ -76,6 +77,44 @@ owed_few serving place message lawful owed =
     let room = room_of serving.set serving.server (take place serving.history) owed.entry (lawful_in serving.set serving.server serving.history place owed.entry lawful owed.there) in
     let many = length-take place serving.history in
     omega (arith, within, room, many)
+
+-- ---- from a place on
+
+abbrev OwesUpTo : {K : Type 0} → Serving K → ℕ → ℕ → ℕ → Type 0
+OwesUpTo serving from next len = (len ≡ length serving.history) × (next ≡ max from len)
+
+-- nothing is owed behind all entries
+pub owes_past : {K : Type 0} (serving : Serving K) (owed : Owed) (len : ℕ) → owed.dues.items ≡ [] → owed.end ≡ Some len → len ≡ length serving.history → len ≤ owed.from →
+    OwesFrom serving owed
+owes_past serving owed len none is all past = record {
+  next = owed.from;
+  between = subst (λ (dues : List Due). AreOwedBetween serving owed.from dues owed.from) (sym none) (owed_none serving owed.from);
+  end = subst (λ (end : Option ℕ). IfSome end (OwesUpTo serving owed.from owed.from)) (sym is) (all, omega (arith, past));
+}
+
+-- nothing was looked for
+pub owes_unasked : {K : Type 0} (serving : Serving K) (owed : Owed) → owed.dues.items ≡ [] → owed.end ≡ None → OwesFrom serving owed
+owes_unasked serving owed none is = record {
+  next = owed.from;
+  between = subst (λ (dues : List Due). AreOwedBetween serving owed.from dues owed.from) (sym none) (owed_none serving owed.from);
+  end = subst (λ (end : Option ℕ). IfSome end (OwesUpTo serving owed.from owed.from)) (sym is) tt;
+}
+
+-- these were found
+pub owes_found : {K : Type 0} (serving : Serving K) (owed : Owed) (dues : List Due) (end : Option ℕ) → owed.dues.items ≡ dues → owed.end ≡ end →
+    MatchOption end ((next : ℕ) × AreOwedBetween serving owed.from dues next) (λ len. (len ≡ length serving.history) × AreOwedBetween serving owed.from dues len) →
+    OwesFrom serving owed
+owes_found serving owed dues None are is found = record {
+  next = found.0;
+  between = subst (λ (l : List Due). AreOwedBetween serving owed.from l found.0) (sym are) found.1;
+  end = subst (λ (e : Option ℕ). IfSome e (OwesUpTo serving owed.from found.0)) (sym is) tt;
+}
+owes_found serving owed dues (Some len) are is found = record {
+  next = len;
+  between = subst (λ (l : List Due). AreOwedBetween serving owed.from l len) (sym are) found.1;
+  end = subst (λ (e : Option ℕ). IfSome e (OwesUpTo serving owed.from len)) (sym is)
+      (found.0, let upto = owed_upto serving owed.from dues len found.1 in omega (arith, upto));
+}
 
 -- ---- at places that are asked for
 

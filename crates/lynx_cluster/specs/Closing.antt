@@ -41,10 +41,19 @@ IsCounted histories starts told server =
     count_by (is_fresh_of server) (all_told told)
     ≡ count_by answers_begin (history_since histories starts server)
 
+-- one of the sessions has that number
+pub record HasOne (sessions : List SessionState) (number : ℕ) : Type 0 where
+  pub place : ℕ
+  pub session : SessionState
+  pub there : slice_get sessions place ≡ Some session
+  pub number_is : session.number ≡ number
+
 -- A close: a world of just what the keepers keep, in which all that was told stands, each fresh
--- item by an entry since the start, and of each server as many were told as it added.
+-- item by an entry since the start, and of each server as many were told as it added. Each session
+-- is handed in whose number is below how many were made.
 pub record IsClosed {K : Type 0} (terms : Terms K) (cluster : ClusterState)
-    (sessions : List SessionState) (world : WorldState) (keepers : List K) : Type 0 where
+    (sessions : List SessionState) (made : ℕ) (world : WorldState) (keepers : List K) :
+    Type 0 where
   pub histories : List History
   pub taken : AreTakenBack terms cluster.set histories keepers
   pub woven : IsWoven cluster.set histories (told_to sessions) world
@@ -52,6 +61,7 @@ pub record IsClosed {K : Type 0} (terms : Terms K) (cluster : ClusterState)
       (told_to sessions)
   pub counted : (server : ℕ) → server < cluster.set.servers
       → IsCounted histories cluster.starts (told_to sessions) server
+  pub handed_in : (number : ℕ) → number < made → HasOne sessions number
 
 -- what was taken back of all servers does not weave to a world in which what was told stands
 pub record IsUnwoven {K : Type 0} (terms : Terms K) (cluster : ClusterState)
@@ -75,13 +85,6 @@ abbrev pub HasNone : List SessionState → ℕ → Type 0
 HasNone sessions number =
     (place : ℕ) (session : SessionState) → slice_get sessions place ≡ Some session
     → session.number ≢ number
-
--- one of the sessions has that number
-pub record HasOne (sessions : List SessionState) (number : ℕ) : Type 0 where
-  pub place : ℕ
-  pub session : SessionState
-  pub there : slice_get sessions place ≡ Some session
-  pub number_is : session.number ≡ number
 
 -- That number is the least that none of the sessions has.
 pub record IsFirstAbsent (sessions : List SessionState) (number : ℕ) : Type 0 where

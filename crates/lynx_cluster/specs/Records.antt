@@ -1,7 +1,9 @@
 -- Where a request is recorded.
 use Rattle.std.specs.Prelude.{◌≡◌, ℕ, suc, List, [], ◌∷◌, ◌++◌, Option, None, Some, length}
 use Rattle.lynx_cluster.specs.declared.finding.Recorded.{Recorded}
+use Rattle.lynx_entry.specs.declared.entry.BegunEntry.{BegunEntry}
 use Rattle.lynx_entry.specs.declared.entry.Entry.{Entry}
+use Rattle.lynx_entry.specs.declared.entry.Entry.TheVariants as entries
 use Rattle.lynx_entry.specs.declared.request.Request.{Request}
 use Rattle.lynx_entry.specs.Entry.{History}
 use Rattle.lynx_names.specs.declared.chain.ChainId.{ChainId}
@@ -37,6 +39,12 @@ pub record IsBeginning (set : Set) (chain : ChainId) (entry : Entry) : Type 0 wh
   pub history : History
   pub lawful : IsLawfulHistory set chain.origin history
   pub there : act_of chain 0 history ≡ Some entry
+
+-- it is the program of the request by which the chain begins in some history of its origin
+pub record IsProgramOf (set : Set) (chain : ChainId) (program : ℕ) : Type 0 where
+  pub begun : BegunEntry
+  pub begins : IsBeginning set chain (entries.Begun begun)
+  pub program_is : begun.request.program ≡ program
 
 -- These are all records of the client's request in some history of each server.
 pub record AreRecords (set : Set) (client number : ℕ) (found : List Recorded) : Type 0 where

@@ -21,9 +21,11 @@ use std::mem;
 use std::sync::Wait;
 use std::thread::Threads;
 
-/// A closed cluster: the world of all that its servers did, and their keepers, by server.
+/// A closed cluster: how many sessions it made, the world of all that its servers did, and their
+/// keepers, by server. No clause can say that so many were made: they are counted behind a lock.
 #[derive(Drop)]
 pub struct Closed<K: BatchKeeper> {
+    pub made: u64,
     pub world: World,
     pub keepers: Vec<K>,
 }
@@ -60,8 +62,8 @@ impl<K: BatchKeeper + Drop, G: Gate + Drop> Cluster<K, G> {
         alloc: Global,
         sessions: Vec<Session>,
     ) -> Result<Closed<K>, CloseFault>
-        ensures closed { IfOk result (λ closed. IsClosed K.terms self sessions.items closed.world
-            closed.keepers.items) }
+        ensures closed { IfOk result (λ closed. IsClosed K.terms self sessions.items closed.made
+            closed.world closed.keepers.items) }
         ensures fault { IfErr result (IsUnclosed K.terms self sessions.items) }
     {
         let Cluster {
@@ -78,8 +80,8 @@ impl<K: BatchKeeper + Drop, G: Gate + Drop> Front<K, G> {
     /// Takes the states out of their locks, weaves what the servers did to a world, and checks what
     /// the sessions were told in it.
     fn close(self, alloc: Global, sessions: Vec<Session>) -> Result<Closed<K>, CloseFault>
-        ensures closed { IfOk result (λ closed. IsClosed K.terms self sessions.items closed.world
-            closed.keepers.items) }
+        ensures closed { IfOk result (λ closed. IsClosed K.terms self sessions.items closed.made
+            closed.world closed.keepers.items) }
         ensures fault { IfErr result (IsUnclosed K.terms self sessions.items) }
     {
         let Front {
@@ -90,7 +92,8 @@ impl<K: BatchKeeper + Drop, G: Gate + Drop> Front<K, G> {
             bells: _,
             sessions: made,
         } = self;
-        let absent = first_absent(alloc, made.into_inner(), sessions.as_slice());
+        let made = made.into_inner();
+        let absent = first_absent(alloc, made, sessions.as_slice());
         let set = &*set;
         // The sessions are spent before any fault is told.
         let told = told_of(alloc, sessions);
@@ -110,6 +113,7 @@ impl<K: BatchKeeper + Drop, G: Gate + Drop> Front<K, G> {
             return Err(CloseFault::Uncounted { server });
         }
         Ok(Closed {
+            made,
             world: woven.world,
             keepers: taken.keepers,
         })

@@ -4,6 +4,7 @@ ghost use Rattle.lynx_codec.specs.Ranges.{IsLookedInRange};
 ghost use Rattle.lynx_cluster.specs.Calls.{AnswersBegin};
 ghost use Rattle.lynx_cluster.specs.Clusters.{IsOf, home_of};
 ghost use Rattle.lynx_cluster.specs.Looks.{Looks};
+ghost use Rattle.lynx_cluster.specs.Records.{IsProgramOf};
 ghost use Rattle.lynx_cluster.specs.Sessions.{new_session};
 
 use crate::bells::Bells;
@@ -169,11 +170,15 @@ impl<K: BatchKeeper, G: Gate> Front<K, G> {
 
     /// The program of the chain, by its entry at its origin, whose lock is taken and given back.
     /// None where it hasn't begun.
-    pub fn program_of<R: Wait>(&self, rt: &R, chain: &ChainId) -> Option<ProgramId> {
+    pub fn program_of<R: Wait>(&self, rt: &R, chain: &ChainId) -> Option<ProgramId>
+        ensures { IfSome result (IsProgramOf self.now.set chain.now) }
+    {
         let state = self.posts.as_slice().get(chain.origin.index())?.look(rt);
         if !is_of(&state, &self.set, chain.origin) {
             return None;
         }
+        // By its type the history is lawful.
+        let _ = state.settled();
         match state.entry_of(*chain, 0)? {
             Entry::Begun(begun) => Some(begun.request.program),
             Entry::Refused(_) | Entry::Hop(_) => None,

@@ -1,11 +1,11 @@
 //! What is seen of a running cluster by whoever has no session: nothing is noted of it, and no
 //! audit asks for it.
-ghost use Rattle.std.specs.Prelude.{◌≡◌, All, IfOk, drop, take};
+ghost use Rattle.std.specs.Prelude.{◌≡◌, All, IfOk, IfSome, drop, take};
 ghost use Rattle.lynx_codec.specs.Entries.{IsEntryInRange};
 ghost use Rattle.lynx_resting.specs.Resting.{settled_front, settled_part};
 ghost use Rattle.lynx_rules.specs.Tables.{clock_of};
 ghost use Rattle.lynx_server.specs.Acts.{act_of};
-ghost use Rattle.lynx_cluster.specs.Glances.{glance_of, last_of};
+ghost use Rattle.lynx_cluster.specs.Glances.{AreEntriesFrom, AreLastEntries, IsRecalled, IsSeen, glance_of, last_of};
 ghost use Rattle.lynx_cluster.specs.Looks.{looked_at};
 
 use crate::cluster::{Front, is_of};
@@ -118,13 +118,16 @@ impl<K: BatchKeeper, G: Gate> Front<K, G> {
 
     /// What is seen of that server, under its lock. None where there is no such server. It costs a
     /// walk over the set, and takes no memory.
-    pub fn glance<R: Wait>(&self, rt: &R, server: ServerId) -> Option<Glance> {
+    pub fn glance<R: Wait>(&self, rt: &R, server: ServerId) -> Option<Glance>
+        ensures { IfSome result (IsSeen self.now.set server) }
+    {
         let state = self.posts.as_slice().get(server.index())?.look(rt);
-        if is_of(&state, &self.set, server) {
-            Some(glance_of(&state))
-        } else {
-            None
+        if !is_of(&state, &self.set, server) {
+            return None;
         }
+        // By its type the history is lawful.
+        let _ = state.settled();
+        Some(glance_of(&state))
     }
 
     /// Copies of the last settled entries of that server, so many at most, made under its lock;
@@ -135,7 +138,9 @@ impl<K: BatchKeeper, G: Gate> Front<K, G> {
         alloc: Global,
         server: ServerId,
         most: usize,
-    ) -> Result<Vec<Entry>, Memory> {
+    ) -> Result<Vec<Entry>, Memory>
+        ensures { IfOk result (λ entries. AreLastEntries self.now.set server most entries.items) }
+    {
         let Some(post) = self.posts.as_slice().get(server.index()) else {
             return Ok(Vec::new(alloc));
         };
@@ -156,7 +161,9 @@ impl<K: BatchKeeper, G: Gate> Front<K, G> {
         from: usize,
         most: usize,
     ) -> Result<Vec<Entry>, Memory>
-        ensures { IfOk result (λ entries. All IsEntryInRange entries.items) }
+        ensures read { IfOk result (λ entries. AreEntriesFrom self.now.set server from most
+            entries.items) }
+        ensures range { IfOk result (λ entries. All IsEntryInRange entries.items) }
     {
         let Some(post) = self.posts.as_slice().get(server.index()) else {
             return Ok(Vec::new(alloc));
@@ -165,6 +172,8 @@ impl<K: BatchKeeper, G: Gate> Front<K, G> {
         if !is_of(&state, &self.set, server) {
             return Ok(Vec::new(alloc));
         }
+        // By its type the history is lawful.
+        let _ = state.settled();
         entries_from(alloc, &state, from, most)
     }
 
@@ -177,7 +186,9 @@ impl<K: BatchKeeper, G: Gate> Front<K, G> {
         server: ServerId,
         chain: ChainId,
         hop: u8,
-    ) -> Result<Looked, Memory> {
+    ) -> Result<Looked, Memory>
+        ensures { IfOk result (IsRecalled self.now.set server chain hop) }
+    {
         let Some(post) = self.posts.as_slice().get(server.index()) else {
             return Ok(Looked::Absent);
         };
@@ -185,6 +196,8 @@ impl<K: BatchKeeper, G: Gate> Front<K, G> {
         if !is_of(&state, &self.set, server) {
             return Ok(Looked::Absent);
         }
+        // By its type the history is lawful.
+        let _ = state.settled();
         looked_at(alloc, &state, &chain, hop)
     }
 }

@@ -30,6 +30,7 @@ mod leading;
 pub mod lent;
 mod looking;
 pub mod opening;
+mod owing;
 pub mod post;
 mod queue;
 pub mod reading;

@@ -1,11 +1,9 @@
 -- What a worker does at its server: which hops it tells to be done, and which messages it finds to
 -- be owed.
-use Rattle.std.specs.Prelude.{◌≡◌, ◌≢◌, ◌⊎◌, ◌≤◌, ◌<◌, ◌+◌, ◌-◌, ℕ, Bool, true, false, List, [], ◌∷◌, ◌++◌, IsSome, Option, Some, slice_get}
+use Rattle.std.specs.Prelude.{◌≡◌, ◌≢◌, ◌⊎◌, ◌≤◌, ◌<◌, ◌+◌, ℕ, Bool, true, false, List, [], ◌∷◌, ◌++◌, IfSome, IsSome, Option, Some, length, max, slice_get}
 use Rattle.std.specs.List.{AllByRecursion}
 use Rattle.lynx_entry.specs.declared.answer.Delivered.{Delivered}
 use Rattle.lynx_entry.specs.declared.answer.Delivered.TheVariants as delivered
-use Rattle.lynx_entry.specs.declared.entry.Entry.{Entry}
-use Rattle.lynx_entry.specs.declared.entry.Entry.TheVariants as entries
 use Rattle.lynx_entry.specs.declared.message.Message.{Message}
 use Rattle.lynx_entry.specs.Entry.{History}
 use Rattle.lynx_keep.specs.Kept.{Terms}
@@ -19,6 +17,7 @@ use Rattle.lynx_set.specs.Lookups.{server_at}
 use Rattle.lynx_set.specs.Set.{Set}
 use Rattle.lynx_worker.specs.declared.steps.Due.{Due}
 use Rattle.lynx_worker.specs.declared.steps.Heard.{Heard}
+use Rattle.lynx_worker.specs.declared.steps.Owed.{Owed}
 use Rattle.lynx_worker.specs.declared.steps.Receipt.{Receipt}
 
 -- the hop of the message was done, now or before
@@ -86,6 +85,13 @@ AreOwedBetween serving from (due ∷ dues) to =
     × IsOwed serving due.place due.message
     × (server_at serving.set due.message.program due.message.hop ≡ Some due.to)
     × AreOwedBetween serving (due.place + 1) dues to
+
+-- These are all messages that the server owes from where it was asked, in order, up to a next
+-- place. Where the length of its history is told, they are all that it owes from there on.
+pub record OwesFrom {K : Type 0} (serving : Serving K) (owed : Owed) : Type 0 where
+  pub next : ℕ
+  pub between : AreOwedBetween serving owed.from owed.dues.items next
+  pub end : IfSome owed.end (λ len. (len ≡ length serving.history) × (next ≡ max owed.from len))
 
 -- each of these is a message that the server owes, with the server that it is for
 abbrev pub AreOwed : {K : Type 0} → Serving K → List Due → Type 0

@@ -1,6 +1,8 @@
-use Rattle.std.proofs.Common.{◌∙◌, ap}
+use Rattle.std.proofs.Common.{◌∙◌, ℕ, List, Option, ap, subst}
 use Rattle.lynx_set.specs.Set.{Set}
 use Rattle.lynx_weave.specs.Rebuilt.{histories_in, told_in}
+use Rattle.lynx_cluster.specs.inner.Absent.{IsAbsent}
+use Rattle.lynx_cluster.specs.Sessions.{SessionState}
 use Rattle.lynx_cluster.proofs.Closings.{closed_by, counts_many, miscounted_by}
 use Rattle.lynx_cluster.proofs.cluster.Front.close.Goals as goal
 
@@ -26,4 +28,6 @@ returns-clause-closed g c =
     (ap (λ (s : Set). record { set = s; starts = c.as_slice-2.result.now }) c.deref-set.ensures
     ∙ ap (λ starts. record { set = c.self.inside.set.value; starts = starts }) c.as_slice-2.ensures.value ∙ c.self.view_is)
     (ap told_in c.as_slice-3.ensures.value ∙ c.in_ok-told.ensures) c.in_ok-taken.ensures.taken c.in_ok-woven.ensures c.as_slice-4.ensures.value
-    c.in_default-first_uncounted.ensures
+    c.in_default-first_uncounted.ensures c.into_inner-made.result
+    (subst (λ (found : Option ℕ). IsAbsent c.into_inner-made.result c.args.sessions.items found) c.in_default.is
+    (subst (λ (sessions : List SessionState). IsAbsent c.into_inner-made.result sessions c.in_ok-session.field-0) c.as_slice.ensures.value c.in_ok-session.ensures))

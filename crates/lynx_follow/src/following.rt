@@ -1,5 +1,5 @@
 //! A store that follows a server.
-ghost use Rattle.std.specs.Prelude.{◌≡◌, ◌↔◌, ◌++◌, ◌≤◌, [], All, IfNone, IfOk, IfSome, IsErrOf, IsFalse, IsTrue, OnOk, length, take};
+ghost use Rattle.std.specs.Prelude.{◌≡◌, ◌↔◌, ◌++◌, ◌≤◌, [], All, IfNone, IfOk, IfSome, IsErrOf, IsTrue, OnOk, length, take};
 ghost use Rattle.lynx_codec.specs.Entries.{IsEntryInRange};
 ghost use Rattle.lynx_entry.specs.Entry.{History};
 ghost use Rattle.lynx_keep.specs.Kept.{HasRisen};
@@ -178,24 +178,27 @@ impl<K> Opened<K> {
         self.rest.len()
     }
 
-    /// Whether the entries that are left are those that the server did from there on, as far as
-    /// these go. Those that are the same are left no longer.
-    pub fn compare(&mut self, did: &[Entry]) -> bool
-        ensures same { IsTrue result → self.old.rest.items
-            ≡ take (length self.old.rest.items) did.now ++ self.new.rest.items }
-        ensures other { IsFalse result → (rest : History) → self.old.rest.items
-            ≡ take (length self.old.rest.items) did.now ++ rest → ⊥ }
-        ensures follower { self.new.follower ≡ self.old.follower }
+    /// Compares the entries that are left with those that the server did from there on, as far as
+    /// these go. The same store, in which those that are the same are left no longer; None where
+    /// one differs, so that a store of another history never follows.
+    pub fn compare(mut self, did: &[Entry]) -> Option<Opened<K>>
+    where
+        K: Drop,
+        ensures same { IfSome result (λ same. self.rest.items
+            ≡ take (length self.rest.items) did.now ++ same.rest.items) }
+        ensures other { IfNone result ((rest : History) → self.rest.items
+            ≡ take (length self.rest.items) did.now ++ rest → ⊥) }
+        ensures follower { IfSome result (λ same. same.follower ≡ self.follower) }
     {
         for entry in did {
             let Some(kept) = self.rest.pop_front() else {
-                return true;
+                return Some(self);
             };
             if !is_same(&kept, entry) {
-                return false;
+                return None;
             }
         }
-        true
+        Some(self)
     }
 
     /// The store that follows, where no entry is left that nobody compared.

@@ -1,4 +1,5 @@
 //! The databases of a folder's stores, whatever set they are of.
+use crate::carried::check_carried;
 use crate::files::{Files, store_path};
 use crate::presence::{check_folder, has_store, judge};
 use lynx_names::ServerId;
@@ -29,8 +30,8 @@ pub trait Databases<C> {
 }
 
 // Damaged where the file is no database's, or was emptied beside its log; Store where the folder
-// isn't there, or another process has the file. No clause ties a file to its path: the kit has none
-// that could.
+// isn't there, its books are closed, or another process has the file. No clause ties a file to its
+// path: the kit has none that could.
 impl Databases<Connection<FileStore<File>>> for Files {
     ghost opened_at = { λ folder server found. Unit {0} };
 
@@ -50,6 +51,7 @@ impl Databases<Connection<FileStore<File>>> for Files {
         let Ok(conn) = Connection::open(&self.rt, path.as_str()) else {
             return Err(StoreFault::Store);
         };
+        check_carried(&self.rt, folder)?;
         if is_empty(conn.schema()) {
             return Ok(None);
         }

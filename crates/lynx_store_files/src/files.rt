@@ -11,6 +11,7 @@ ghost use Rattle.lynx_store.specs.Premise.{IsUndisturbed};
 ghost use Rattle.lynx_store.specs.Stored.{IsKept, owner_for};
 ghost use Rattle.lynx_store_files.specs.Paths.{store_path};
 
+use crate::carried::check_carried;
 use crate::keeper::FileKeeper;
 use crate::presence::{check_folder, check_restored, has_store, judge};
 use crate::stores::Stores;
@@ -112,7 +113,9 @@ pub fn open_made<S: Start>(
 /// folder that isn't there. A file that is no database's is answered [`StoreFault::Damaged`], and
 /// so is one that was emptied beside its log: nothing of either is changed. No store is made in a
 /// folder to which a restore was stopped ([`restoring_path`](crate::restoring_path)): that is
-/// Damaged too.
+/// Damaged too. A folder whose books are closed ([`carried_path`](crate::carried_path)) opens no
+/// store for writing, which is answered [`StoreFault::Store`]: each opening looks for that file
+/// once it holds the lock of the store. A copy of a store can still be read.
 #[derive(Drop)]
 pub struct Files {
     pub(crate) rt: HostRuntime,
@@ -131,16 +134,18 @@ impl Files {
 // whatever that file held; `Unknown` is the name that a program gives it (docs/DECISIONS.md,
 // Services and clients).
 impl Stores<FileKeeper<File>> for Files {
-    ghost use Rattle.std.specs.Prelude.{◌≡◌};
+    ghost use Rattle.std.specs.Prelude.{◌≡◌, true};
     ghost use Rattle.lynx_store.specs.Heading.{owner_in};
     ghost use Rattle.lynx_store.specs.Stored.{owner_for};
+    ghost use Rattle.lynx_store_files.specs.Closing.{IsLetGo};
 
     ghost store_terms = { record {
       store_in = λ folder set server keeper.
           owner_in keeper.keeper.heading ≡ owner_for server set;
       lacks = λ folder server. Unit {0};
       count_of = λ keeper. keeper.keeper.count;
-      closed = λ keeper is_well. Unit {0};
+      closed = λ keeper is_well. is_well ≡ true → IsLetGo keeper.keeper.conn
+          keeper.keeper.heading keeper.keeper.count;
     } };
 
     fn open(
@@ -152,8 +157,11 @@ impl Stores<FileKeeper<File>> for Files {
         let path = store_path(self.rt.alloc(), folder, server)?;
         if !has_store(&self.rt, path.as_str())? {
             check_restored(&self.rt, folder)?;
+            check_carried(&self.rt, folder)?;
         }
-        open_store(&self.rt, path.as_str(), set, server, Unknown)
+        let keeper = open_store(&self.rt, path.as_str(), set, server, Unknown)?;
+        check_carried(&self.rt, folder)?;
+        Ok(keeper)
     }
 
     fn open_there(
@@ -167,7 +175,9 @@ impl Stores<FileKeeper<File>> for Files {
         if !has_store(&self.rt, path.as_str())? {
             return Ok(None);
         }
-        open_made(&self.rt, path.as_str(), set, server, Unknown)
+        let found = open_made(&self.rt, path.as_str(), set, server, Unknown)?;
+        check_carried(&self.rt, folder)?;
+        Ok(found)
     }
 
     fn has(&self, folder: &str, server: ServerId) -> Result<bool, StoreFault> {

@@ -2,6 +2,7 @@
 //! and the keepers over them.
 #![tactic(auto)]
 
+pub use carried::carried_path;
 pub use closing::close_all;
 pub use copies::{Copies, CopyFault, StoreCopy};
 pub use databases::Databases;
@@ -11,6 +12,7 @@ pub use keeper::{FileKeeper, StoreKeeper};
 pub use presence::restoring_path;
 pub use stores::Stores;
 
+mod carried;
 pub mod closing;
 pub mod copies;
 pub mod databases;

@@ -12,7 +12,7 @@ use std::rt::Files;
 use std::{fs, io};
 
 /// The fault of asking for a file.
-fn fault_of(error: io::Error) -> StoreFault {
+pub(crate) fn fault_of(error: io::Error) -> StoreFault {
     match error.kind() {
         ErrorKind::OutOfMemory => StoreFault::Memory,
         _ => StoreFault::Store,

@@ -257,7 +257,7 @@ def tell_words(tally, program):
     for command, rest in lines:
         told[command] |= set(re.findall(r"--[a-z-]+|[A-Z]+2?", rest))
     commands = ended([program, "--help"])[0]
-    tally.is_same("how many commands", len(told), 13)
+    tally.is_same("how many commands", len(told), 16)
     for command, wanted in told.items():
         out, err, status = ended([program, command, "--help"])
         missing = {word for word in wanted if not re.search(rf"(?<![\w-]){word}(?![\w-])", out)}

@@ -30,12 +30,12 @@ pub of_ok : {T : Type 0} {E : Type 0} (result : Result T E) (value : T) (fact : 
 of_ok result value fact same given = subst (λ r. OnOk r fact) same given
 
 -- a cluster of opened servers that was halted as it was and closed, and the end over its world, behind what was written before
-pub ends_well : {K : Type 0} (terms : Terms K) (stores : StoreTerms K) (folder : List ℕ) (apart : Bool) (set opened_set : Set) (before : List K) (servers : List (Serving K)) (cluster halted : ClusterState) (sessions : List SessionState) (keepers : List K)
+pub ends_well : {K : Type 0} (terms : Terms K) (stores : StoreTerms K) (folder : List ℕ) (apart : Bool) (set opened_set : Set) (before : List K) (servers : List (Serving K)) (cluster halted : ClusterState) (sessions : List SessionState) (made : ℕ) (keepers : List K)
     (old middle new : Option (List ℕ)) (world : WorldState) (result : Result Explained ServeFault) →
-    opened_set ≡ set → AreOpened terms set before servers → StandIn stores folder set before → AreAllSent opened_set (histories_of servers) → Starts opened_set servers cluster → halted ≡ cluster → IsClosed terms halted sessions world keepers →
+    opened_set ≡ set → AreOpened terms set before servers → StandIn stores folder set before → AreAllSent opened_set (histories_of servers) → Starts opened_set servers cluster → halted ≡ cluster → IsClosed terms halted sessions made world keepers →
     AppendsListening old middle → IfOk result (IsEnded world apart middle new) → OnOk result (AreClosed stores.closed keepers) → IfOk result (HasServed terms stores folder apart set old new)
-ends_well terms stores folder apart set opened_set before servers cluster halted sessions keepers old middle new world (Ok explained) same opened stood sent began still ended_so first ended let_go =
-    let closed : IsClosed terms cluster sessions world keepers = subst (λ state. IsClosed terms state sessions world keepers) still ended_so in
+ends_well terms stores folder apart set opened_set before servers cluster halted sessions made keepers old middle new world (Ok explained) same opened stood sent began still ended_so first ended let_go =
+    let closed : IsClosed terms cluster sessions made world keepers = subst (λ state. IsClosed terms state sessions made world keepers) still ended_so in
     let started : Starts set servers cluster = subst (λ s. Starts s servers cluster) same began in
     let of_set : world.set ≡ set = closed.woven.set_is ∙ started.set_is in
     let legal = subst (λ s. IsLegal s world.list) started.set_is closed.woven.list_is.legal in
@@ -49,6 +49,7 @@ ends_well terms stores folder apart set opened_set before servers cluster halted
       started = started;
       sessions = sessions;
       keepers = keepers;
+      made = made;
       world = world;
       closed = closed;
       let_go = let_go;
@@ -58,4 +59,4 @@ ends_well terms stores folder apart set opened_set before servers cluster halted
       place = first.0;
       written = Appends-trans old middle new (codes "listening " ++ first.0) (closing_lines apart explained) first.1 ended.written;
     }
-ends_well terms stores folder apart set opened_set before servers cluster halted sessions keepers old middle new world (Err fault) same opened stood sent began still ended_so first ended let_go = tt
+ends_well terms stores folder apart set opened_set before servers cluster halted sessions made keepers old middle new world (Err fault) same opened stood sent began still ended_so first ended let_go = tt

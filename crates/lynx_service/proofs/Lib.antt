@@ -1,4 +1,6 @@
 mod Begun
 mod Ends
+mod Failed
+mod Followed
 mod Opened
 mod Talked

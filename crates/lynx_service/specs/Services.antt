@@ -54,10 +54,10 @@ AppendsListening old new = (place : List ℕ) × Appends old new (codes "listeni
 
 -- A service over that set. Its servers were opened over the keepers of their stores in that folder,
 -- of which none was lost, each with a lawful history, and all that ran there was sent; a cluster of
--- them was started, and closed: its world is just what the keepers keep then, and all that the
--- sessions were told stands in it. The keepers were let go, each well. That world has all promises.
--- It is written where clients are listened to, and behind that what explains that world, unless
--- that goes to a file of its own.
+-- them was started, and closed: its world is just what the keepers keep then, all sessions that it
+-- made were handed in, and all that they were told stands in it. The keepers were let go, each
+-- well. That world has all promises. It is written where clients are listened to, and behind that
+-- what explains that world, unless that goes to a file of its own.
 pub record HasServed {K : Type 0} (terms : Terms K) (stores : StoreTerms K) (folder : List ℕ)
     (apart : Bool) (set : Set) (old new : Option (List ℕ)) (explained : Explained) : Type 0 where
   pub before : List K
@@ -69,8 +69,9 @@ pub record HasServed {K : Type 0} (terms : Terms K) (stores : StoreTerms K) (fol
   pub started : Starts set servers cluster
   pub sessions : List SessionState
   pub keepers : List K
+  pub made : ℕ
   pub world : WorldState
-  pub closed : IsClosed terms cluster sessions world keepers
+  pub closed : IsClosed terms cluster sessions made world keepers
   pub let_go : AreClosed stores.closed keepers
   pub promises : IsSet set → KeepsPromises set world.list
   pub right : IsExplainedBy world explained

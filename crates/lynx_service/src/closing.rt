@@ -96,7 +96,11 @@ pub(crate) fn end<K: BatchKeeper + Drop, S: Stores<K>, W: Write>(
         (IsEnded closed.world is_apart (W.contents writer.old) (W.contents writer.new)) }
     ensures let_go { OnOk result (AreClosed S.store_terms.closed closed.keepers.items) }
 {
-    let Closed { world, keepers } = closed;
+    let Closed {
+        made: _,
+        world,
+        keepers,
+    } = closed;
     let words = last_words(alloc, &world);
     let closed = close_keepers(stores, keepers);
     let (explained, lines) = words?;

@@ -1,7 +1,10 @@
 //! The stores of the folder that follows: opened, compared with what the servers did, gone on with,
 //! and closed.
-ghost use Rattle.std.specs.Prelude.{All};
+ghost use Rattle.std.specs.Prelude.{◌≡◌, All, IfOk, IfSome, IsTrue, Some, true};
 ghost use Rattle.lynx_codec.specs.Entries.{IsEntryInRange};
+ghost use Rattle.lynx_entry.specs.Entry.{History};
+ghost use Rattle.lynx_follow.specs.Following.{Follows, IsOpened};
+ghost use Rattle.lynx_follow.specs.Fronts.{IsFront};
 
 use crate::copy_room::CopyRoom;
 use crate::fault::{CopyWord, ServeFault};
@@ -74,21 +77,33 @@ fn is_too_soon<R: Clock>(rt: &R, failed: Option<Instant>) -> bool {
 fn open_store<K: BatchKeeper + Drop, S: Stores<K>>(
     folder: &CopyFolder<'_, S>,
     server: ServerId,
-) -> Result<Opened<K>, CopyWord> {
+) -> Result<Opened<K>, CopyWord>
+    ensures { IfOk result (λ opened. (keeper : K)
+        × S.store_terms.store_in folder.now.folder.now folder.now.set.now server keeper
+        × IsOpened K.terms folder.now.set.now keeper opened) }
+{
     let keeper = folder.stores.open(folder.folder, folder.set, server)?;
-    Ok(Follower::open(folder.alloc, folder.set, keeper)?)
+    let opened = Follower::open(folder.alloc, folder.set, keeper)?;
+    Ok(opened)
 }
 
 /// The store that follows a server, where what it keeps is a front of what the server did.
 fn open_beside<K: BatchKeeper + Drop, S: Stores<K>>(
     folder: &CopyFolder<'_, S>,
     server: &Server<K>,
-) -> Result<Follower<K>, CopyWord> {
-    let mut opened: Opened<K> = open_store(folder, server.server())?;
-    if !opened.compare(server.history()) {
+) -> Result<Follower<K>, CopyWord>
+    ensures { IfOk result (λ follower. (front : History)
+        × Follows K.terms folder.now.set.now front follower
+        × IsFront front server.now.history) }
+{
+    let opened: Opened<K> = open_store(folder, server.server())?;
+    let Some(same) = opened.compare(server.history()) else {
         return Err(CopyWord::OtherHistory);
+    };
+    match same.into_follower() {
+        Some(follower) => Ok(follower),
+        None => Err(CopyWord::OtherHistory),
     }
-    opened.into_follower().ok_or(CopyWord::OtherHistory)
 }
 
 /// The store that follows a server that runs, where what it keeps is a front of what the server
@@ -105,9 +120,10 @@ fn open_behind<R: Wait + Clock, K: BatchKeeper + Drop, S: Stores<K>>(
         let from = all.saturating_sub(opened.left());
         let count = opened.left().min(MOST_COPIED);
         let did = front.entries_from(rt, folder.alloc, server, from, count)?;
-        if !opened.compare(did.as_slice()) {
+        let Some(same) = opened.compare(did.as_slice()) else {
             return Err(CopyWord::OtherHistory);
-        }
+        };
+        opened = same;
     }
     opened.into_follower().ok_or(CopyWord::OtherHistory)
 }
@@ -265,7 +281,9 @@ impl<K: BatchKeeper + Drop> Copy<K> {
     }
 
     /// The keeper of the store, where it is open, or couldn't be closed.
-    fn keeper_to_close<S: Stores<K>>(&mut self, folder: &CopyFolder<'_, S>) -> Option<K> {
+    fn keeper_to_close<S: Stores<K>>(&mut self, folder: &CopyFolder<'_, S>) -> Option<K>
+        ensures { IfSome self.old.follower (λ it. result ≡ Some it.keeper) }
+    {
         match self.follower.take() {
             Some(follower) => Some(follower.into_keeper()),
             None if self.is_unclosed => folder
@@ -276,19 +294,33 @@ impl<K: BatchKeeper + Drop> Copy<K> {
         }
     }
 
-    /// Closes the store. Whether its file has all that it keeps, without a log beside it. One that
-    /// can't be closed so is told; what it keeps stands.
-    pub(crate) fn close<S: Stores<K>>(&mut self, folder: &CopyFolder<'_, S>) -> bool {
-        self.failed = None;
-        folder.room.leave(self.server);
-        if let Some(keeper) = self.keeper_to_close(folder) {
-            let closed = folder.stores.close(keeper);
-            self.is_unclosed = closed.is_err();
-            if let Err(fault) = closed {
+    /// Closes this keeper of the store. Whether that went well; else it is told.
+    fn let_go<S: Stores<K>>(&self, folder: &CopyFolder<'_, S>, keeper: K) -> bool
+        ensures { S.store_terms.closed keeper result }
+    {
+        match folder.stores.close(keeper) {
+            Ok(()) => true,
+            Err(fault) => {
                 let word = CopyWord::from(fault);
                 folder.log.copy_failed(self.server, word, None);
+                false
             }
         }
-        !self.is_unclosed
+    }
+
+    /// Closes the store. Whether its file has all that it keeps, without a log beside it. One that
+    /// can't be closed so is told; what it keeps stands.
+    pub(crate) fn close<S: Stores<K>>(&mut self, folder: &CopyFolder<'_, S>) -> bool
+        ensures { IsTrue result
+            → IfSome self.old.follower (λ it. S.store_terms.closed it.keeper true) }
+    {
+        self.failed = None;
+        folder.room.leave(self.server);
+        let Some(keeper) = self.keeper_to_close(folder) else {
+            return !self.is_unclosed;
+        };
+        let is_closed = self.let_go(folder, keeper);
+        self.is_unclosed = !is_closed;
+        is_closed
     }
 }

@@ -1,5 +1,6 @@
 //! Opening the stores and the port.
 ghost use Rattle.std.specs.Prelude.{◌≡◌, ℕ, All, None, Some, IfErr, IfOk, IsSome, OnOk, length};
+ghost use Rattle.lynx_service.specs.Failures.{FailsToOpen, IsPlain};
 ghost use Rattle.lynx_service.specs.Faults.{missing_fault};
 ghost use Rattle.lynx_service.specs.Places.{AreFoundAt, AreLooked, ArePlaces, FindsAt, LooksAt};
 ghost use Rattle.lynx_store_files.specs.Folders.{AreFound, StandIn, lost_store};
@@ -106,7 +107,8 @@ fn found_at<K: Drop>(place: Place<K>) -> Result<Option<K>, ServeFault>
 /// What was found of each server, or the first fault, by number, of a store that is there.
 fn found_at_all<K: Drop>(alloc: Global, places: Vec<Place<K>>) -> Result<Vec<Option<K>>, ServeFault>
     requires { All (λ place. IsSome place.found) places.items }
-    ensures { IfOk result (λ found. AreFoundAt places.items found.items) }
+    ensures found { IfOk result (λ found. AreFoundAt places.items found.items) }
+    ensures plain { IfErr result IsPlain }
 {
     let mut found = Vec::new(alloc);
     for place in places {
@@ -125,7 +127,8 @@ pub(crate) fn find_all<R: Threads + Wait + Sync, K: Keeper + Send + Drop, S: Sto
     folder: &str,
     progress: &Progress<'_>,
 ) -> Result<Vec<Option<K>>, ServeFault>
-    ensures { IfOk result (λ found. AreFound S.store_terms folder.now set.now found.items) }
+    ensures found { IfOk result (λ found. AreFound S.store_terms folder.now set.now found.items) }
+    ensures plain { IfErr result IsPlain }
 {
     let mut places = places(alloc, set)?;
     look_at_all(rt, set, stores, folder, places.as_mut_slice(), progress);
@@ -156,7 +159,7 @@ pub(crate) fn judge<K, S: Stores<K>>(
 
 /// The keepers of all servers, in order, where nothing was lost: those that were found, and those
 /// of stores that are made now.
-pub(crate) fn keepers<K: Drop, S: Stores<K>>(
+pub(crate) fn keepers<K: Keeper + Drop, S: Stores<K>>(
     alloc: Global,
     set: &ChainSet,
     stores: &S,
@@ -165,7 +168,9 @@ pub(crate) fn keepers<K: Drop, S: Stores<K>>(
 ) -> Result<Vec<K>, ServeFault>
     requires { AreFound S.store_terms folder.now set.now found.items
         × (lost_store S.store_terms.count_of found.items ≡ None) }
-    ensures { IfOk result (λ keepers. StandIn S.store_terms folder.now set.now keepers.items) }
+    ensures stand { IfOk result (λ keepers. StandIn S.store_terms folder.now set.now
+        keepers.items) }
+    ensures fails { IfErr result (FailsToOpen K.terms S.store_terms folder.now set.now) }
 {
     match make_lacking(alloc, stores, folder, set, found) {
         Ok(keepers) => Ok(keepers),
@@ -177,7 +182,9 @@ pub(crate) fn keepers<K: Drop, S: Stores<K>>(
 pub(crate) fn listen_at_all<R: Net<Listener = TcpListener, Stream = TcpStream>>(
     rt: &R,
     service: Service<'_>,
-) -> Result<Ports, ServeFault> {
+) -> Result<Ports, ServeFault>
+    ensures { IfErr result IsPlain }
+{
     let Ok((listener, address)) = listen(rt, service.port) else {
         return Err(ServeFault::Listen);
     };
@@ -196,7 +203,9 @@ pub(crate) fn listen_at_all<R: Net<Listener = TcpListener, Stream = TcpStream>>(
 fn listen_to_watchers<R: Net<Listener = TcpListener, Stream = TcpStream>>(
     rt: &R,
     status: StatusPort,
-) -> Result<WatchPort, ServeFault> {
+) -> Result<WatchPort, ServeFault>
+    ensures { IfErr result IsPlain }
+{
     let Ok((listener, address)) = listen(rt, status.port) else {
         return Err(ServeFault::ListenStatus);
     };

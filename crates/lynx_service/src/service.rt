@@ -1,9 +1,10 @@
 //! A service, from its stores to its audit.
-ghost use Rattle.std.specs.Prelude.{◌≡◌, List, IfOk, OnOk};
+ghost use Rattle.std.specs.Prelude.{◌≡◌, List, IfErr, IfOk, OnOk};
 ghost use Rattle.lynx_cluster.specs.Starting.{AreOpened};
 ghost use Rattle.lynx_store_files.specs.Folders.{StandIn};
 ghost use Rattle.lynx_weave.specs.Senders.{AreAllSent};
 ghost use Rattle.lynx_weave.specs.Servers.{AreServersOf, histories_of};
+ghost use Rattle.lynx_service.specs.Failures.{FailsToOpen};
 ghost use Rattle.lynx_service.specs.Services.{AppendsListening, HasServed};
 
 use crate::accepting::{Ports, serve_clients};
@@ -152,6 +153,8 @@ fn open_all<
         × AreOpened K.terms set.now keepers all.0.servers.items
         × StandIn S.store_terms service.entry.folder.now set.now keepers) }
     ensures sent { IfOk result (λ all. AreAllSent all.0.set (histories_of all.0.servers.items)) }
+    ensures fails { IfErr result
+        (FailsToOpen K.terms S.store_terms service.entry.folder.now set.now) }
 {
     let folder = service.folder;
     let found = find_all(rt, alloc, set, stores, folder, progress)?;

@@ -3,11 +3,14 @@ use Rattle.std.specs.Prelude.{◌≡◌, ◌≢◌, ◌⊎◌, ℕ, List, Option
 use Rattle.std.specs.Str.Parse.{ParsesUnsigned}
 use Rattle.clap.specs.Words.{Row, Text, first_of, one_of}
 use Rattle.lynx_args.specs.declared.job.Job.{Job}
-use Rattle.lynx_args.specs.declared.job.Job.TheVariants.{Ask, AskFolder, Audit, Chart, Check, Draw, DrawMended, Extend, Mend, Owed, Restore, Run, RunInput, RunStores, Sample, Serve, Show, Upgrade}
+use Rattle.lynx_args.specs.declared.job.Job.TheVariants.{Ask, AskFolder, Chart, Check, Draw, DrawMended, Mend, Run, RunInput, RunStores, Sample, Serve, Stores}
+use Rattle.lynx_args.specs.declared.job.CarryPlace.{CarryPlace}
 use Rattle.lynx_args.specs.declared.job.RestorePlace.{RestorePlace}
 use Rattle.lynx_args.specs.declared.job.RunFlags.{RunFlags}
 use Rattle.lynx_args.specs.declared.job.SampleFlags.{SampleFlags}
 use Rattle.lynx_args.specs.declared.job.ServeFlags.{ServeFlags}
+use Rattle.lynx_args.specs.declared.job.StoreJob.{StoreJob}
+use Rattle.lynx_args.specs.declared.job.StoreJob.TheVariants.{Audit, Carry, Extend, Find, Owed, Read, Restore, Show, Upgrade}
 use Rattle.lynx_args.specs.declared.job.CommandFault.{CommandFault}
 use Rattle.lynx_args.specs.declared.job.CommandFault.TheVariants.{NoScript, ScriptTooMany, StoresOfInput, WalkOfRun, LateOfRun, MendedOfRun, WalkAndLate, StatusOfFolder, NoCommand, NotUtf8}
 use Rattle.lynx_draw.specs.declared.shown.Extent.{Extent}
@@ -69,6 +72,18 @@ DrawsAs set script walk late mended (Err WalkAndLate) =
     (script ≡ None) × (walk ≡ true) × (late ≡ true)
 DrawsAs set script walk late mended other = ⊥
 
+-- the command that asks for something with stores that nobody serves
+abbrev pub IsStoreCommand : List ℕ → StoreJob → Type 0
+IsStoreCommand name (Show store full) = name ≡ codes "show"
+IsStoreCommand name (Read folder table keys) = name ≡ codes "read"
+IsStoreCommand name (Find folder client number) = name ≡ codes "find"
+IsStoreCommand name (Upgrade store) = name ≡ codes "upgrade"
+IsStoreCommand name (Extend folder set) = name ≡ codes "extend"
+IsStoreCommand name (Audit folder) = name ≡ codes "audit"
+IsStoreCommand name (Owed folder) = name ≡ codes "owed"
+IsStoreCommand name (Restore place) = name ≡ codes "restore"
+IsStoreCommand name (Carry place) = name ≡ codes "carry"
+
 -- the command that asks for a job; standard input is asked for by no command at all, or by `run`
 abbrev pub AskedBy : Option (List ℕ) → Result Job CommandFault → Type 0
 AskedBy command (Ok (Check set why all)) = command ≡ Some (codes "check")
@@ -77,13 +92,9 @@ AskedBy command (Ok (Draw set shown)) = command ≡ Some (codes "draw")
 AskedBy command (Ok (DrawMended set shown change)) = command ≡ Some (codes "draw")
 AskedBy command (Ok (Chart set script)) = command ≡ Some (codes "draw")
 AskedBy command (Ok (Sample set flags)) = command ≡ Some (codes "sample")
-AskedBy command (Ok (Show store)) = command ≡ Some (codes "show")
-AskedBy command (Ok (Upgrade store)) = command ≡ Some (codes "upgrade")
-AskedBy command (Ok (Extend folder set)) = command ≡ Some (codes "extend")
 AskedBy command (Ok (Serve set folder port flags)) = command ≡ Some (codes "serve")
-AskedBy command (Ok (Audit folder)) = command ≡ Some (codes "audit")
-AskedBy command (Ok (Restore place)) = command ≡ Some (codes "restore")
-AskedBy command (Ok (Owed folder)) = command ≡ Some (codes "owed")
+AskedBy command (Ok (Stores job)) =
+    (name : List ℕ) × (command ≡ Some name) × IsStoreCommand name job
 AskedBy command (Ok (Ask set port status)) = command ≡ Some (codes "ask")
 AskedBy command (Ok (AskFolder folder)) = command ≡ Some (codes "ask")
 AskedBy command (Ok (Run set script flags)) = command ≡ Some (codes "run")
@@ -104,8 +115,16 @@ AskedBy command (Err NoCommand) =
     × (command ≢ Some (codes "extend")) × (command ≢ Some (codes "serve"))
     × (command ≢ Some (codes "ask")) × (command ≢ Some (codes "audit"))
     × (command ≢ Some (codes "owed")) × (command ≢ Some (codes "restore"))
-    × (command ≢ Some (codes "mend"))
+    × (command ≢ Some (codes "mend")) × (command ≢ Some (codes "read"))
+    × (command ≢ Some (codes "find")) × (command ≢ Some (codes "carry"))
 AskedBy command (Err NotUtf8) = ⊥
+
+-- no command that opens stores nobody serves
+abbrev pub IsNoneOfStores : List ℕ → Type 0
+IsNoneOfStores name =
+    (name ≢ codes "show") × (name ≢ codes "upgrade") × (name ≢ codes "extend")
+    × (name ≢ codes "restore") × (name ≢ codes "audit") × (name ≢ codes "owed")
+    × (name ≢ codes "read") × (name ≢ codes "find") × (name ≢ codes "carry")
 
 -- the text that was found under a name, `-` where none was
 abbrev pub text_at : Text → List Row → List ℕ
@@ -158,6 +177,13 @@ pub record IsRestorePlace (rows : List Row) (place : RestorePlace) : Type 0 wher
   pub folder : place.folder.now ≡ text_at (codes "DIR") rows
   pub longest : IsFlag (codes "longest") rows place.longest
 
+-- what is carried from where to where was found so
+pub record IsCarryPlace (rows : List Row) (place : CarryPlace) : Type 0 where
+  pub from : place.from.now ≡ text_at (codes "FROM") rows
+  pub folder : place.folder.now ≡ text_at (codes "DIR") rows
+  pub set : place.set.now ≡ text_at (codes "SET") rows
+  pub dropped : option_map (λ own. own.now) place.dropped ≡ first_of (codes "drop") rows
+
 -- what a service does besides was found so
 pub record AreServeFlags (rows : List Row) (flags : ServeFlags) : Type 0 where
   pub status : IsPort (codes "status") rows flags.status
@@ -185,6 +211,24 @@ pub record DrawsFound (rows : List Row) (job : Result Job CommandFault) : Type 0
   pub draws : DrawsAs (text_at (codes "SET") rows) (first_of (codes "SCRIPT") rows) walk late mended
       job
 
+-- what was found behind a command is what is done with stores
+abbrev pub TakesStores : List Row → StoreJob → Type 0
+TakesStores rows (Show store full) =
+    (store.now ≡ text_at (codes "STORE") rows) × IsFlag (codes "full") rows full
+TakesStores rows (Read folder table keys) =
+    (folder.now ≡ text_at (codes "DIR") rows) × (table.now ≡ text_at (codes "TABLE") rows)
+    × (option_map (λ own. own.now) keys ≡ first_of (codes "KEYS") rows)
+TakesStores rows (Find folder client number) =
+    (folder.now ≡ text_at (codes "DIR") rows) × IsNumber 64 0 (codes "CLIENT") rows client
+    × IsNumber 64 0 (codes "NUMBER") rows number
+TakesStores rows (Upgrade store) = store.now ≡ text_at (codes "STORE") rows
+TakesStores rows (Extend folder set) =
+    (folder.now ≡ text_at (codes "DIR") rows) × (set.now ≡ text_at (codes "SET") rows)
+TakesStores rows (Audit folder) = folder.now ≡ text_at (codes "DIR") rows
+TakesStores rows (Owed folder) = folder.now ≡ text_at (codes "DIR") rows
+TakesStores rows (Restore place) = IsRestorePlace rows place
+TakesStores rows (Carry place) = IsCarryPlace rows place
+
 -- What was found behind a command is what the job is done with. Of the numbers of ports, seeds and
 -- begins it is told only what they are where none was found.
 abbrev pub TakesFound : List Row → Result Job CommandFault → Type 0
@@ -197,18 +241,12 @@ TakesFound rows (Ok (Draw set shown)) = DrawsFound rows (Ok (Draw set shown))
 TakesFound rows (Ok (DrawMended set shown change)) =
     DrawsFound rows (Ok (DrawMended set shown change))
 TakesFound rows (Ok (Chart set script)) = DrawsFound rows (Ok (Chart set script))
+TakesFound rows (Ok (Stores job)) = TakesStores rows job
 TakesFound rows (Ok (Sample set flags)) =
     (set.now ≡ text_at (codes "SET") rows) × AreSampleFlags rows flags
-TakesFound rows (Ok (Show store)) = store.now ≡ text_at (codes "STORE") rows
-TakesFound rows (Ok (Upgrade store)) = store.now ≡ text_at (codes "STORE") rows
-TakesFound rows (Ok (Extend folder set)) =
-    (folder.now ≡ text_at (codes "DIR") rows) × (set.now ≡ text_at (codes "SET") rows)
 TakesFound rows (Ok (Serve set folder port flags)) =
     (set.now ≡ text_at (codes "SET") rows) × (folder.now ≡ text_at (codes "DIR") rows)
     × IsNumber 16 0 (codes "PORT") rows port × AreServeFlags rows flags
-TakesFound rows (Ok (Audit folder)) = folder.now ≡ text_at (codes "DIR") rows
-TakesFound rows (Ok (Restore place)) = IsRestorePlace rows place
-TakesFound rows (Ok (Owed folder)) = folder.now ≡ text_at (codes "DIR") rows
 TakesFound rows (Ok (Ask set port status)) =
     (set.now ≡ text_at (codes "SET") rows) × IsSome (first_of (codes "PORT") rows)
     × IsNumber 16 0 (codes "PORT") rows port × IsPort (codes "status") rows status

@@ -73,11 +73,22 @@ const STORE_FILE: Word = Word {
     help: "The file of the store; its log NAME-wal is read with it",
 };
 
+/// The option by which entries tell who asked for them, and for what.
+pub(crate) const FULL: &str = "full";
+
 pub(crate) const SHOW: CommandText = CommandText {
     name: "show",
     about: "List what a store holds: its server, its entries and its cells",
     after: "The store is only read. A fault of it is told as other-version, damaged or store.\nExample: lynx show server-0.lynx",
-    words: &[STORE_FILE, HINTS_FLAG],
+    words: &[
+        STORE_FILE,
+        Word {
+            name: FULL,
+            place: Place::Flag,
+            help: "Tell behind each entry the client, the number, the program and the arguments of its request; behind a later hop\nthe program and the arguments",
+        },
+        HINTS_FLAG,
+    ],
 };
 
 pub(crate) const UPGRADE: CommandText = CommandText {
@@ -88,7 +99,7 @@ pub(crate) const UPGRADE: CommandText = CommandText {
 };
 
 /// The folder of stores that nobody has open.
-const STORE_FOLDER: Word = Word {
+pub(crate) const STORE_FOLDER: Word = Word {
     name: "DIR",
     place: Place::Needed(Reads::Text),
     help: "The folder of the stores, server-0.lynx and so on",

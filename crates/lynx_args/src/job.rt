@@ -42,6 +42,16 @@ pub struct RestorePlace<'a> {
     pub longest: bool,
 }
 
+/// From where cells are carried, to where, and by which set.
+#[derive(Clone, Copy, Debug, PartialEq, Eq)]
+pub struct CarryPlace<'a> {
+    pub from: &'a str,
+    pub folder: &'a str,
+    pub set: &'a str,
+    /// The names of tables that aren't carried, with commas between them.
+    pub dropped: Option<&'a str>,
+}
+
 /// What a service does besides, none of it by default.
 #[derive(Clone, Copy, Debug, PartialEq, Eq)]
 pub struct ServeFlags<'a> {
@@ -57,6 +67,56 @@ pub struct ServeFlags<'a> {
     pub order: Option<&'a str>,
     /// Each step has a transaction of its own.
     pub sync_each: bool,
+}
+
+/// What is done with stores that nobody serves, with files as they were named.
+#[derive(Clone, Copy, Debug, PartialEq, Eq)]
+pub enum StoreJob<'a> {
+    /// List what a store holds, and of each entry who asked for what where that is wanted.
+    Show {
+        store: &'a str,
+        full: bool,
+    },
+    /// Tell what cells of the stores of the folder hold: of a table all that aren't 0, or those of
+    /// a key or a range of keys.
+    Read {
+        folder: &'a str,
+        table: &'a str,
+        keys: Option<&'a str>,
+    },
+    /// Tell what became of a client's request, by the stores of the folder.
+    Find {
+        folder: &'a str,
+        client: u64,
+        number: u64,
+    },
+    /// Make a store of version 1 one of version 2.
+    Upgrade {
+        store: &'a str,
+    },
+    /// Give the stores of the folder to the set of a file, which extends theirs.
+    Extend {
+        folder: &'a str,
+        set: &'a str,
+    },
+    /// Audit the stores of the folder, which no service has open.
+    Audit {
+        folder: &'a str,
+    },
+    /// List the hops that are owed, of the stores of the folder.
+    Owed {
+        folder: &'a str,
+    },
+    /// Make stores in the folder, which has none, of what the copies in another hold together; of
+    /// what can still be read of them, where the longest fronts are asked for.
+    Restore {
+        place: RestorePlace<'a>,
+    },
+    /// Make stores of the set of a file in the folder, which has none, whose cells are those of the
+    /// stores in another.
+    Carry {
+        place: CarryPlace<'a>,
+    },
 }
 
 /// What the words ask for, with files as they were named.
@@ -113,32 +173,8 @@ pub enum Job<'a> {
     RunInput {
         flags: RunFlags,
     },
-    /// List what a store holds.
-    Show {
-        store: &'a str,
-    },
-    /// Make a store of version 1 one of version 2.
-    Upgrade {
-        store: &'a str,
-    },
-    /// Give the stores of the folder to the set of a file, which extends theirs.
-    Extend {
-        folder: &'a str,
-        set: &'a str,
-    },
-    /// Audit the stores of the folder, which no service has open.
-    Audit {
-        folder: &'a str,
-    },
-    /// List the hops that are owed, of the stores of the folder.
-    Owed {
-        folder: &'a str,
-    },
-    /// Make stores in the folder, which has none, of what the copies in another hold together; of
-    /// what can still be read of them, where the longest fronts are asked for.
-    Restore {
-        place: RestorePlace<'a>,
-    },
+    /// Do something with stores that nobody serves.
+    Stores(StoreJob<'a>),
     /// Serve clients at the port, over the stores of the set's servers in the folder.
     Serve {
         set: &'a str,

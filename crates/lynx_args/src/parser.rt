@@ -1,16 +1,18 @@
 //! The words of the command line.
-ghost use Rattle.std.specs.Prelude.{◌≡◌, Ok, None, Some, codes, option_map};
+ghost use Rattle.std.specs.Prelude.{◌≡◌, IfNone, IfSome, Ok, None, Some, codes, option_map};
 ghost use Rattle.clap.specs.Words.{first_of, found_of, rows_of, subcommand_name_of, subcommand_rows_of};
-ghost use Rattle.lynx_args.specs.Jobs.{AreFlags, AreSampleFlags, AskedBy, IsChoice, IsFlag, IsRestorePlace, TakesFound, TakesWords, no_flags, text_at};
+ghost use Rattle.lynx_args.specs.Jobs.{AreFlags, AreSampleFlags, AskedBy, IsChoice, IsFlag, IsNoneOfStores, IsRestorePlace, IsStoreCommand, TakesFound, TakesStores, TakesWords, no_flags, text_at};
 
+use crate::carry_words::{CARRY, job_of_carrying};
 use crate::commands::{
-    ALL, AUDIT, CHECK, CHECKED, EXTEND, LONGEST, OWED, OWES, RESTORE, RUN, SHOW, STORES, UPGRADE,
-    WHY,
+    ALL, AUDIT, CHECK, CHECKED, EXTEND, FULL, LONGEST, OWED, OWES, RESTORE, RUN, SHOW, STORES,
+    UPGRADE, WHY,
 };
 use crate::draw_words::{DRAW, job_of_drawing};
 use crate::job::{
-    CommandFault, INPUT, Job, NO_FLAGS, RestorePlace, RunFlags, SampleFlags, job_of_run,
+    CommandFault, INPUT, Job, NO_FLAGS, RestorePlace, RunFlags, SampleFlags, StoreJob, job_of_run,
 };
+use crate::lookup_words::{FIND, READ, job_of_find, job_of_read};
 use crate::mend_words::{MEND, job_of_mending};
 use crate::sample_words::{BEGINS, CYCLE, EFFORT, SAMPLE, SEED};
 use crate::serve_words::{ASK, SERVE, job_of_ask, port_of, serve_flags_of};
@@ -21,7 +23,7 @@ use std::alloc::{AllocError, Global};
 /// The statuses that the program ends with, and the words of faults, as the help tells them at its
 /// end.
 const STATUSES_AND_FAULTS: &str =
-    "Statuses:\n  0  done: the set is accepted, an order explains the run\n  1  the set offends, or the run ends with a cycle, or no mending was found\n  2  faulty words or a faulty text\n  3  out of memory\n  4  a file, a store, a socket or a thread fails, or the audit at the end of a service\n\nA faulty text is told with its line and one of these words: too-long, bad-version, bad-line,\nbad-name, bad-number, repeated, unknown, need-not-first, limit-passed, literal-elsewhere,\nshard-gap, shard-overlap, shard-server. With --hints, and on a terminal, the place is shown.";
+    "Statuses:\n  0  done: the set is accepted, an order explains the run\n  1  the set offends, or the run ends with a cycle, or nothing was found, or hops are owed\n  2  faulty words or a faulty text\n  3  out of memory\n  4  a file, a store, a socket or a thread fails, or the audit at the end of a service\n\nA faulty text is told with its line and one of these words: too-long, bad-version, bad-line,\nbad-name, bad-number, repeated, unknown, need-not-first, limit-passed, literal-elsewhere,\nshard-gap, shard-overlap, shard-server. With --hints, and on a terminal, the place is shown.";
 
 /// The version of the program.
 pub const VERSION: &str = "0.1.0";
@@ -37,7 +39,7 @@ fn bare_command<'a>(alloc: Global) -> Command<'a> {
     Command::new(alloc, "lynx")
         .version(VERSION)
         .about(
-            "A transaction-chain store: judges, mends, draws and runs sets of chain programs, makes scripts for them, serves them to\nclients, and lists, audits, upgrades and extends stores",
+            "A transaction-chain store: judges, mends, draws and runs sets of chain programs, makes scripts for them, serves them to\nclients, and lists, reads, audits, upgrades, extends and carries stores",
         )
         .after_help(STATUSES_AND_FAULTS)
 }
@@ -67,7 +69,10 @@ fn with_stores<'a>(alloc: Global, command: Command<'a>) -> Result<Command<'a>, A
     let command = with(alloc, command, &EXTEND)?;
     let command = with(alloc, command, &RESTORE)?;
     let command = with(alloc, command, &AUDIT)?;
-    with(alloc, command, &OWES)
+    let command = with(alloc, command, &OWES)?;
+    let command = with(alloc, command, &READ)?;
+    let command = with(alloc, command, &FIND)?;
+    with(alloc, command, &CARRY)
 }
 
 /// The command line with what is done with services.
@@ -154,13 +159,47 @@ fn restore_place_of<'a>(words: &ArgMatches<'a>) -> RestorePlace<'a>
     }
 }
 
+/// What a command that opens stores nobody serves, and the words behind it, ask for. None where it
+/// is another command.
+fn job_of_stores<'a>(name: &str, words: &ArgMatches<'a>) -> Option<StoreJob<'a>>
+    ensures asked { IfSome result (IsStoreCommand name.now) }
+    ensures words { IfSome result (TakesStores (rows_of (found_of words.now))) }
+    ensures other { IfNone result (IsNoneOfStores name.now) }
+{
+    let folder = text_at(words, "DIR");
+    match name {
+        "show" => Some(StoreJob::Show {
+            store: text_at(words, "STORE"),
+            full: flag_at(words, FULL),
+        }),
+        "upgrade" => Some(StoreJob::Upgrade {
+            store: text_at(words, "STORE"),
+        }),
+        "extend" => Some(StoreJob::Extend {
+            folder,
+            set: text_at(words, "SET"),
+        }),
+        "restore" => Some(StoreJob::Restore {
+            place: restore_place_of(words),
+        }),
+        "audit" => Some(StoreJob::Audit { folder }),
+        "owed" => Some(StoreJob::Owed { folder }),
+        "read" => Some(job_of_read(words)),
+        "find" => Some(job_of_find(words)),
+        "carry" => Some(job_of_carrying(words)),
+        _ => None,
+    }
+}
+
 /// What a command and the words behind it ask for.
 fn job_of_command<'a>(name: &str, words: &ArgMatches<'a>) -> Result<Job<'a>, CommandFault>
     ensures asked { AskedBy (Some name.now) result }
     ensures words { TakesFound (rows_of (found_of words.now)) result }
 {
+    if let Some(job) = job_of_stores(name, words) {
+        return Ok(Job::Stores(job));
+    }
     let set = text_at(words, "SET");
-    let folder = text_at(words, "DIR");
     match name {
         "check" => Ok(Job::Check {
             set,
@@ -177,24 +216,12 @@ fn job_of_command<'a>(name: &str, words: &ArgMatches<'a>) -> Result<Job<'a>, Com
             let script = found_at(words, SCRIPT);
             job_of_run(set, script, found_at(words, STORES), flags_of(words))
         }
-        "show" => Ok(Job::Show {
-            store: text_at(words, "STORE"),
-        }),
-        "upgrade" => Ok(Job::Upgrade {
-            store: text_at(words, "STORE"),
-        }),
-        "extend" => Ok(Job::Extend { folder, set }),
         "serve" => Ok(Job::Serve {
             set,
-            folder,
+            folder: text_at(words, "DIR"),
             port: port_of(words),
             flags: serve_flags_of(words),
         }),
-        "restore" => Ok(Job::Restore {
-            place: restore_place_of(words),
-        }),
-        "audit" => Ok(Job::Audit { folder }),
-        "owed" => Ok(Job::Owed { folder }),
         "ask" => job_of_ask(words),
         _ => Err(CommandFault::NoCommand),
     }

@@ -48,7 +48,7 @@ pub(crate) const SERVE: CommandText = CommandText {
         Word {
             name: STATUS,
             place: Place::Value(PORT, Reads::Port),
-            help: "Tell how the service is over HTTP at this port of 127.0.0.1: /status for people, /metrics for Prometheus,\n/healthz, /set and /chain/ORIGIN:INDEX",
+            help: "Tell how the service is over HTTP at this port of 127.0.0.1: /status for people, /metrics for Prometheus,\n/healthz, /set, /cells, /requests and /chains; lines read and find of lynx ask want it",
         },
         Word {
             name: COPY,
@@ -82,7 +82,7 @@ pub(crate) const SERVE: CommandText = CommandText {
 pub(crate) const ASK: CommandText = CommandText {
     name: "ask",
     about: "Ask a service what the lines of standard input ask, and print its answers",
-    after: "Lines:\n  begin CLIENT NUMBER PROGRAM ARG..  begin a chain; the same CLIENT and NUMBER never begin two\n  look ORIGIN:INDEX HOP              whether that hop of a chain is done, and its results\n  look ORIGIN:INDEX HOP wait         the same, once the hop is done, or after ten seconds\n  quit                               leave, as the end of the input does\n  shut                               have the service end\nA faulty line is told on standard error, and the next one asked; the status is then 2.\nA request tells a program by its number: SET and PORT are right where SET is the service's, to the word, or one\nthat the service's extends. With --status that is looked at first.\nExamples: echo 'begin 1 1 pay 30' | lynx ask stores\n          echo 'begin 1 1 pay 30' | lynx ask payment.set 7000",
+    after: "Lines:\n  begin CLIENT NUMBER PROGRAM ARG..  begin a chain; the same CLIENT and NUMBER never begin two\n  look ORIGIN:INDEX HOP              whether that hop of a chain is done, and its results\n  look ORIGIN:INDEX HOP wait         the same, once the hop is done, or after ten seconds\n  read TABLE KEY                     what that cell holds; FROM..TO in the place of KEY: cells that aren't 0\n  find CLIENT NUMBER                 what became of that request\n  quit                               leave, as the end of the input does\n  shut                               have the service end\nA faulty line is told on standard error, and the next one asked; the status is then 2.\nA request tells a program by its number: SET and PORT are right where SET is the service's, to the word, or one\nthat the service's extends. With --status that is looked at first, and without it no line read or find is asked:\nthey go over HTTP, take no entry and no sync. Behind a folder the service tells its port, if it has one.\nExamples: echo 'begin 1 1 pay 30' | lynx ask stores\n          echo 'begin 1 1 pay 30' | lynx ask payment.set 7000",
     words: &[
         Word {
             name: "SET",

@@ -1,3 +1,4 @@
 mod InputLemmas
 mod Judged
 mod Mended
+mod Told

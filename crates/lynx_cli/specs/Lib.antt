@@ -4,3 +4,6 @@ pub mod Done
 pub mod Stopped
 pub mod Mendings
 pub mod Folders
+pub mod Looks
+pub mod Carrying
+pub mod Proposals

@@ -1,7 +1,7 @@
 -- The exit statuses.
 use Rattle.std.specs.Prelude.{ℕ, Bool, false, Result, Ok, Err}
 use Rattle.lynx_cli.specs.declared.fault.Fault.{Fault}
-use Rattle.lynx_cli.specs.declared.fault.Fault.TheVariants.{Ask, Command, Memory, NoMending, NoSeparator, NoService, NoStatus, Occupied, OtherSet, Sample, Script, Serve, Set, Store, Unread, Unwritten, Write}
+use Rattle.lynx_cli.specs.declared.fault.Fault.TheVariants.{Ask, BadBooks, BadKeys, Carry, Closed, Command, InTheWay, Meanwhile, Memory, NoLookups, NoMending, NoSeparator, NoService, NoStatus, NoTable, NotEmpty, Occupied, OtherSet, Sample, Script, Serve, Set, Store, Unread, Unwritten, UnwrittenBooks, Write}
 use Rattle.lynx_sample.specs.declared.fault.SampleFault.{SampleFault}
 use Rattle.lynx_sample.specs.declared.fault.SampleFault.TheVariants.{NoCycle, TooLong, Run as Stopped}
 use Rattle.lynx_report.specs.declared.run.RunFault.{RunFault}
@@ -25,8 +25,8 @@ status_of_sampling NoCycle = 1
 status_of_sampling TooLong = 2
 status_of_sampling (Stopped fault) = status_of_run fault
 
--- 1: no mending was found. 2: the words or a text. 3: want of memory. 4: what can't be read or
--- written
+-- 1: no mending was found, or cells can't be carried. 2: the words or a text. 3: want of memory.
+-- 4: what can't be read or written
 abbrev pub status_of : Fault → ℕ
 status_of (Command fault) = 2
 status_of NoSeparator = 2
@@ -39,6 +39,16 @@ status_of (Serve fault) = 4
 status_of (Ask fault) = 4
 status_of NoService = 4
 status_of NoStatus = 4
+status_of NoLookups = 4
+status_of NoTable = 2
+status_of Closed = 4
+status_of BadBooks = 4
+status_of UnwrittenBooks = 4
+status_of NotEmpty = 4
+status_of InTheWay = 4
+status_of Meanwhile = 4
+status_of (Carry fault) = 1
+status_of BadKeys = 2
 status_of OtherSet = 4
 status_of Occupied = 4
 status_of (Sample fault) = status_of_sampling fault

@@ -3,15 +3,17 @@ use crate::causes::are_held;
 use crate::comparing::{compare_sets, connected};
 use crate::fault::Fault;
 use crate::hints::{Hints, Named};
+use crate::looking_up::look_up;
+use crate::needing::tell_need;
 use crate::reading::{is_named_pipe, text_of};
 use crate::source::{InputFault, MAX_FILE_BYTES, read_all};
 use crate::texts::{DONE, FAULTY};
 use lynx_args::INPUT;
-use lynx_ask::{AskSession, LineReply};
+use lynx_ask::{AskSession, LineReply, read_lookup};
 use lynx_codec::Item;
 use lynx_entry::Answer;
 use lynx_hints::{Part, asked_begin_hint, hint};
-use lynx_lex::TextFault;
+use lynx_lex::{FaultKind, TextFault};
 use lynx_notice::{notice_in, service_path};
 use lynx_report::read_set;
 use lynx_set::ChainSet;
@@ -26,9 +28,18 @@ const STANDARD_INPUT: &str = "standard input";
 /// A line of standard input with its LF, which the last one may lack, and its number, counted from
 /// 1.
 #[derive(Clone, Copy)]
-struct AskedLine<'a> {
+pub(crate) struct AskedLine<'a> {
     text: &'a [u8],
     number: usize,
+}
+
+/// The service that is asked: the set by which it is asked, and the port of its status where that
+/// is known.
+#[derive(Drop)]
+struct Service<'s, R> {
+    rt: &'s R,
+    set: &'s ChainSet,
+    status: Option<u16>,
 }
 
 /// Tells on standard error which line is faulty and why, and where hints are wanted where.
@@ -48,6 +59,15 @@ fn tell_fault(
     }
 }
 
+impl AskedLine<'_> {
+    /// Without its LF.
+    pub(crate) fn bare(&self) -> &[u8] {
+        self.text
+            .strip_suffix(b"\n".as_slice())
+            .unwrap_or(self.text)
+    }
+}
+
 /// Tells on standard error, where hints are wanted, how many arguments a program takes of which a
 /// line begins a chain with another count.
 fn tell_count(
@@ -58,11 +78,7 @@ fn tell_count(
     answer: &Item,
 ) {
     if hints.are_wanted() && matches!(answer, Item::Answer(Answer::ArgCount)) {
-        let text = line
-            .text
-            .strip_suffix(b"\n".as_slice())
-            .unwrap_or(line.text);
-        let told = asked_begin_hint(host.alloc(), STANDARD_INPUT, set, text, line.number);
+        let told = asked_begin_hint(host.alloc(), STANDARD_INPUT, set, line.bare(), line.number);
         if let Ok(lines) = told {
             let _ = eprint!(host; "{lines}");
         }
@@ -95,13 +111,10 @@ fn ask_line<'a, S: Read + Write, W: Write>(
     hints: &Hints,
     writer: &mut W,
 ) -> Result<Option<u8>, Fault<'a>> {
-    let asked = line
-        .text
-        .strip_suffix(b"\n".as_slice())
-        .unwrap_or(line.text);
-    match session.ask(host, host.alloc(), set, asked, stream, writer) {
+    match session.ask(host, host.alloc(), set, line.bare(), stream, writer) {
         Ok(LineReply::Answered(answer)) => {
             tell_count(host, hints, set, line, &answer);
+            tell_need(host, hints, set, line, &answer);
             Ok(Some(DONE))
         }
         Ok(LineReply::Bye) => Ok(None),
@@ -113,14 +126,46 @@ fn ask_line<'a, S: Read + Write, W: Write>(
     }
 }
 
+/// Looks up over HTTP what a line looks up: the status of the line, or None where it looks up
+/// nothing.
+fn look_up_line<'a, R: Net<Listener = TcpListener, Stream = TcpStream>, W: Write>(
+    host: &HostRuntime,
+    service: &Service<'_, R>,
+    line: &AskedLine<'_>,
+    hints: &mut Hints,
+    writer: &mut W,
+) -> Result<Option<u8>, Fault<'a>> {
+    let Some(read) = read_lookup(host.alloc(), service.set, line.bare()) else {
+        return Ok(None);
+    };
+    let fault = match read {
+        Ok(lookup) => {
+            look_up(host, service.rt, service.status, lookup, hints, writer)?;
+            return Ok(Some(DONE));
+        }
+        Err(fault) => fault.on(line.number),
+    };
+    if fault.kind == FaultKind::Memory {
+        return Err(Fault::Memory);
+    }
+    tell_fault(host, hints, service.set, line, fault);
+    Ok(Some(FAULTY))
+}
+
 /// Asks over the stream what the lines ask, one after the other, until there are none or the
 /// service takes leave. The status is that of faulty lines if there is one.
-fn ask_lines<'a, L: BufRead, S: Read + Write, W: Write>(
+fn ask_lines<
+    'a,
+    R: Net<Listener = TcpListener, Stream = TcpStream>,
+    L: BufRead,
+    S: Read + Write,
+    W: Write,
+>(
     host: &HostRuntime,
-    set: &ChainSet,
+    service: &Service<'_, R>,
     lines: &mut L,
     stream: &mut S,
-    hints: &Hints,
+    hints: &mut Hints,
     writer: &mut W,
 ) -> Result<u8, Fault<'a>> {
     let mut session = AskSession::new(host.alloc());
@@ -131,7 +176,20 @@ fn ask_lines<'a, L: BufRead, S: Read + Write, W: Write>(
         };
         let text = read.as_slice();
         let line = AskedLine { text, number };
-        match ask_line(host, set, &mut session, &line, stream, hints, writer)? {
+        if let Some(of_line) = look_up_line(host, service, &line, hints, writer)? {
+            session.pass_by();
+            status = status.max(of_line);
+            continue;
+        }
+        match ask_line(
+            host,
+            service.set,
+            &mut session,
+            &line,
+            stream,
+            hints,
+            writer,
+        )? {
             Some(of_line) => status = status.max(of_line),
             None => break,
         }
@@ -139,10 +197,10 @@ fn ask_lines<'a, L: BufRead, S: Read + Write, W: Write>(
     Ok(status)
 }
 
-/// Asks over a connection what the lines of standard input ask, by this set, and lets go of it.
-fn ask_by<'a, S: Read + Write + Drop, W: Write>(
+/// Asks over a connection what the lines of standard input ask, and lets go of it.
+fn ask_by<'a, R: Net<Listener = TcpListener, Stream = TcpStream>, S: Read + Write + Drop, W: Write>(
     host: &HostRuntime,
-    set: &ChainSet,
+    service: &Service<'_, R>,
     mut stream: S,
     hints: &mut Hints,
     writer: &mut W,
@@ -150,22 +208,21 @@ fn ask_by<'a, S: Read + Write + Drop, W: Write>(
     let Ok(mut lines) = BufReader::new(host.alloc(), host.reader()) else {
         return Err(Fault::Memory);
     };
-    let done = ask_lines(host, set, &mut lines, &mut stream, hints, writer);
+    let done = ask_lines(host, service, &mut lines, &mut stream, hints, writer);
     hints.note_lost(host.alloc(), &done);
     done
 }
 
-/// Asks the service at the port what the lines of standard input ask, by this set.
+/// Asks the service at the port what the lines of standard input ask.
 fn ask_at<'a, R: Net<Listener = TcpListener, Stream = TcpStream>, W: Write>(
     host: &HostRuntime,
-    rt: &R,
-    set: &ChainSet,
+    service: &Service<'_, R>,
     port: u16,
     hints: &mut Hints,
     writer: &mut W,
 ) -> Result<u8, Fault<'a>> {
-    let stream = connected(host, rt, port, hints)?;
-    ask_by(host, set, stream, hints, writer)
+    let stream = connected(host, service.rt, port, hints)?;
+    ask_by(host, service, stream, hints, writer)
 }
 
 /// Asks the service at the port what the lines of standard input ask, by the set of a file, which
@@ -190,7 +247,9 @@ pub(crate) fn ask_port<'a, R: Net<Listener = TcpListener, Stream = TcpStream>, W
     if let Some(status) = status {
         compare_sets(host, rt, &set, status, hints)?;
     }
-    ask_at(host, rt, &set, port, hints, writer)
+    let set = &set;
+    let service = Service { rt, set, status };
+    ask_at(host, &service, port, hints, writer)
 }
 
 /// As many bytes of the notice of a service are read at most: its lines, and a set's text with one
@@ -247,5 +306,10 @@ pub(crate) fn ask_folder<'a, R: Net<Listener = TcpListener, Stream = TcpStream>,
         hints.note_left_over(host.alloc(), folder);
         return Err(Fault::NoService);
     }
-    ask_by(host, &set, stream, hints, writer)
+    let service = Service {
+        rt,
+        set: &set,
+        status: notice.status,
+    };
+    ask_by(host, &service, stream, hints, writer)
 }

@@ -1,8 +1,9 @@
 //! Audits of the stores of a folder, by copies in memory: the stores are only read.
 ghost use Rattle.std.specs.Prelude.{◌≡◌, ◌⊎◌, IfOk, OnOk, length};
 ghost use Rattle.lynx_service.specs.Faults.{missing_fault, store_fault};
-ghost use Rattle.lynx_cli.specs.Folders.{HasAuditedKeepers, HasListedOwed, status_of_explained};
+ghost use Rattle.lynx_cli.specs.Folders.{HasAuditedKeepers, HasListedOwed, HasToldAudit, HasToldOwed, status_of_explained};
 ghost use Rattle.lynx_cli.specs.Stopped.{copy_fault, serving_fault};
+ghost use Rattle.lynx_store_files.specs.Paths.{store_path};
 
 use crate::fault::Fault;
 use crate::hints::Hints;
@@ -65,12 +66,14 @@ fn uncopied<'a>(rt: &HostRuntime, path: &str, server: ServerId, fault: CopyFault
 }
 
 /// A copy of the store of that server in the folder.
-fn copy_of<'a, C, S: Copies<C>>(
+pub(crate) fn copy_of<'a, C, S: Copies<C>>(
     rt: &HostRuntime,
     copies: &S,
     folder: &str,
     server: ServerId,
-) -> Result<C, Fault<'a>> {
+) -> Result<C, Fault<'a>>
+    ensures { IfOk result (S.copied_from (store_path folder.now server)) }
+{
     let Ok(path) = store_path(rt.alloc(), folder, server) else {
         return Err(Fault::Memory);
     };
@@ -195,7 +198,9 @@ fn audit_copies<'a, C: Rising + Drop, S: Copies<Connection<C>>, W: Write>(
     copies: &S,
     folder: &str,
     writer: &mut W,
-) -> Result<u8, Fault<'a>> {
+) -> Result<u8, Fault<'a>>
+    ensures { IfOk result (HasToldAudit (W.contents writer.old) (W.contents writer.new)) }
+{
     let copied = copied_of(rt, copies, folder)?;
     audit_kept(rt.alloc(), copied, writer)
 }
@@ -206,7 +211,9 @@ fn list_owed_of<'a, C: Rising + Drop, S: Copies<Connection<C>>, W: Write>(
     copies: &S,
     folder: &str,
     writer: &mut W,
-) -> Result<u8, Fault<'a>> {
+) -> Result<u8, Fault<'a>>
+    ensures { IfOk result (HasToldOwed (W.contents writer.old) (W.contents writer.new)) }
+{
     let copied = copied_of(rt, copies, folder)?;
     list_owed_by(rt.alloc(), copied, writer)
 }
@@ -218,7 +225,9 @@ pub(crate) fn audit_folder<'a, C: Rising + Drop, S: Copies<Connection<C>>, W: Wr
     folder: &str,
     hints: &mut Hints,
     writer: &mut W,
-) -> Result<u8, Fault<'a>> {
+) -> Result<u8, Fault<'a>>
+    ensures { IfOk result (HasToldAudit (W.contents writer.old) (W.contents writer.new)) }
+{
     tell(rt, READING);
     let done = audit_copies(rt, copies, folder, writer);
     tell(rt, WIPED);
@@ -234,7 +243,9 @@ pub(crate) fn list_owed_in<'a, C: Rising + Drop, S: Copies<Connection<C>>, W: Wr
     folder: &str,
     hints: &mut Hints,
     writer: &mut W,
-) -> Result<u8, Fault<'a>> {
+) -> Result<u8, Fault<'a>>
+    ensures { IfOk result (HasToldOwed (W.contents writer.old) (W.contents writer.new)) }
+{
     tell(rt, READING);
     let done = list_owed_of(rt, copies, folder, writer);
     tell(rt, WIPED);

@@ -4,7 +4,7 @@ ghost use Rattle.std.specs.Prelude.{◌≡◌, ◌≤◌, ◌++◌, List, ℕ, I
 
 use crate::fault::Fault;
 use crate::hints::Hints;
-use crate::source::{InputFault, MAX_FILE_BYTES, read_all};
+use crate::source::{InputFault, read_all};
 use lynx_ask::AskFault;
 use lynx_extend::extend_fault;
 use lynx_report::read_set;
@@ -23,8 +23,8 @@ const FOUND: &[u8] = b"HTTP/1.1 200 ";
 /// What stands between the head and the body of an answer.
 const HEAD_END: &[u8] = b"\r\n\r\n";
 
-/// Bytes of the head of an answer, at most.
-const MAX_HEAD_BYTES: usize = 16_384;
+/// Bytes of an answer, at most, and one more: a set, or a thousand cells in lines, behind a head.
+const MAX_ANSWER_BYTES: usize = 131_073;
 
 /// Seconds for which the answer is waited for, at most, whenever some of it is missing.
 const MAX_SILENT_SECONDS: u64 = 10;
@@ -58,12 +58,12 @@ fn body_in(text: &[u8]) -> Option<&[u8]>
     None
 }
 
-/// The body of an answer over HTTP whose status is 200, and which ends with its connection.
-fn body_of(answer: &[u8]) -> Option<&[u8]>
+/// The body of an answer over HTTP that begins with these words, and ends with its connection.
+pub(crate) fn body_behind<'t>(answer: &'t [u8], words: &[u8]) -> Option<&'t [u8]>
     ensures { IfSome result (λ body. (head : List ℕ)
-        × (answer.now ≡ codes "HTTP/1.1 200 " ++ (head ++ (codes "\r\n\r\n" ++ body.now)))) }
+        × (answer.now ≡ words.now ++ (head ++ (codes "\r\n\r\n" ++ body.now)))) }
 {
-    body_in(after(answer, FOUND)?)
+    body_in(after(answer, words)?)
 }
 
 /// A connection to whoever listens at the port of this machine.
@@ -82,32 +82,36 @@ pub(crate) fn connected<'a, R: Net<Listener = TcpListener, Stream = TcpStream>>(
     }
 }
 
-/// What is answered over the connection to whoever asks for the set. The connection is let go.
+/// What is answered over the connection to this request. The connection is let go.
 fn answer_of<'a, S: Read + Write + Drop>(
     alloc: Global,
+    request: &[u8],
     mut stream: S,
 ) -> Result<Vec<u8>, Fault<'a>> {
-    if stream.write_all(ASKED).is_err() {
+    if stream.write_all(request).is_err() {
         return Err(Fault::NoStatus);
     }
-    match read_all(alloc, &mut stream, MAX_FILE_BYTES + MAX_HEAD_BYTES) {
+    match read_all(alloc, &mut stream, MAX_ANSWER_BYTES) {
+        // What is longer is no answer that a service gives, and isn't known to its end.
+        Ok(answer) if answer.len() == MAX_ANSWER_BYTES => Err(Fault::NoStatus),
         Ok(answer) => Ok(answer),
         Err(InputFault::Read) => Err(Fault::NoStatus),
         Err(InputFault::Memory) => Err(Fault::Memory),
     }
 }
 
-/// What is answered to whoever asks for the set at the port.
-fn answered<'a, R: Net<Listener = TcpListener, Stream = TcpStream>>(
+/// What is answered to this request at the port.
+pub(crate) fn answered<'a, R: Net<Listener = TcpListener, Stream = TcpStream>>(
     host: &HostRuntime,
     rt: &R,
     port: u16,
+    request: &[u8],
     hints: &mut Hints,
 ) -> Result<Vec<u8>, Fault<'a>> {
     let stream = connected(host, rt, port, hints)?;
     let silence = Some(Duration::from_secs(MAX_SILENT_SECONDS));
     match stream.set_read_timeout(silence) {
-        Ok(()) => answer_of(host.alloc(), stream),
+        Ok(()) => answer_of(host.alloc(), request, stream),
         Err(_) => Err(Fault::NoStatus),
     }
 }
@@ -121,8 +125,8 @@ pub(crate) fn compare_sets<'a, R: Net<Listener = TcpListener, Stream = TcpStream
     port: u16,
     hints: &mut Hints,
 ) -> Result<(), Fault<'a>> {
-    let answer = answered(host, rt, port, hints)?;
-    let Some(text) = body_of(answer.as_slice()) else {
+    let answer = answered(host, rt, port, ASKED, hints)?;
+    let Some(text) = body_behind(answer.as_slice(), FOUND) else {
         return Err(Fault::NoStatus);
     };
     match read_set(host.alloc(), text) {

@@ -2,12 +2,13 @@
 ghost use Rattle.std.specs.Prelude.{◌≡◌};
 ghost use Rattle.lynx_cli.specs.Statuses.{status_of, status_of_run};
 ghost use Rattle.lynx_service.specs.Faults.{missing_fault, store_fault};
-ghost use Rattle.lynx_cli.specs.Stopped.{asking_fault, giving_fault, rerun_fault, restoring_fault, run_fault, sampling_fault, serving_fault, showing_fault};
+ghost use Rattle.lynx_cli.specs.Stopped.{asking_fault, carrying_fault, giving_fault, rerun_fault, restoring_fault, run_fault, sampling_fault, serving_fault, showing_fault};
 
 use crate::shown::Shown;
 use crate::source::InputFault;
 use lynx_args::CommandFault;
 use lynx_ask::AskFault;
+use lynx_carry::CarryFault;
 use lynx_give::GiveFault;
 use lynx_lex::TextFault;
 use lynx_names::ServerId;
@@ -57,12 +58,42 @@ pub enum Fault<'a> {
     /// The folder has stores, where new ones are to be made.
     #[error("there are stores already")]
     Occupied,
+    /// The books of the folder are closed: they go on in another one.
+    #[error("the books are closed; remove carried to go back, if the new ones were never served")]
+    Closed,
+    /// The file that numbers the books of a folder tells no number, or can't be read.
+    #[error("cannot read the file books")]
+    BadBooks,
+    /// A file that numbers or closes books, or the folder of new ones, can't be made or moved.
+    #[error("cannot write the new books")]
+    UnwrittenBooks,
+    /// The folder in which new books are to be made has something in it, or is none.
+    #[error("DIR is no empty folder")]
+    NotEmpty,
+    /// What is to become the folder of new books is there, and no carrying to it left it.
+    #[error("DIR.carrying is there already")]
+    InTheWay,
+    /// Somebody has the old stores open, or had them while they were carried.
+    #[error("the stores were served meanwhile")]
+    Meanwhile,
+    /// Cells can't be carried; never for want of memory.
+    #[error("{0}")]
+    Carry(CarryFault),
     /// Nothing at the port tells the status of a service, with its set.
     #[error("no status")]
     NoStatus,
     /// The service has another set than the one by which it is asked.
     #[error("other-set")]
     OtherSet,
+    /// A line that looks up is asked over HTTP, and the port of a status isn't known.
+    #[error("lines read and find want a service with --status")]
+    NoLookups,
+    /// The set of the stores has no table of that name.
+    #[error("no such table")]
+    NoTable,
+    /// A word that is to name keys is neither a key nor a range of them.
+    #[error("KEYS is no key, and not FROM..TO")]
+    BadKeys,
     /// No script was made; never for what stops a run too.
     #[error("{0}")]
     Sample(SampleFault),
@@ -197,6 +228,16 @@ impl<'a> Fault<'a> {
         }
     }
 
+    /// The fault of carrying cells.
+    pub(crate) fn of_carrying(fault: CarryFault) -> Fault<'a>
+        ensures { result ≡ carrying_fault fault }
+    {
+        match fault {
+            CarryFault::Memory => Fault::Memory,
+            fault => Fault::Carry(fault),
+        }
+    }
+
     /// The fault of making a script.
     pub fn of_sampling(fault: SampleFault) -> Fault<'a>
         ensures { result ≡ sampling_fault fault }
@@ -207,17 +248,22 @@ impl<'a> Fault<'a> {
         }
     }
 
-    /// The exit status: 1 where no run ended with a cycle that was looked for, or no mending was
-    /// found, 2 for faulty words or texts, 3 for want of memory, 4 for what can't be read or
-    /// written.
+    /// The exit status: 1 where no run ended with a cycle that was looked for, no mending was found
+    /// or cells can't be carried, 2 for faulty words or texts, 3 for want of memory, 4 for what
+    /// can't be read or written.
     pub fn status(&self) -> u8
         ensures { result ≡ status_of self.now }
     {
         match self {
             Fault::Command(_) | Fault::NoSeparator | Fault::Set(_) | Fault::Script(_) => 2,
+            Fault::NoTable | Fault::BadKeys => 2,
+            Fault::Closed | Fault::BadBooks | Fault::UnwrittenBooks => 4,
+            Fault::NotEmpty | Fault::InTheWay | Fault::Meanwhile => 4,
+            Fault::Carry(_) => 1,
             Fault::Unread(_) | Fault::Unwritten(_) => 4,
             Fault::Store(_) | Fault::Serve(_) | Fault::Ask(_) => 4,
-            Fault::NoService | Fault::NoStatus | Fault::OtherSet | Fault::Occupied => 4,
+            Fault::NoService | Fault::NoStatus | Fault::NoLookups => 4,
+            Fault::OtherSet | Fault::Occupied => 4,
             Fault::Sample(SampleFault::NoCycle) | Fault::NoMending => 1,
             Fault::Sample(SampleFault::TooLong) => 2,
             Fault::Sample(SampleFault::Run(fault)) => status_of_run(*fault),

@@ -306,6 +306,18 @@ impl Hints {
         }
     }
 
+    /// Notes where the books of the folder go on, where they are closed.
+    pub(crate) fn note_books<T>(
+        &mut self,
+        alloc: Global,
+        folder: &str,
+        done: &Result<T, Fault<'_>>,
+    ) {
+        if self.is_wanted && matches!(done, Err(Fault::Closed)) {
+            self.lines = format!(in alloc; "  {folder}/carried tells where they go on\n").ok();
+        }
+    }
+
     /// Notes that what the folder tells was left by a service that has ended.
     pub(crate) fn note_left_over(&mut self, alloc: Global, folder: &str) {
         if self.is_wanted {

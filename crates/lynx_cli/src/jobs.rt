@@ -4,22 +4,26 @@ ghost use Rattle.lynx_cli.specs.Statuses.{finished_as};
 
 use crate::asking::{ask_folder, ask_port};
 use crate::auditing::{audit_folder, list_owed_in};
+use crate::books::{check_open, pass_books};
+use crate::carrying::carry_folder;
 use crate::extending::extend_folder;
 use crate::fault::Fault;
 use crate::hints::{Hints, Named};
+use crate::looking::{CellWords, find_in_folder, read_folder};
 use crate::mending::{MendingView, mend_set};
 use crate::reading::text_of;
-use crate::restoring::restore_folder;
+use crate::restoring::{check_vacant, restore_folder};
 use crate::serving::{ServePlace, serve_file};
 use crate::source::{MAX_INPUT_BYTES, read_all};
 use crate::stored::{StoresIn, rerun_script};
 use crate::storing::{show_file, upgrade_file};
 use crate::texts::{chart_script, check_set, draw_set, run_input, run_script, sample_set};
-use lynx_args::{INPUT, Job, RunFlags, SampleFlags};
+use lynx_args::{INPUT, Job, RunFlags, SampleFlags, StoreJob};
 use lynx_cluster::Host;
 use lynx_draw::Extent;
 use lynx_keep::{BatchKeeper, Keeper};
 use lynx_report::{CheckOptions, DrawOptions, Why};
+use lynx_show::Detail;
 use lynx_sql::Rising;
 use lynx_store_files::{Copies, Databases, StoreCopy, Stores};
 use sqlite::Connection;
@@ -86,23 +90,90 @@ fn do_to<
             run_over_stores(host, over, set, script, flags, hints, writer)
         }
         Job::RunInput { flags } => run_standard_input(host, flags, hints, writer),
-        Job::Show { store } => show_file(host, stores, store, hints, writer),
-        Job::Upgrade { store } => upgrade_file(host, stores, store, hints, writer),
-        Job::Extend { folder, set } => { extend_folder(host, stores, folder, set, hints, writer) }
-        Job::Restore { place } => restore_folder(host, stores, place, hints, writer),
-        Job::Audit { folder } => audit_folder(host, stores, folder, hints, writer),
-        Job::Owed { folder } => list_owed_in(host, stores, folder, hints, writer),
+        Job::Stores(job) => do_with_stores(host, stores, job, hints, writer),
         Job::Serve {
             set,
             folder,
             port,
             flags,
         } => {
+            check_books(host, folder, hints)?;
+            number_copy(host, stores, folder, flags.copy)?;
             let place = ServePlace { folder, port };
             serve_file(host, rt, stores, set, place, flags, hints, writer)
         }
         Job::Ask { set, port, status } => { ask_port(host, &rt, set, port, status, hints, writer) }
         Job::AskFolder { folder } => ask_folder(host, &rt, folder, hints, writer),
+    }
+}
+
+/// Whether the books of the folder are open; where they aren't it is noted where they go on.
+fn check_books<'a>(host: &HostRuntime, folder: &str, hints: &mut Hints) -> Result<(), Fault<'a>> {
+    let open = check_open(host, folder);
+    hints.note_books(host.alloc(), folder, &open);
+    open
+}
+
+/// Gives a folder that is to follow the number of the books that it follows, while it has no store.
+/// Of any other the service tells whether it can follow.
+fn number_copy<'a, K, S: Stores<K>>(
+    host: &HostRuntime,
+    stores: &S,
+    folder: &str,
+    copy: Option<&str>,
+) -> Result<(), Fault<'a>> {
+    match copy {
+        Some(copy) if check_vacant(stores, copy).is_ok() => pass_books(host, folder, copy),
+        _ => Ok(()),
+    }
+}
+
+/// How much a listing tells of each entry.
+fn detail_of(full: bool) -> Detail {
+    if full { Detail::Full } else { Detail::Brief }
+}
+
+/// Does something with stores that nobody serves, with its output to the writer.
+fn do_with_stores<
+    'a,
+    K: BatchKeeper + Send + Drop + 'static,
+    D: Rising + Drop,
+    S: Stores<K> + Databases<Connection<D>> + Copies<StoreCopy> + Sync,
+    W: Write,
+>(
+    host: &HostRuntime,
+    stores: &S,
+    job: StoreJob<'a>,
+    hints: &mut Hints,
+    writer: &mut W,
+) -> Result<u8, Fault<'a>> {
+    match job {
+        StoreJob::Show { store, full } => {
+            let detail = detail_of(full);
+            show_file(host, stores, store, detail, hints, writer)
+        }
+        StoreJob::Read {
+            folder,
+            table,
+            keys,
+        } => {
+            let words = CellWords { table, keys };
+            read_folder(host, stores, folder, words, hints, writer)
+        }
+        StoreJob::Find {
+            folder,
+            client,
+            number,
+        } => find_in_folder(host, stores, folder, client, number, hints, writer),
+        StoreJob::Upgrade { store } => upgrade_file(host, stores, store, hints, writer),
+        StoreJob::Extend { folder, set } => {
+            check_books(host, folder, hints)?;
+            extend_folder(host, stores, folder, set, hints, writer)
+        }
+        StoreJob::Restore { place } => restore_folder(host, stores, place, hints, writer),
+        StoreJob::Audit { folder } => audit_folder(host, stores, folder, hints, writer),
+        StoreJob::Owed { folder } => list_owed_in(host, stores, folder, hints, writer),
+        StoreJob::Carry { place } => carry_folder(host, stores, place, hints, writer),
     }
 }
 
@@ -246,6 +317,7 @@ fn run_over_stores<'a, K: Keeper + Drop, S: Stores<K>, W: Write>(
     let (set_read, script_read) = (text_of(rt, set)?, text_of(rt, script)?);
     let (set_text, script_text) = (set_read.as_slice(), script_read.as_slice());
     let folder = over.folder;
+    check_books(rt, folder, hints)?;
     let done = rerun_script(rt.alloc(), over, set_text, script_text, flags, writer);
     let (set, script) = (Named::new(set, set_text), Named::new(script, script_text));
     hints.note_run(rt.alloc(), set, script, &done);

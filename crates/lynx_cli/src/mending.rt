@@ -97,7 +97,7 @@ fn mended(alloc: Global, set: &ChainSet, view: MendingView) -> Result<Option<Vec
 }
 
 /// Whether a set is accepted.
-fn is_accepted(alloc: Global, set: &ChainSet) -> Result<bool, Memory>
+pub(crate) fn is_accepted(alloc: Global, set: &ChainSet) -> Result<bool, Memory>
     ensures yes { IfOk result (λ accepted. accepted ≡ true → IsAccepted set.now) }
     ensures no { IfOk result (λ accepted. accepted ≡ false → ¬ IsAccepted set.now) }
 {

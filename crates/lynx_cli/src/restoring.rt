@@ -1,15 +1,17 @@
 //! New stores of what copies of stores hold together.
-ghost use Rattle.std.specs.Prelude.{IfOk};
+ghost use Rattle.std.specs.Prelude.{IfOk, List};
+ghost use Rattle.lynx_restore.specs.declared.restored.RestoredServer.{RestoredServer};
 ghost use Rattle.lynx_cli.specs.Folders.{HasToldRestored};
 
 use crate::auditing::{Copied, READING, copied_of};
+use crate::books::pass_books;
 use crate::fault::Fault;
 use crate::hints::Hints;
 use crate::salvaged::{Found, found_in};
 use crate::storing::{WIPED, tell};
 use crate::texts::DONE;
 use lynx_args::RestorePlace;
-use lynx_keep::Keeper;
+use lynx_keep::BatchKeeper;
 use lynx_names::ServerId;
 use lynx_names::limits::MAX_SERVERS;
 use lynx_restore::{
@@ -23,7 +25,7 @@ use std::fs;
 use std::io::{ErrorKind, Write};
 
 /// Whether the folder has no store, of whatever server there may be.
-fn check_vacant<'a, K, S: Stores<K>>(stores: &S, folder: &str) -> Result<(), Fault<'a>> {
+pub(crate) fn check_vacant<'a, K, S: Stores<K>>(stores: &S, folder: &str) -> Result<(), Fault<'a>> {
     for number in 0..MAX_SERVERS {
         let server = ServerId::at(number);
         match stores.has(folder, server) {
@@ -36,7 +38,7 @@ fn check_vacant<'a, K, S: Stores<K>>(stores: &S, folder: &str) -> Result<(), Fau
 }
 
 /// The path of the store of that server in the folder, and that of its log.
-fn paths_in<'a>(
+pub(crate) fn paths_in<'a>(
     rt: &HostRuntime,
     folder: &str,
     server: ServerId,
@@ -59,7 +61,7 @@ fn sync_folder<'a>(rt: &HostRuntime, folder: &str) -> Result<(), Fault<'a>> {
 }
 
 /// The folder that a path stands in.
-fn above(path: &str) -> &str {
+pub(crate) fn above(path: &str) -> &str {
     match path.trim_end_matches('/').rsplit_once('/') {
         Some(("", _)) => "/",
         Some((folder, _)) => folder,
@@ -139,13 +141,19 @@ fn move_all<'a>(
     sync_folder(rt, folder)
 }
 
-/// Takes away the stores that were made so far, and the folder in which they are.
-fn clear_room<'a>(rt: &HostRuntime, room: &str) -> Result<(), Fault<'a>> {
+/// Takes away the stores of a folder that were made so far, with their logs.
+pub(crate) fn clear_stores<'a>(rt: &HostRuntime, folder: &str) -> Result<(), Fault<'a>> {
     for number in 0..MAX_SERVERS {
-        let (store, log) = paths_in(rt, room, ServerId::at(number))?;
+        let (store, log) = paths_in(rt, folder, ServerId::at(number))?;
         let _ = fs::remove_file(rt, store.as_str());
         let _ = fs::remove_file(rt, log.as_str());
     }
+    Ok(())
+}
+
+/// Takes away the stores that were made so far, and the folder in which they are.
+fn clear_room<'a>(rt: &HostRuntime, room: &str) -> Result<(), Fault<'a>> {
+    clear_stores(rt, room)?;
     let _ = fs::remove_dir(rt, room);
     Ok(())
 }
@@ -165,27 +173,36 @@ fn prepare<'a, K, S: Stores<K>>(
     Ok(room)
 }
 
-/// Moves the stores that were made to their folder; where not all could be made, takes them away.
+/// Moves the stores that were made to their folder, behind what the copies' folder tells of its
+/// books; where not all could be made, takes them away.
 fn moved<'a>(
     rt: &HostRuntime,
+    from: &str,
     room: &str,
     folder: &str,
     made: Result<Restored, RestoreFault>,
 ) -> Result<Restored, Fault<'a>> {
-    match made {
+    let passed = match made {
+        Ok(restored) => match pass_books(rt, from, folder) {
+            Ok(()) => Ok(restored),
+            Err(fault) => Err(fault),
+        },
+        Err(fault) => Err(Fault::of_restoring(fault)),
+    };
+    match passed {
         Ok(restored) => {
             move_all(rt, room, folder, restored.servers.as_slice())?;
             Ok(restored)
         }
         Err(fault) => {
             clear_room(rt, room)?;
-            Err(Fault::of_restoring(fault))
+            Err(fault)
         }
     }
 }
 
 /// Makes stores in the folder of what the copies in another hold together, each of which is whole.
-fn restore_whole<'a, K: Keeper + Drop, C: Rising + Drop, S: Stores<K> + Copies<Connection<C>>>(
+fn restore_whole<'a, K: BatchKeeper + Drop, C: Rising + Drop, S: Stores<K> + Copies<Connection<C>>>(
     rt: &HostRuntime,
     stores: &S,
     from: &str,
@@ -198,7 +215,7 @@ fn restore_whole<'a, K: Keeper + Drop, C: Rising + Drop, S: Stores<K> + Copies<C
     let made = match prepare(rt, stores, folder) {
         Ok(room) => {
             let made = restore(rt.alloc(), &set, keepers, stores, room.as_str());
-            moved(rt, room.as_str(), folder, made)
+            moved(rt, from, room.as_str(), folder, made)
         }
         Err(fault) => Err(fault),
     };
@@ -207,7 +224,7 @@ fn restore_whole<'a, K: Keeper + Drop, C: Rising + Drop, S: Stores<K> + Copies<C
 }
 
 /// Makes stores in the folder of what can still be read of the copies in another.
-fn restore_found<'a, K: Keeper + Drop, C: Rising + Drop, S: Stores<K> + Copies<Connection<C>>>(
+fn restore_found<'a, K: BatchKeeper + Drop, C: Rising + Drop, S: Stores<K> + Copies<Connection<C>>>(
     rt: &HostRuntime,
     stores: &S,
     from: &str,
@@ -220,7 +237,7 @@ fn restore_found<'a, K: Keeper + Drop, C: Rising + Drop, S: Stores<K> + Copies<C
     let made = match prepare(rt, stores, folder) {
         Ok(room) => {
             let made = restore_longest(rt.alloc(), &set, entries, stores, room.as_str());
-            moved(rt, room.as_str(), folder, made)
+            moved(rt, from, room.as_str(), folder, made)
         }
         Err(fault) => Err(fault),
     };
@@ -250,7 +267,7 @@ fn write_restored<'a, W: Write>(
 /// tells how much of each that is. The copies are only read.
 pub(crate) fn restore_folder<
     'a,
-    K: Keeper + Drop,
+    K: BatchKeeper + Drop,
     C: Rising + Drop,
     S: Stores<K> + Copies<Connection<C>>,
     W: Write,
@@ -260,7 +277,10 @@ pub(crate) fn restore_folder<
     place: RestorePlace<'_>,
     hints: &mut Hints,
     writer: &mut W,
-) -> Result<u8, Fault<'a>> {
+) -> Result<u8, Fault<'a>>
+    ensures { IfOk result (λ status. (restored : List RestoredServer)
+        × HasToldRestored restored (W.contents writer.old) (W.contents writer.new) status) }
+{
     let RestorePlace {
         from,
         folder,

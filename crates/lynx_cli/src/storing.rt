@@ -11,7 +11,7 @@ use crate::source::InputFault;
 use crate::texts::DONE;
 use lynx_keep::Keeper;
 use lynx_server::{OpenFault, Server};
-use lynx_show::{ShowFault, check_upgrade, show_store, upgrade_and_tell};
+use lynx_show::{Detail, ShowFault, check_upgrade, show_store, upgrade_and_tell};
 use lynx_sql::Rising;
 use lynx_store::{Inspected, SqlKeeper, inspect};
 use lynx_store_files::{Copies, CopyFault};
@@ -101,14 +101,15 @@ pub(crate) fn show_file<'a, C: Rising + Drop, S: Copies<Connection<C>>, W: Write
     rt: &HostRuntime,
     copies: &S,
     store: &'a str,
+    detail: Detail,
     hints: &Hints,
     writer: &mut W,
 ) -> Result<u8, Fault<'a>>
-    ensures { IfOk result (HasShown S.copied_from (λ conn. state C.Store conn) store.entry.now
-        (W.contents writer.old) (W.contents writer.new)) }
+    ensures { IfOk result (HasShown detail S.copied_from (λ conn. state C.Store conn)
+        store.entry.now (W.contents writer.old) (W.contents writer.new)) }
 {
     let mut copy = copied(copies, store)?;
-    match show_store(rt.alloc(), &mut copy, writer) {
+    match show_store(rt.alloc(), &mut copy, detail, writer) {
         Ok(()) => {}
         Err(fault) => return Err(Fault::of_showing(fault)),
     }

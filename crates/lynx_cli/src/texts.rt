@@ -24,6 +24,9 @@ pub(crate) const DONE: u8 = 0;
 /// The status of an offending set, and of a run that ends with a cycle.
 pub(crate) const OFFENDING: u8 = 1;
 
+/// The status of looking for a request of which there is no record.
+pub(crate) const ABSENT: u8 = 1;
+
 /// The status of asking by lines of which some are faulty.
 pub(crate) const FAULTY: u8 = 2;
 

@@ -303,6 +303,77 @@ def test_carried(tally, program):
             tally.is_same("who began them", {client for client, _ in begun}, {MOST} if wanted else set())
 
 
+def shards_of(chance, servers):
+    """The lines of a table's shards, at random, and which servers have one."""
+    bounds = sorted(chance.sample(range(1, 3000), chance.randrange(4)))
+    owners = [chance.randrange(servers) for _ in range(len(bounds) + 1)]
+    starts, ends = [0, *bounds], [bound - 1 for bound in bounds] + [MOST]
+    return "".join(f"shard {low} {high} {owner}\n" for low, high, owner in zip(starts, ends, owners)), {*owners}
+
+
+def writer_of(chance, table, number, server, turns):
+    """A program that writes cells of the table at the server: one or more at a time, by `set` or `add`, some behind a turn elsewhere."""
+    pairs = [(f"k{at}", f"n{at}") for at in range(chance.randrange(1, 4))]
+    verb = chance.choice(("set", "add"))
+    turn = chance.choice([None, *turns])
+    lines = [f"program fill{number} " + " ".join(word for pair in pairs for word in pair) + (" t" if turn else "")]
+    if turn:
+        lines += [f"hop {turn[0]}", f"add {turn[1]} t 0"]
+    lines += [f"hop {server}", *(f"{verb} {table} {key} {value}" for key, value in pairs), "end"]
+    return "\n".join(lines) + "\n"
+
+
+def random_set(chance):
+    """The text of a set with the tables of BANK in some order, each with writers at the servers that have keys of it, and programs
+    of BANK's that go on at their new servers or are left out."""
+    servers, tables, writers = chance.randrange(1, 5), chance.sample(["acct", "fee"], 2), []
+    text = f"lynx 1\nservers {servers}\n"
+    for table in tables:
+        lines, owners = shards_of(chance, servers)
+        text += f"table {table}\n" + lines
+        writers += [(table, owner) for owner in owners]
+    turns = [(owner, table) for table, owner in writers]
+    for number, (table, owner) in enumerate(writers):
+        text += writer_of(chance, table, number, owner, [turn for turn in turns if turn[0] != owner] if chance.random() < 0.3 else [])
+    return text
+
+
+def replayed(room, folder, text):
+    """The nonzero cells that the entries of the stores leave by the plain reading, and the hops that are owed by it."""
+    chains, cells, hops = reference.Set(text), {}, {}
+    here, room.stores = room.stores, folder
+    for history in histories_of(room, chains):
+        own = {}
+        for entry in history:
+            if entry["kind"] != "refused":
+                own = reference.run_hop(chains, entry["program"], entry["hop"], entry["args"], entry["earlier"], own)[1]
+                hops.setdefault((entry["chain"], entry["program"]), set()).add(entry["hop"])
+        cells.update(own)
+    room.stores = here
+    owed = [chain for chain, done in hops.items() if done != set(range(len(chains.hops(chain[1]))))]
+    return cells, owed
+
+
+def test_random(tally, program, pytestconfig):
+    """Random years, carried to random sets: the cells by the system's sqlite3 and by a plain reading of the entries."""
+    chance, done = random.Random(29), 0
+    for turn in range(25 * pytestconfig.getoption("--times")):
+        with Room(BANK) as room:
+            stored(program, room, year(chance, 40))
+            wanted, text = cells(room, room.stores, BANK), random_set(chance)
+            if end_of([program, "check", room.file("next.set", text)])[2] != 0:
+                continue
+            (told, fault, status), folder = carried(program, room, text)
+            if fault == "lynx: the chains don't leave the cells\n":
+                continue
+            done += 1
+            tally.is_same(f"{turn}", (fault, status), ("", 0))
+            entries, _ = entries_told(told)
+            tally.is_same(f"{turn}: the entries", is_whole(tally, program, room, folder, text, wanted), entries)
+            tally.is_same(f"{turn}: the plain reading", replayed(room, folder, text), (wanted, []))
+    tally.holds(f"{done} were carried", done >= 15 * pytestconfig.getoption("--times"))
+
+
 def test_closed(tally, program):
     """While the old books are closed nobody is served over them, extends or carries them; without the file they are open again."""
     with Room(PAYMENT) as room:

@@ -83,6 +83,7 @@ class Bank:
         self.store, self.folder, self.lock = store, folder, threading.Lock()
         self.client = lynx.Client(folder, client=CLIENT, tries=12)
         self.chains, self.is_slow, self.order, self.is_new = {}, False, "", True
+        self.accounts = {name: {"server": server_of(name), "may_spend": None, "has": None} for name in ACCOUNTS}
         for name in ACCOUNTS:
             self.move("deposit", {"to": name, "amount": OPENED_WITH}, f"open {name}")
 
@@ -146,17 +147,21 @@ class Bank:
         return self.begin(f"send{server_of(source)}{server_of(to)}", [ACCOUNTS[source], ACCOUNTS[to], amount], number_of(key),
                           f"{source} pays {to} {amount}", given.get("lose") is True)
 
+    def read(self):
+        """Reads what each account may spend and has, which takes no entry; what was read last, where the store is away."""
+        for name, key in ACCOUNTS.items():
+            try:
+                self.accounts[name].update(may_spend=self.client.read("funds", key), has=self.client.read("acct", key))
+            except (lynx.LynxError, OSError):
+                return
+
     def state(self):
-        """All that the page shows: what each account may spend and has, by audits; the sums; the latest chains."""
+        """All that the page shows: what each account may spend and has; their sum, which an audit tells since it is of three servers;
+        the latest chains."""
         with self.lock:
+            self.read()
+            accounts = {name: dict(known) for name, known in self.accounts.items()}
             audits = [it for it in self.chains.values() if it["program"] == "audit"]
-            free, has = [None] * len(ACCOUNTS), [None] * len(ACCOUNTS)
-            for audit in audits:
-                values = [hop["results"] for hop in audit["hops"]]
-                free = values[0][:len(ACCOUNTS)]
-                for at, some in enumerate([values[0][len(ACCOUNTS):], *values[1:]]):
-                    has[2 * at:2 * at + 2] = some or has[2 * at:2 * at + 2]
-            accounts = {name: {"server": server_of(name), "may_spend": free[at], "has": has[at]} for at, name in enumerate(ACCOUNTS)}
             whole = [it for it in audits if all(hop["stamp"] for hop in it["hops"])][-1:]
             total = sum(sum(hop["results"][-2:]) for hop in whole[0]["hops"]) if whole else None
             chains = [{name: it[name] for name in ("chain", "what", "hops")} for it in list(self.chains.values())[::-1][:RECENT]]

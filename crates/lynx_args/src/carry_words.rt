@@ -14,7 +14,7 @@ const DROP: &str = "drop";
 pub(crate) const CARRY: CommandText = CommandText {
     name: "carry",
     about: "Close the books of a folder: make stores of a set in another, with the same cells and no history",
-    after: "The stores of FROM are audited and must owe nothing; they are only read. The set may be any accepted one that has\ntheir tables by name. Its programs that only set or add parameters write the cells, as chains of client\n18446744073709551615; a line carry SERVER ENTRIES tells of each server how many entries that takes. The stores are\nmade in DIR.new. Once all are whole, FROM gets a file carried, by which it is served no more, and DIR.new is\nrenamed to DIR. To go back, remove that file while DIR was never served.\nExample: lynx carry stores-1 stores-2 bank.set",
+    after: "The stores of FROM are audited and must owe nothing; they are only read. The set may be any accepted one that has\ntheir tables by name. Its programs that only set or add parameters write the cells, as chains of client\n18446744073709551615; a line carry SERVER ENTRIES left MORE tells of each server how many entries that takes. The\nstores are made in DIR.carrying. Once all are whole, FROM gets a file carried, by which it is served no more, and\nDIR.carrying is renamed to DIR. To go back, remove that file while DIR was never served.\nExample: lynx carry stores-1 stores-2 bank.set",
     words: &[
         Word {
             name: "FROM",

@@ -2,6 +2,8 @@
 use Rattle.std.specs.Prelude.{ℕ, Bool, false, Result, Ok, Err}
 use Rattle.lynx_cli.specs.declared.fault.Fault.{Fault}
 use Rattle.lynx_cli.specs.declared.fault.Fault.TheVariants.{Ask, BadBooks, BadKeys, Carry, Closed, Command, InTheWay, Meanwhile, Memory, NoLookups, NoMending, NoSeparator, NoService, NoStatus, NoTable, NotEmpty, Occupied, OtherSet, Sample, Script, Serve, Set, Store, Unread, Unwritten, UnwrittenBooks, Write}
+use Rattle.lynx_carry.specs.declared.fault.CarryFault.{CarryFault}
+use Rattle.lynx_carry.specs.declared.fault.CarryFault.TheVariants as carrying
 use Rattle.lynx_sample.specs.declared.fault.SampleFault.{SampleFault}
 use Rattle.lynx_sample.specs.declared.fault.SampleFault.TheVariants.{NoCycle, TooLong, Run as Stopped}
 use Rattle.lynx_report.specs.declared.run.RunFault.{RunFault}
@@ -24,6 +26,11 @@ abbrev pub status_of_sampling : SampleFault → ℕ
 status_of_sampling NoCycle = 1
 status_of_sampling TooLong = 2
 status_of_sampling (Stopped fault) = status_of_run fault
+
+-- of carrying cells: 1, or 3 for want of memory
+abbrev pub status_of_carrying : CarryFault → ℕ
+status_of_carrying carrying.Memory = 3
+status_of_carrying fault = 1
 
 -- 1: no mending was found, or cells can't be carried. 2: the words or a text. 3: want of memory.
 -- 4: what can't be read or written

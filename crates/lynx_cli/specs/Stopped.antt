@@ -20,7 +20,7 @@ use Rattle.lynx_sample.specs.declared.fault.SampleFault.TheVariants as sample
 use Rattle.lynx_args.specs.declared.job.RunFlags.{RunFlags}
 use Rattle.lynx_cli.specs.Done.{IsAccepted, options_of}
 use Rattle.lynx_cli.specs.declared.fault.Fault.{Fault}
-use Rattle.lynx_cli.specs.declared.fault.Fault.TheVariants.{Ask, Carry, Memory, NoSeparator, Occupied, Sample, Script, Serve, Set, Store, Write}
+use Rattle.lynx_cli.specs.declared.fault.Fault.TheVariants.{Ask, Memory, NoSeparator, Occupied, Sample, Script, Serve, Set, Store, Write}
 use Rattle.lynx_ask.specs.declared.fault.AskFault.{AskFault}
 use Rattle.lynx_ask.specs.declared.fault.AskFault.TheVariants as ask
 use Rattle.lynx_rerun.specs.declared.fault.RerunFault.{RerunFault}
@@ -32,8 +32,6 @@ use Rattle.lynx_service.specs.declared.fault.ServeFault.{ServeFault}
 use Rattle.lynx_service.specs.declared.fault.ServeFault.TheVariants as serve
 use Rattle.lynx_show.specs.declared.fault.ShowFault.{ShowFault}
 use Rattle.lynx_show.specs.declared.fault.ShowFault.TheVariants as show
-use Rattle.lynx_carry.specs.declared.fault.CarryFault.{CarryFault}
-use Rattle.lynx_carry.specs.declared.fault.CarryFault.TheVariants as carrying
 use Rattle.lynx_give.specs.declared.fault.GiveFault.{GiveFault}
 use Rattle.lynx_give.specs.declared.fault.GiveFault.TheVariants as give
 use Rattle.lynx_store.specs.declared.fault.StoreFault.{StoreFault}
@@ -52,11 +50,6 @@ run_fault run.Memory = Memory
 abbrev pub sampling_fault : SampleFault → Fault
 sampling_fault (sample.Run fault) = run_fault fault
 sampling_fault fault = Sample fault
-
--- why cells were not carried
-abbrev pub carrying_fault : CarryFault → Fault
-carrying_fault carrying.Memory = Memory
-carrying_fault fault = Carry fault
 
 -- why a store was not listed
 abbrev pub showing_fault : ShowFault → Fault

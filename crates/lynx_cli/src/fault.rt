@@ -1,10 +1,11 @@
 //! Why the program stops short: the one line on standard error, and the status.
 ghost use Rattle.std.specs.Prelude.{◌≡◌};
-ghost use Rattle.lynx_cli.specs.Statuses.{status_of, status_of_run};
+ghost use Rattle.lynx_cli.specs.Statuses.{status_of, status_of_carrying, status_of_run};
 ghost use Rattle.lynx_service.specs.Faults.{missing_fault, store_fault};
-ghost use Rattle.lynx_cli.specs.Stopped.{asking_fault, carrying_fault, giving_fault, rerun_fault, restoring_fault, run_fault, sampling_fault, serving_fault, showing_fault};
+ghost use Rattle.lynx_cli.specs.Stopped.{asking_fault, giving_fault, rerun_fault, restoring_fault, run_fault, sampling_fault, serving_fault, showing_fault};
 
-use crate::shown::Shown;
+use crate::carry_word::CarryWord;
+use crate::shown::{Shown, ShownTable};
 use crate::source::InputFault;
 use lynx_args::CommandFault;
 use lynx_ask::AskFault;
@@ -78,7 +79,7 @@ pub enum Fault<'a> {
     Meanwhile,
     /// Cells can't be carried; never for want of memory.
     #[error("{0}")]
-    Carry(CarryFault),
+    Carry(CarryWord),
     /// Nothing at the port tells the status of a service, with its set.
     #[error("no status")]
     NoStatus,
@@ -230,11 +231,22 @@ impl<'a> Fault<'a> {
 
     /// The fault of carrying cells.
     pub(crate) fn of_carrying(fault: CarryFault) -> Fault<'a>
-        ensures { result ≡ carrying_fault fault }
+        ensures { status_of result ≡ status_of_carrying fault }
     {
         match fault {
+            CarryFault::NoTable { table } => Fault::Carry(CarryWord::NoTable {
+                table: ShownTable::new(&table),
+            }),
+            CarryFault::NoWriter { table, server } => Fault::Carry(CarryWord::NoWriter {
+                table: ShownTable::new(&table),
+                server: server.number(),
+            }),
+            CarryFault::TooMany { server, entries } => Fault::Carry(CarryWord::TooMany {
+                server: server.number(),
+                entries,
+            }),
+            CarryFault::Differs => Fault::Carry(CarryWord::Differs),
             CarryFault::Memory => Fault::Memory,
-            fault => Fault::Carry(fault),
         }
     }
 

@@ -13,6 +13,7 @@ pub use texts::{chart_script, check_set, draw_set, run_input, run_script, sample
 mod asking;
 mod auditing;
 mod books;
+pub mod carry_word;
 mod carrying;
 mod causes;
 mod comparing;

@@ -54,10 +54,16 @@ abbrev pub from_key : ℕ → Lookup → Lookup
 from_key next (Cells table from to) = Cells table next to
 from_key next other = other
 
+-- the path at which cells of a table are asked for, up to the first key
+abbrev pub cells_from : List ℕ → ℕ → List ℕ
+cells_from table from = codes "/cells/" ++ table ++ codes "?from=" ++ decimal from
+
+-- .. and up to the last one, a thousand at most
+abbrev pub cells_to : ℕ → List ℕ
+cells_to to = codes "&to=" ++ decimal to ++ codes "&limit=1000"
+
 -- the path at which it is asked for
 abbrev pub path_of : Lookup → List ℕ
 path_of (Cell table key) = codes "/cells/" ++ table ++ 47 ∷ decimal key
-path_of (Cells table from to) =
-    codes "/cells/" ++ table ++ codes "?from=" ++ decimal from ++ codes "&to=" ++ decimal to
-    ++ codes "&limit=1000"
+path_of (Cells table from to) = cells_from table from ++ cells_to to
 path_of (Request client number) = codes "/requests/" ++ decimal client ++ 47 ∷ decimal number

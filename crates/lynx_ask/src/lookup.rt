@@ -1,7 +1,7 @@
 //! What a line looks up, which takes no entry: it is asked over HTTP, at the port of the status.
-ghost use Rattle.std.specs.Prelude.{◌≡◌, ◌∷◌, IfOk, IfSome, codes, decimal};
+ghost use Rattle.std.specs.Prelude.{◌≡◌, ◌∷◌, ◌++◌, IfOk, IfSome, OnOk, codes, decimal};
 ghost use Rattle.std.specs.String.{string_bytes};
-ghost use Rattle.lynx_ask.specs.Lookups.{IsLookup, IsOfKeys, IsTableOf, LooksUp, from_key, path_of, range_text};
+ghost use Rattle.lynx_ask.specs.Lookups.{IsLookup, IsOfKeys, IsTableOf, LooksUp, cells_from, cells_to, from_key, path_of, range_text};
 ghost use Rattle.lynx_lex.specs.Lines.{texts};
 
 use lynx_lex::lines::{place_of_byte, words_of};
@@ -32,12 +32,29 @@ fn cell_path(alloc: Global, table: &Name, key: u64) -> Result<String, AllocError
     Ok(path)
 }
 
+/// The path of the cells of a table, up to their first key.
+fn cells_from(alloc: Global, table: &Name, from: u64) -> Result<String, AllocError>
+    ensures { IfOk result (λ path. string_bytes path ≡ cells_from table.now from) }
+{
+    let mut path = String::new(alloc);
+    write!(path, "/cells/{table}?from={from}")?;
+    Ok(path)
+}
+
+/// Adds their last key, and that a thousand of them are told at most.
+fn put_end(path: &mut String, to: u64) -> Result<(), AllocError>
+    ensures { OnOk result (string_bytes path.new ≡ string_bytes path.old ++ cells_to to) }
+{
+    write!(path, "&to={to}&limit=1000")?;
+    Ok(())
+}
+
 /// The path of the cells of a table in a range, as many as are told at most.
 fn cells_path(alloc: Global, table: &Name, from: u64, to: u64) -> Result<String, AllocError>
     ensures { IfOk result (λ path. string_bytes path ≡ path_of (Lookup.Cells table.now from to)) }
 {
-    let mut path = String::new(alloc);
-    write!(path, "/cells/{table}?from={from}&to={to}&limit=1000")?;
+    let mut path = cells_from(alloc, table, from)?;
+    put_end(&mut path, to)?;
     Ok(path)
 }
 

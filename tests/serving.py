@@ -1,7 +1,10 @@
 """What tests of the built program share: the payment set, counts of tests, and a service under test, `lynx serve` over a fresh
 folder."""
+import contextlib
+import functools
 import importlib.machinery
 import importlib.util
+import itertools
 import os
 import re
 import shutil
@@ -69,15 +72,26 @@ def script(name):
     return made
 
 
-def free_port():
-    """A port that nobody listens at just now, and that no other worker of pytest is given."""
+# Ports below those that the system gives to clients, as /proc/sys/net/ipv4/ip_local_port_range has it.
+FIRST_PORT, PORTS = 12000, 20000
+
+
+@functools.cache
+def own_ports():
+    """The ports of this process, in turn: each worker of pytest has a part of them."""
     worker, workers = int(os.environ.get("PYTEST_XDIST_WORKER", "gw0")[2:]), int(os.environ.get("PYTEST_XDIST_WORKER_COUNT", "1"))
-    while True:
-        with socket.socket() as found:
-            found.bind(("127.0.0.1", 0))
-            port = found.getsockname()[1]
-        if port // 2 % workers == worker:  # the system gives odd ports first
+    share = PORTS // workers
+    first, begin = FIRST_PORT + worker * share, os.getpid() * 7 % share
+    return itertools.cycle([*range(first + begin, first + share), *range(first, first + begin)])
+
+
+def free_port():
+    """A port that nobody listens at just now, that no other worker of pytest is given, and that no client's connection takes."""
+    for port in own_ports():
+        with socket.socket() as found, contextlib.suppress(OSError):
+            found.bind(("127.0.0.1", port))
             return port
+    raise AssertionError("the ports of this process have an end")
 
 
 def end_of(words, given="", **how):
@@ -129,10 +143,12 @@ class Service:
     def __enter__(self):
         return self
 
-    def __exit__(self, *_):
+    def __exit__(self, fault, *_):
         if self.ran.poll() is None:
             self.ran.kill()
-        self.ran.communicate()
+        out, err = self.ran.communicate()
+        if fault:  # pytest shows it below a test that failed
+            print(f"the service said: {self.first!r} {out!r} {err!r}, status {self.ran.returncode}")
 
     def kill(self):
         self.ran.kill()

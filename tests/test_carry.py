@@ -13,7 +13,7 @@ import time
 import reference
 from known import MOST, cells_in, histories_of
 from serving import PAYMENT, TOP, Room, Service, WatchedService, end_of, files, owed, stored, wait_until
-from test_stores import SCHEMA, byte, form, numbers, values, word
+from test_stores import SCHEMA, byte, encoding, numbers, values, word
 import lynx
 
 # Two servers with accounts on both, and how the same bank may look a year later.
@@ -216,7 +216,7 @@ def big_bank(room, accounts):
     for at in range(accounts // 4):
         args = [it for account in range(4 * at, 4 * at + 4) for it in (account, account + 1)]
         request = word(1) + word(at) + byte(0) + values(args)
-        entries.append((at, form(0x22, request + word(0) + byte(0) + word(at) + numbers([(0, at)]) + word(at + 1) + values([]))))
+        entries.append((at, encoding(0x22, request + word(0) + byte(0) + word(at) + numbers([(0, at)]) + word(at + 1) + values([]))))
     base.executemany("INSERT INTO entry VALUES(?, ?)", entries)
     base.executemany("INSERT INTO cell VALUES(0, ?, ?)", ((word(account), word(account + 1)) for account in range(accounts)))
     base.commit()

@@ -66,20 +66,20 @@ def numbers(members):
     return byte(len(members)) + b"".join(byte(server) + word(it) for server, it in members)
 
 
-def form(tag, body):
+def encoding(tag, body):
     return byte(tag) + len(body).to_bytes(4, "big") + body
 
 
 def begun(number, program, argument, index, drawn, stamp, results):
     """The entry of a begin at server 0, of client 1, that was told nothing."""
     request = word(1) + word(number) + byte(program) + values([argument])
-    return form(0x22, request + word(0) + byte(0) + word(index) + numbers(drawn) + word(stamp) + values(results))
+    return encoding(0x22, request + word(0) + byte(0) + word(index) + numbers(drawn) + word(stamp) + values(results))
 
 
 def arrived(index, sent, argument, drawn, found, stamp):
     """The entry of hop 1 of a payment that began at server 0."""
     message = byte(0) + word(index) + byte(1) + byte(1) + word(sent) + values([argument]) + numbers(drawn)
-    return form(0x24, message + byte(1) + values([found]) + word(stamp) + values([]))
+    return encoding(0x24, message + byte(1) + values([found]) + word(stamp) + values([]))
 
 
 SEEDED = begun(1, 0, 100, 0, [(0, 0)], 1, [])
@@ -234,7 +234,7 @@ DAMAGES = [
     ("UPDATE entry SET place = 2 WHERE place = 1", "damaged"),
     ("UPDATE entry SET place = -1 WHERE place = 0", "damaged"),
     ("UPDATE entry SET body = x'' WHERE place = 1", "damaged"),
-    # A byte behind a form, the beginning of a form, and the form of a request for nothing more, which is no entry.
+    # A byte behind an encoding, the beginning of one, and the encoding of a request for nothing more, which is no entry.
     (f"UPDATE entry SET body = x'{REFUSED_BODY}00' WHERE place = 1", "damaged"),
     ("UPDATE entry SET body = x'230000002B0000' WHERE place = 1", "damaged"),
     ("UPDATE entry SET body = x'0300000000' WHERE place = 1", "damaged"),

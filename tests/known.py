@@ -102,8 +102,8 @@ def settled(service):
 
 # ---- what stands in stores, by docs/FORMATS.md
 
-class Form:
-    """The body of a byte form, read from the left."""
+class Encoding:
+    """The body of an encoding, read from the left."""
 
     def __init__(self, data):
         self.data, self.at = data, 0
@@ -130,20 +130,20 @@ class Form:
 
 
 def entry_of(chains, server, data):
-    """The entry of a server that has this form, with the fields that tests/reference.py gives one."""
-    names, form = [*chains.programs], Form(data[5:])
+    """The entry of a server that has this encoding, with the fields that tests/reference.py gives one."""
+    names, encoding = [*chains.programs], Encoding(data[5:])
     if data[0] == 0x24:
-        entry = {"kind": "hop", "chain": form.chain(), "program": names[form.byte()], "hop": form.byte(), "sent": form.word(),
-                 "args": form.values(), "numbers": form.numbers(), "earlier": [form.values() for _ in range(form.byte())]}
-        entry.update(stamp=form.word(), results=form.values())
+        entry = {"kind": "hop", "chain": encoding.chain(), "program": names[encoding.byte()], "hop": encoding.byte(), "sent": encoding.word(),
+                 "args": encoding.values(), "numbers": encoding.numbers(), "earlier": [encoding.values() for _ in range(encoding.byte())]}
+        entry.update(stamp=encoding.word(), results=encoding.values())
     else:
-        entry = {"client": (form.word(), form.word()), "program": names[form.byte()], "hop": 0, "args": form.values(),
-                 "earlier": [], "seen": form.word()}
+        entry = {"client": (encoding.word(), encoding.word()), "program": names[encoding.byte()], "hop": 0, "args": encoding.values(),
+                 "earlier": [], "seen": encoding.word()}
         if data[0] == 0x23:
-            entry.update(kind="refused", need=form.byte(), stamp=form.word())
+            entry.update(kind="refused", need=encoding.byte(), stamp=encoding.word())
         else:
-            entry.update(kind="begun", chain=form.chain(), numbers=form.numbers(), stamp=form.word(), results=form.values())
-    if form.at != len(form.data):
+            entry.update(kind="begun", chain=encoding.chain(), numbers=encoding.numbers(), stamp=encoding.word(), results=encoding.values())
+    if encoding.at != len(encoding.data):
         raise ValueError(f"no entry: {data.hex()}")
     return dict(entry, server=server)
 

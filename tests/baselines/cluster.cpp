@@ -48,8 +48,8 @@ struct Note { Byte server; optional<Request> request; Byte hop; Answer answer; }
 struct Session { Word number; Word greatest = 0; vector<Note> notes{}; };
 
 // What servers send each other: a message, or that this hop of a chain was done.
-struct Receipt { Chain chain; Byte hop; };
-struct Parcel { Byte from; std::variant<Message, Receipt> what; };
+struct Acknowledgement { Chain chain; Byte hop; };
+struct Parcel { Byte from; std::variant<Message, Acknowledgement> what; };
 
 // A server with its inbox. Its lock is for it and its marks.
 struct Post {
@@ -128,24 +128,24 @@ struct Cluster {
 
     void work(Byte number) {
         Post &post = *posts[number];
-        vector<pair<Byte, Receipt>> receipts;
+        vector<pair<Byte, Acknowledgement>> acknowledgements;
         for (auto inbox = post.take(); !inbox.empty(); inbox = post.take()) {
             std::unique_lock has_server(post.lock);
             for (auto &[from, what] : inbox)
                 if (auto *message = std::get_if<Message>(&what)) {
-                    receipts.emplace_back(from, Receipt{message->chain, message->hop});
+                    acknowledgements.emplace_back(from, Acknowledgement{message->chain, message->hop});
                     Came came = post.server.deliver(std::move(*message)).came;
                     need(came == Came::done || came == Came::repeat, "not delivered");
                     if (came == Came::done) send_last(post);
                 } else {
-                    const auto &[chain, hop] = std::get<Receipt>(what);
+                    const auto &[chain, hop] = std::get<Acknowledgement>(what);
                     const Entry *sender = post.server.entry_of(chain, Byte(hop - 1));
                     need(sender, "not sent");
                     post.acknowledged[sender - post.server.history.data()] = true;
                 }
             has_server.unlock();
-            for (const auto &[to, receipt] : receipts) posts[to]->put({number, receipt});
-            receipts.clear();
+            for (const auto &[to, acknowledgement] : acknowledgements) posts[to]->put({number, acknowledgement});
+            acknowledgements.clear();
         }
     }
 

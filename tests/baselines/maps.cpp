@@ -6,8 +6,8 @@
        open COUNT            they begin, and then the first server is opened again over what it kept
        weave SHAPE COUNT     chains run until there are so many entries, and copies of the histories are woven to a world: 2 or
                              16 servers in a ring pay to the next in turn, or the shape is adds, alternating, cells or cycle
-       encode COUNT          the form of a message is written until so many bytes are
-       feed PIECE COUNT      about so many bytes of forms are read, in pieces of that size
+       encode COUNT          the encoding of a message is written until so many bytes are
+       feed PIECE COUNT      about so many bytes of encodings are read, in pieces of that size
 
    It prints what lynx_bench prints: how much was done. tests/bench runs the two in turn.
 
@@ -87,8 +87,8 @@ static Word weave_all(const std::string &shape, Word entries) {
     return weave(set, std::move(histories)).order.size();
 }
 
-// The forms of a payment of 30: the entry of its begin, its message, and the entry of its second hop.
-static vector<Entry> forms() {
+// The encodings of a payment of 30: the entry of its begin, its message, and the entry of its second hop.
+static vector<Entry> encodings() {
     Entry begun(BEGUN);
     begun.client = 1, begun.number = 8, begun.args = {30}, begun.chain = {0, 7}, begun.numbers = {{0, 7}, {1, 5}};
     begun.results = {100};
@@ -97,7 +97,7 @@ static vector<Entry> forms() {
 }
 
 static Word encode_all(Word count) {
-    Entry sent = forms()[1];
+    Entry sent = encodings()[1];
     vector<Byte> out;
     Word items = 0;
     for (Word bytes = 0; bytes < count; bytes += out.size(), items++) {
@@ -127,7 +127,7 @@ struct Feed {
 static Word feed_all(size_t piece, Word count) {
     vector<Byte> stream;
     for (size_t round = 0; round < piece; round++)
-        for (const Entry &it : forms()) append(stream, it);
+        for (const Entry &it : encodings()) append(stream, it);
     Feed feed;
     Word items = 0;
     for (Word pass = 0; pass < count / stream.size(); pass++)

@@ -34,33 +34,33 @@ static uint64_t number_at(const unsigned char *bytes) {
 }
 
 /* The entry of a begin, whose request is these bytes. */
-static void begun_form(Form *form, const unsigned char *request) {
-    begin_form(form, 0x22);
+static void begun_encoding(Encoding *encoding, const unsigned char *request) {
+    begin_encoding(encoding, 0x22);
     for (int i = 5; i < REQUEST; i++)
-        put_byte(form, request[i]);
-    put_number(form, 0);
-    put_byte(form, 0);
-    put_number(form, entries);
-    put_byte(form, 1);
-    put_byte(form, 0);
-    put_number(form, entries);
-    put_number(form, entries + 1);
-    put_byte(form, 0);
-    end_form(form);
+        put_byte(encoding, request[i]);
+    put_number(encoding, 0);
+    put_byte(encoding, 0);
+    put_number(encoding, entries);
+    put_byte(encoding, 1);
+    put_byte(encoding, 0);
+    put_number(encoding, entries);
+    put_number(encoding, entries + 1);
+    put_byte(encoding, 0);
+    end_encoding(encoding);
 }
 
 /* The answer to it: chain 0:entries began with stamp entries + 1. */
 static void put_answer(Line *line) {
-    Form form;
-    begin_form(&form, 0x11);
-    put_byte(&form, 0);
-    put_byte(&form, 0);
-    put_number(&form, entries);
-    put_number(&form, entries + 1);
-    put_byte(&form, 0);
-    put_byte(&form, 0);
-    end_form(&form);
-    memcpy(line->out + line->answered, form.bytes, ANSWER);
+    Encoding encoding;
+    begin_encoding(&encoding, 0x11);
+    put_byte(&encoding, 0);
+    put_byte(&encoding, 0);
+    put_number(&encoding, entries);
+    put_number(&encoding, entries + 1);
+    put_byte(&encoding, 0);
+    put_byte(&encoding, 0);
+    end_encoding(&encoding);
+    memcpy(line->out + line->answered, encoding.bytes, ANSWER);
     line->answered += ANSWER;
 }
 
@@ -78,8 +78,8 @@ static void close_transaction(void) {
 
 /* Does what a request asks. */
 static void take(Line *line, const unsigned char *request) {
-    Form body;
-    begun_form(&body, request);
+    Encoding body;
+    begun_encoding(&body, request);
     total += number_at(request + REQUEST - 8);
     open_transaction();
     put_row(&store, entries, &body, 0, total);

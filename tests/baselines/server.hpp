@@ -1,7 +1,7 @@
 /* What the C++ baselines of lynx_bench share: a server that does what one of Lynx does, with std::map and std::vector.
 
    It has a history of entries, its cells, an index of requests and one of later hops, the place of each chain's begin,
-   counters, turns, and a keeper with the form of each entry and with cells of its own. A begin and a delivery are asked what
+   counters, turns, and a keeper with the encoding of each entry and with cells of its own. A begin and a delivery are asked what
    docs/PROOF.md says (request fault, answer, delivery); opening and weaving do all entries once more, and compare. Sets are made by code,
    with one table and without ranges. No message is held: one that comes early is dropped. Want of memory, and whatever isn't
    as it should be, is an exception. */
@@ -60,7 +60,7 @@ struct Message {
     Chain chain{}; ProgramId program; Byte hop = 0; Stamp sent; Args args; Numbers numbers; List<Results, MAX_HOPS> earlier;
     FIELDS(chain, program, hop, sent, args, numbers, earlier)
 };
-// The tag of an entry says which of its fields it has: those of its form (docs/FORMATS.md). That of a message has no others.
+// The tag of an entry says which of its fields it has: those of its encoding (docs/FORMATS.md). That of a message has no others.
 enum Tag : Byte { SENT = 0x21, BEGUN, REFUSED, RAN };
 struct Entry : Message {
     Byte tag; Below<Byte, MAX_ACTIONS> need; Word client = 0, number = 0; Stamp seen, stamp; Results results;
@@ -68,8 +68,8 @@ struct Entry : Message {
     FIELDS(tag, chain, program, hop, sent, args, numbers, earlier, need, client, number, seen, stamp, results)
 };
 
-template <class Form, class It> void go_over(Form &form, It &it) {
-    auto fields = [&](auto &...each) { (form.field(each), ...); };
+template <class Encoding, class It> void go_over(Encoding &encoding, It &it) {
+    auto fields = [&](auto &...each) { (encoding.field(each), ...); };
     if (it.tag == BEGUN || it.tag == REFUSED) fields(it.client, it.number, it.program, it.args, it.seen);
     if (it.tag == SENT || it.tag == RAN) fields(it.chain, it.program, it.hop, it.sent, it.args, it.numbers, it.earlier);
     if (it.tag == BEGUN) fields(it.chain, it.numbers);
@@ -115,17 +115,17 @@ struct Reader {
     }
 };
 
-// Adds the form of an entry or a message.
+// Adds the encoding of an entry or a message.
 inline void append(vector<Byte> &out, const Entry &entry) {
-    std::array<Byte, MAX_BODY_BYTES + 5> form;
-    Writer writer{form.data() + 5};
+    std::array<Byte, MAX_BODY_BYTES + 5> encoding;
+    Writer writer{encoding.data() + 5};
     go_over(writer, entry);
-    size_t size = writer.at - form.data() - 5;
-    form[0] = entry.tag, form[1] = form[2] = 0, form[3] = Byte(size >> 8), form[4] = Byte(size);
-    out.insert(out.end(), form.data(), writer.at);
+    size_t size = writer.at - encoding.data() - 5;
+    encoding[0] = entry.tag, encoding[1] = encoding[2] = 0, encoding[3] = Byte(size >> 8), encoding[4] = Byte(size);
+    out.insert(out.end(), encoding.data(), writer.at);
 }
 
-// What stands first, and the size of its form; none where more bytes have to come.
+// What stands first, and the size of its encoding; none where more bytes have to come.
 inline optional<pair<Entry, size_t>> front(const Byte *bytes, size_t left) {
     need(left == 0 || (bytes[0] >= SENT && bytes[0] <= RAN), "bad-tag");
     if (left < 5) return {};
@@ -224,7 +224,7 @@ enum class Told : Byte { begun, refused, clash, unknown_program, wrong_origin, a
 struct Answer { Told told; Chain chain{}; Stamp stamp{}; Byte need = 0; Results results{}; bool again = false; };
 enum class Came : Byte { done, repeat, dropped, malformed, full };
 struct Delivered { Came came; Stamp stamp{}; Results results{}; optional<Message> next{}; };
-struct Keeper { vector<Byte> forms; Cells cells; };
+struct Keeper { vector<Byte> encodings; Cells cells; };
 
 // The message that an entry sends, if it sends one.
 inline optional<Message> next_of(const Set &set, const Entry &entry) {
@@ -260,7 +260,7 @@ struct Server {
         return found != requests.end() ? &history[found->second] : nullptr;
     }
     void keep(Entry entry, const Changes &changes) {
-        if (keeper) append(keeper->forms, entry), apply(keeper->cells, changes);
+        if (keeper) append(keeper->encodings, entry), apply(keeper->cells, changes);
         apply(cells, changes);
         history.push_back(std::move(entry));
     }
@@ -355,8 +355,8 @@ inline Server replayed(Server server, const vector<Entry> &entries) {
 // A server over all that a keeper keeps.
 inline Server open(const Set &set, Byte number, Keeper keeper) {
     vector<Entry> entries;
-    for (size_t at = 0; at < keeper.forms.size();) {
-        auto found = front(keeper.forms.data() + at, keeper.forms.size() - at);
+    for (size_t at = 0; at < keeper.encodings.size();) {
+        auto found = front(keeper.encodings.data() + at, keeper.encodings.size() - at);
         need(found && found->first.tag != SENT, "damaged");
         entries.push_back(std::move(found->first)), at += found->second;
     }

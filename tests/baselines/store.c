@@ -5,13 +5,13 @@
    cc -O2 -o store tests/baselines/store.c -lsqlite3 */
 #include "store.h"
 
-static void put_value(Form *form, uint64_t value) {
-    put_byte(form, 1);
-    put_number(form, value);
+static void put_value(Encoding *encoding, uint64_t value) {
+    put_byte(encoding, 1);
+    put_number(encoding, value);
 }
 
 /* An entry and a cell, in one transaction. */
-static void commit(Store *store, uint64_t place, const Form *body, uint64_t key, uint64_t value) {
+static void commit(Store *store, uint64_t place, const Encoding *body, uint64_t key, uint64_t value) {
     step(store, store->begin);
     put_row(store, place, body, key, value);
     step(store, store->commit);
@@ -25,63 +25,63 @@ static void end(Store *store) {
 }
 
 /* The entry of the seed. */
-static void seed_form(Form *form, uint64_t amount) {
-    begin_form(form, 0x22);
-    put_number(form, 1);
-    put_number(form, UINT64_MAX);
-    put_byte(form, 0);
-    put_value(form, amount);
-    put_number(form, 0);
-    put_byte(form, 0);
-    put_number(form, 0);
-    put_byte(form, 1);
-    put_byte(form, 0);
-    put_number(form, 0);
-    put_number(form, 1);
-    put_byte(form, 0);
-    end_form(form);
+static void seed_encoding(Encoding *encoding, uint64_t amount) {
+    begin_encoding(encoding, 0x22);
+    put_number(encoding, 1);
+    put_number(encoding, UINT64_MAX);
+    put_byte(encoding, 0);
+    put_value(encoding, amount);
+    put_number(encoding, 0);
+    put_byte(encoding, 0);
+    put_number(encoding, 0);
+    put_byte(encoding, 1);
+    put_byte(encoding, 0);
+    put_number(encoding, 0);
+    put_number(encoding, 1);
+    put_byte(encoding, 0);
+    end_encoding(encoding);
 }
 
 /* The numbers of a payment, of which so many were before. */
-static void put_numbers(Form *form, uint64_t before) {
-    put_byte(form, 2);
-    put_byte(form, 0);
-    put_number(form, before + 1);
-    put_byte(form, 1);
-    put_number(form, before);
+static void put_numbers(Encoding *encoding, uint64_t before) {
+    put_byte(encoding, 2);
+    put_byte(encoding, 0);
+    put_number(encoding, before + 1);
+    put_byte(encoding, 1);
+    put_number(encoding, before);
 }
 
 /* The entry of a payment where it begins. */
-static void begun_form(Form *form, uint64_t before, uint64_t found) {
-    begin_form(form, 0x22);
-    put_number(form, 1);
-    put_number(form, before);
-    put_byte(form, 1);
-    put_value(form, 1);
-    put_number(form, 0);
-    put_byte(form, 0);
-    put_number(form, before + 1);
-    put_numbers(form, before);
-    put_number(form, before + 2);
-    put_value(form, found);
-    end_form(form);
+static void begun_encoding(Encoding *encoding, uint64_t before, uint64_t found) {
+    begin_encoding(encoding, 0x22);
+    put_number(encoding, 1);
+    put_number(encoding, before);
+    put_byte(encoding, 1);
+    put_value(encoding, 1);
+    put_number(encoding, 0);
+    put_byte(encoding, 0);
+    put_number(encoding, before + 1);
+    put_numbers(encoding, before);
+    put_number(encoding, before + 2);
+    put_value(encoding, found);
+    end_encoding(encoding);
 }
 
 /* The entry of a payment where it arrives. */
-static void hop_form(Form *form, uint64_t before, uint64_t found) {
-    begin_form(form, 0x24);
-    put_byte(form, 0);
-    put_number(form, before + 1);
-    put_byte(form, 1);
-    put_byte(form, 1);
-    put_number(form, before + 2);
-    put_value(form, 1);
-    put_numbers(form, before);
-    put_byte(form, 1);
-    put_value(form, found);
-    put_number(form, before + 3);
-    put_byte(form, 0);
-    end_form(form);
+static void hop_encoding(Encoding *encoding, uint64_t before, uint64_t found) {
+    begin_encoding(encoding, 0x24);
+    put_byte(encoding, 0);
+    put_number(encoding, before + 1);
+    put_byte(encoding, 1);
+    put_byte(encoding, 1);
+    put_number(encoding, before + 2);
+    put_value(encoding, 1);
+    put_numbers(encoding, before);
+    put_byte(encoding, 1);
+    put_value(encoding, found);
+    put_number(encoding, before + 3);
+    put_byte(encoding, 0);
+    end_encoding(encoding);
 }
 
 int main(int count, char **words) {
@@ -91,16 +91,16 @@ int main(int count, char **words) {
     }
     uint64_t payments = strtoull(words[2], NULL, 10), amount = payments + 1;
     Store payer, payee;
-    Form form;
+    Encoding encoding;
     make(&payer, words[1], 0);
     make(&payee, words[1], 1);
-    seed_form(&form, amount);
-    commit(&payer, 0, &form, 0, amount);
+    seed_encoding(&encoding, amount);
+    commit(&payer, 0, &encoding, 0, amount);
     for (uint64_t before = 0; before < payments; before++) {
-        begun_form(&form, before, amount - before);
-        commit(&payer, before + 1, &form, 0, amount - before - 1);
-        hop_form(&form, before, amount - before);
-        commit(&payee, before, &form, 1000, before + 1);
+        begun_encoding(&encoding, before, amount - before);
+        commit(&payer, before + 1, &encoding, 0, amount - before - 1);
+        hop_encoding(&encoding, before, amount - before);
+        commit(&payee, before, &encoding, 1000, before + 1);
     }
     end(&payer);
     end(&payee);

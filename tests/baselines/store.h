@@ -10,11 +10,11 @@ static const char SET[] =
     "lynx 1\nservers 2\ntable acct\nshard 0 999 0\nshard 1000 18446744073709551615 1\nprogram seed n\nhop 0\nadd acct 0 n\n"
     "end\nprogram pay n\nhop 0\nget x acct 0\nneed x >= n\nsub acct 0 n\nhop 1\nadd acct 1000 n\nend\n";
 
-/* The bytes of a form. */
+/* The bytes of a encoding. */
 typedef struct {
     unsigned char bytes[128];
     int length;
-} Form;
+} Encoding;
 
 /* The database of a server, and its statements. */
 typedef struct {
@@ -29,25 +29,25 @@ static void need(int is_well, sqlite3 *db) {
     }
 }
 
-static void put_byte(Form *form, int byte) {
-    form->bytes[form->length++] = (unsigned char)byte;
+static void put_byte(Encoding *encoding, int byte) {
+    encoding->bytes[encoding->length++] = (unsigned char)byte;
 }
 
-static void put_number(Form *form, uint64_t number) {
+static void put_number(Encoding *encoding, uint64_t number) {
     for (int shift = 56; shift >= 0; shift -= 8)
-        put_byte(form, (int)(number >> shift & 0xff));
+        put_byte(encoding, (int)(number >> shift & 0xff));
 }
 
-static void begin_form(Form *form, int tag) {
-    form->length = 0;
-    put_byte(form, tag);
+static void begin_encoding(Encoding *encoding, int tag) {
+    encoding->length = 0;
+    put_byte(encoding, tag);
     for (int i = 0; i < 4; i++)
-        put_byte(form, 0);
+        put_byte(encoding, 0);
 }
 
 /* The length of the body, which is below 128. */
-static void end_form(Form *form) {
-    form->bytes[4] = (unsigned char)(form->length - 5);
+static void end_encoding(Encoding *encoding) {
+    encoding->bytes[4] = (unsigned char)(encoding->length - 5);
 }
 
 static void step(Store *store, sqlite3_stmt *statement) {
@@ -56,8 +56,8 @@ static void step(Store *store, sqlite3_stmt *statement) {
 }
 
 /* An entry and a cell. */
-static void put_row(Store *store, uint64_t place, const Form *body, uint64_t key, uint64_t value) {
-    Form k = {.length = 0}, v = {.length = 0};
+static void put_row(Store *store, uint64_t place, const Encoding *body, uint64_t key, uint64_t value) {
+    Encoding k = {.length = 0}, v = {.length = 0};
     put_number(&k, key);
     put_number(&v, value);
     sqlite3_bind_int64(store->insert, 1, (sqlite3_int64)place);

@@ -9,7 +9,7 @@ ghost use Rattle.lynx_carry.specs.Naming.{by_name};
 
 use crate::fault::CarryFault;
 use crate::naming::{NamedCell, numbered_cells};
-use lynx_names::{Memory, TableId};
+use lynx_names::{Memory, TableId, learn};
 use lynx_report::owed_hops;
 use lynx_set::ChainSet;
 use lynx_world::World;
@@ -71,6 +71,6 @@ pub(crate) fn check(alloc: Global, world: &World, cells: &[NamedCell]) -> Result
     }
     check_cells(alloc, world, cells)?;
     // The list of a world is legal for its set.
-    let _ = world.set();
+    learn(world.set());
     Ok(())
 }

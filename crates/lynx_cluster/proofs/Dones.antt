@@ -25,7 +25,7 @@ use Rattle.lynx_server.specs.declared.server.Woken.{Woken}
 use Rattle.lynx_server.specs.Owed.{IsSender}
 use Rattle.lynx_server.specs.Serving.{Delivers, DeliversWoken, Serving, Wakes, delivery_of, told_stopped, woken_of}
 use Rattle.lynx_set.specs.Set.{Set}
-use Rattle.lynx_worker.specs.declared.steps.Receipt.{Receipt}
+use Rattle.lynx_worker.specs.declared.steps.Acknowledgement.{Acknowledgement}
 use Rattle.lynx_cluster.specs.inner.Serving.{AreDone, NamesSender, NotesDone, TellsDone, was_done}
 
 -- ---- entries stay
@@ -66,17 +66,17 @@ grows_by old new (Some entry) is = record { more = entry ∷ []; is = is }
 stands_on : (old new : History) (chain : ChainId) (hop : ℕ) → Grows old new → IsSome (act_of chain hop old) → IsSome (act_of chain hop new)
 stands_on old new chain hop grows some = subst (λ (h : History). IsSome (act_of chain hop h)) (sym grows.is) (found_on (is_act chain hop) old grows.more some)
 
-pub still_done : (old new : History) (receipts : List Receipt) → Grows old new → AreDone old receipts → AreDone new receipts
+pub still_done : (old new : History) (acknowledgements : List Acknowledgement) → Grows old new → AreDone old acknowledgements → AreDone new acknowledgements
 still_done old new [] grows done = tt
-still_done old new (receipt ∷ receipts) grows done = (stands_on old new receipt.chain receipt.hop grows done.0, still_done old new receipts grows done.1)
+still_done old new (acknowledgement ∷ acknowledgements) grows done = (stands_on old new acknowledgement.chain acknowledgement.hop grows done.0, still_done old new acknowledgements grows done.1)
 
-one_more : (history : History) (receipts : List Receipt) (receipt : Receipt) → IsSome (act_of receipt.chain receipt.hop history) → AreDone history receipts →
-    AreDone history (receipts ++ receipt ∷ [])
-one_more history [] receipt there done = (there, tt)
-one_more history (first ∷ receipts) receipt there done = (done.0, one_more history receipts receipt there done.1)
+one_more : (history : History) (acknowledgements : List Acknowledgement) (acknowledgement : Acknowledgement) → IsSome (act_of acknowledgement.chain acknowledgement.hop history) → AreDone history acknowledgements →
+    AreDone history (acknowledgements ++ acknowledgement ∷ [])
+one_more history [] acknowledgement there done = (there, tt)
+one_more history (first ∷ acknowledgements) acknowledgement there done = (done.0, one_more history acknowledgements acknowledgement there done.1)
 
--- a receipt that was noted for who sends the hop is for its sender
-pub names_sender : {K : Type 0} (serving : Serving K) (to : Option ℕ) (chain : ChainId) (hop : ℕ) (given : Delivered) (old new : List Receipt) →
+-- an acknowledgement that was noted for who sends the hop is for its sender
+pub names_sender : {K : Type 0} (serving : Serving K) (to : Option ℕ) (chain : ChainId) (hop : ℕ) (given : Delivered) (old new : List Acknowledgement) →
     NotesDone to chain hop given old new → IfSome to (IsSender serving.set hop (act_of chain hop serving.history)) → NamesSender serving old new
 names_sender serving to chain hop given old new (inl same) is = inl same
 names_sender serving to chain hop given old new (inr noted) is = inr (
@@ -235,7 +235,7 @@ sleeping_stays {K} terms old new stopped wakes = by old.is_stopped refl
 
 -- ---- what is noted of it
 
-pub notes_done : (old new : History) (told telling : List Receipt) (to : Option ℕ) (chain : ChainId) (hop : ℕ) (given : Delivered) → Leaves old chain hop given new →
+pub notes_done : (old new : History) (told telling : List Acknowledgement) (to : Option ℕ) (chain : ChainId) (hop : ℕ) (given : Delivered) → Leaves old chain hop given new →
     NotesDone to chain hop given told telling → TellsDone old told new telling
 notes_done old new told telling to chain hop given leaves (inl same) done = subst (AreDone new) (sym same) (still_done old new told leaves.grows done)
 notes_done old new told telling to chain hop given leaves (inr more) done =
@@ -243,8 +243,8 @@ notes_done old new told telling to chain hop given leaves (inr more) done =
     (one_more new told (record { to = more.1.0; chain = chain; hop = hop }) (leaves.there more.0) (still_done old new told leaves.grows done))
 
 -- what is told once it is settled is of what is settled
-pub settled_done : (is_settled : Bool) (history front : History) (before after : List Receipt) → AreDone history before → (is_settled ≡ true → front ≡ history) →
+pub settled_done : (is_settled : Bool) (history front : History) (before after : List Acknowledgement) → AreDone history before → (is_settled ≡ true → front ≡ history) →
     (is_settled ≡ true → after ≡ before) → (is_settled ≡ false → after ≡ []) → AreDone front after
 settled_done true history front before after done whole same none =
-    subst (λ (h : History). AreDone h after) (sym (whole refl)) (subst (λ (receipts : List Receipt). AreDone history receipts) (sym (same refl)) done)
-settled_done false history front before after done whole same none = subst (λ (receipts : List Receipt). AreDone front receipts) (sym (none refl)) tt
+    subst (λ (h : History). AreDone h after) (sym (whole refl)) (subst (λ (acknowledgements : List Acknowledgement). AreDone history acknowledgements) (sym (same refl)) done)
+settled_done false history front before after done whole same none = subst (λ (acknowledgements : List Acknowledgement). AreDone front acknowledgements) (sym (none refl)) tt

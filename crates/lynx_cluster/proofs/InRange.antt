@@ -1,4 +1,4 @@
--- What a server answers, and what a look finds at it, has a byte form.
+-- What a server answers, and what a look finds at it, has an encoding.
 use Rattle.std.proofs.Common.{◌≡◌, ℕ, nat_eq, Bool, true, false, not, if◌then◌else◌, length, [], ◌∷◌, ◌++◌, Option, Some, None, Result, Ok, Err, IfOk, refl, subst, sym, inl, inr}
 use Rattle.lynx_names.specs.declared.chain.ChainId.{ChainId}
 use Rattle.lynx_set.specs.Set.{Set}

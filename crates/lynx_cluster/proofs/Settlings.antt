@@ -11,7 +11,7 @@ use Rattle.lynx_server.specs.Acts.{act_of}
 use Rattle.lynx_server.specs.Owed.{Acknowledges, Notes, is_acknowledged}
 use Rattle.lynx_server.specs.Serving.{Serving}
 use Rattle.lynx_weave.specs.Servers.{histories_of}
-use Rattle.lynx_worker.specs.declared.steps.Receipt.{Receipt}
+use Rattle.lynx_worker.specs.declared.steps.Acknowledgement.{Acknowledgement}
 use Rattle.lynx_cluster.specs.inner.Serving.{AreDone}
 use Rattle.lynx_cluster.specs.Starting.{start_of}
 use Rattle.lynx_cluster.specs.inner.Settling.{AreSettled, IsDoneIn, IsSettled, SendsDone}
@@ -134,20 +134,20 @@ module _ {K : Type 0} where
       ap (λ (x : Serving K). Some x.history) same
   histories_get (s ∷ servers) (suc i) here there = histories_get servers i here there
 
-done_get : (history : History) (receipts : List Receipt) (i : ℕ) (receipt : Receipt) → AreDone history receipts → slice_get receipts i ≡ Some receipt →
-    IsSome (act_of receipt.chain receipt.hop history)
-done_get history [] i receipt all there = cc
-done_get history (first ∷ receipts) zero receipt all there =
-    let same : first ≡ receipt = cc in
-    subst (λ (r : Receipt). IsSome (act_of r.chain r.hop history)) same all.0
-done_get history (first ∷ receipts) (suc i) receipt all there = done_get history receipts i receipt all.1 there
+done_get : (history : History) (acknowledgements : List Acknowledgement) (i : ℕ) (acknowledgement : Acknowledgement) → AreDone history acknowledgements → slice_get acknowledgements i ≡ Some acknowledgement →
+    IsSome (act_of acknowledgement.chain acknowledgement.hop history)
+done_get history [] i acknowledgement all there = cc
+done_get history (first ∷ acknowledgements) zero acknowledgement all there =
+    let same : first ≡ acknowledgement = cc in
+    subst (λ (r : Acknowledgement). IsSome (act_of r.chain r.hop history)) same all.0
+done_get history (first ∷ acknowledgements) (suc i) acknowledgement all there = done_get history acknowledgements i acknowledgement all.1 there
 
--- what a receipt of one server tells is done
-pub receipt_done : {K : Type 0} (servers : List (Serving K)) (receiver : ℕ) (here : Serving K) (receipts : List Receipt) (i : ℕ) (receipt : Receipt) →
-    slice_get servers receiver ≡ Some here → AreDone here.history receipts → slice_get receipts i ≡ Some receipt →
-    IsDoneIn (histories_of servers) receipt.chain receipt.hop
-receipt_done servers receiver here receipts i receipt at all there =
-    record { server = receiver; history = here.history; there = histories_get servers receiver here at; done = done_get here.history receipts i receipt all there }
+-- what an acknowledgement of one server tells is done
+pub acknowledgement_done : {K : Type 0} (servers : List (Serving K)) (receiver : ℕ) (here : Serving K) (acknowledgements : List Acknowledgement) (i : ℕ) (acknowledgement : Acknowledgement) →
+    slice_get servers receiver ≡ Some here → AreDone here.history acknowledgements → slice_get acknowledgements i ≡ Some acknowledgement →
+    IsDoneIn (histories_of servers) acknowledgement.chain acknowledgement.hop
+acknowledgement_done servers receiver here acknowledgements i acknowledgement at all there =
+    record { server = receiver; history = here.history; there = histories_get servers receiver here at; done = done_get here.history acknowledgements i acknowledgement all there }
 
 -- what comes back of a vector's slice
 module _ {K : Type 0} where

@@ -10,7 +10,7 @@ use Rattle.lynx_set.specs.Set.{Set}
 use Rattle.lynx_weave.specs.Told.{greatest_told}
 
 -- A begin by a session: just the answer is told to the session, a fresh stamp is above all that
--- it was told before, and the answer fits the request and its byte form.
+-- it was told before, and the answer fits the request and its encoding.
 pub record AnswersBegin (set : Set) (old : SessionState) (request : Request) (answer : Answer)
     (new : SessionState) : Type 0 where
   pub told : new ≡ record old { told = old.told ++ told_by (home_of set request) request answer }

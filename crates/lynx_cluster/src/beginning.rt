@@ -11,7 +11,7 @@ ghost use Rattle.lynx_weave.specs.Told.{stamp_answered};
 
 use lynx_entry::{Answer, AnswerRoom, Request};
 use lynx_keep::BatchKeeper;
-use lynx_names::{Memory, ServerId, Stamp, TryCopy};
+use lynx_names::{Memory, ServerId, Stamp, TryCopy, learn};
 use lynx_resting::Resting;
 use lynx_weave::ToldItem;
 use std::alloc::Global;
@@ -68,7 +68,7 @@ fn try_begin_at<K: BatchKeeper>(
     ensures same { OnErr result (state.new ≡ state.old) }
 {
     // By its type the history is lawful.
-    let _ = state.reached();
+    learn(state.reached());
     let copy = request.copy(alloc)?;
     Ok(state.begin(alloc, copy, seen))
 }

@@ -5,7 +5,7 @@ ghost use Rattle.lynx_cluster.specs.Closing.{IsClosed, IsUnclosed};
 ghost use Rattle.lynx_cluster.specs.inner.Closing.{IsFirstUncounted};
 
 use crate::absent::first_absent;
-use crate::cluster::{Cluster, Front};
+use crate::cluster::{Cluster, Frontend};
 use crate::fault::CloseFault;
 use crate::gate::Gate;
 use crate::session::Session;
@@ -51,11 +51,11 @@ impl<K: BatchKeeper + Drop, G: Gate + Drop> Cluster<K, G> {
         ensures { self.new ≡ self.old }
     {
         let workers = mem::replace(&mut self.workers, Vec::new(alloc));
-        stop_all(rt, &self.stop, &self.front.bells, workers);
+        stop_all(rt, &self.stop, &self.frontend.signals, workers);
     }
 
     /// Stops the workers and waits for each to end, then checks all that the sessions were told:
-    /// [`Front::close`]. Chains that haven't ended stay as they are.
+    /// [`Frontend::close`]. Chains that haven't ended stay as they are.
     pub fn close<R: Threads + Wait>(
         self,
         rt: &R,
@@ -67,16 +67,16 @@ impl<K: BatchKeeper + Drop, G: Gate + Drop> Cluster<K, G> {
         ensures fault { IfErr result (IsUnclosed K.terms self sessions.items) }
     {
         let Cluster {
-            front,
+            frontend,
             stop,
             workers,
         } = self;
-        stop_all(rt, &stop, &front.bells, workers);
-        front.close(alloc, sessions)
+        stop_all(rt, &stop, &frontend.signals, workers);
+        frontend.close(alloc, sessions)
     }
 }
 
-impl<K: BatchKeeper + Drop, G: Gate + Drop> Front<K, G> {
+impl<K: BatchKeeper + Drop, G: Gate + Drop> Frontend<K, G> {
     /// Takes the states out of their locks, weaves what the servers did to a world, and checks what
     /// the sessions were told in it.
     fn close(self, alloc: Global, sessions: Vec<Session>) -> Result<Closed<K>, CloseFault>
@@ -84,12 +84,12 @@ impl<K: BatchKeeper + Drop, G: Gate + Drop> Front<K, G> {
             closed.world closed.keepers.items) }
         ensures fault { IfErr result (IsUnclosed K.terms self sessions.items) }
     {
-        let Front {
+        let Frontend {
             set,
             starts,
-            posts,
+            shared_servers,
             gate: _,
-            bells: _,
+            signals: _,
             sessions: made,
         } = self;
         let made = made.into_inner();
@@ -101,7 +101,7 @@ impl<K: BatchKeeper + Drop, G: Gate + Drop> Front<K, G> {
             return Err(CloseFault::Absent { session });
         }
         let told = told?;
-        let taken = take_all(alloc, set, posts)?;
+        let taken = take_all(alloc, set, shared_servers)?;
         let woven = weave_since(
             alloc,
             set,

@@ -1,4 +1,4 @@
-//! A cluster, and the front of it that threads are lent.
+//! A cluster, and the frontend of it that threads are lent.
 ghost use Rattle.std.specs.Prelude.{◌≡◌, ◌↔◌, ◌+◌, ◌<◌, ◌≤◌, [], IfNone, IfOk, IfSome, IsTrue, MatchOption, OnErr, length, true};
 ghost use Rattle.lynx_codec.specs.Ranges.{IsLookedInRange};
 ghost use Rattle.lynx_cluster.specs.Calls.{AnswersBegin};
@@ -7,14 +7,14 @@ ghost use Rattle.lynx_cluster.specs.Looks.{Looks};
 ghost use Rattle.lynx_cluster.specs.Records.{IsProgramOf};
 ghost use Rattle.lynx_cluster.specs.Sessions.{new_session};
 
-use crate::bells::Bells;
 use crate::gate::Gate;
-use crate::post::Post;
 use crate::session::Session;
+use crate::shared_server::SharedServer;
+use crate::signals::Signals;
 use lynx_codec::Looked;
 use lynx_entry::{Answer, Entry, Request};
 use lynx_keep::BatchKeeper;
-use lynx_names::{ChainId, Memory, ProgramId, ServerId};
+use lynx_names::{ChainId, Memory, ProgramId, ServerId, learn};
 use lynx_resting::Resting;
 use lynx_set::ChainSet;
 use std::alloc::Global;
@@ -30,34 +30,35 @@ pub const MAX_SESSIONS: u64 = 1_000_000;
 /// The servers of a set behind locks of their own, at which any thread may begin and look by a `&`.
 /// Contracts see the set, and how long each server's history was at the start.
 #[derive(Drop)]
-pub struct Front<K: BatchKeeper, G: Gate> {
+pub struct Frontend<K: BatchKeeper, G: Gate> {
     pub(crate) set: Arc<ChainSet>,
     pub(crate) starts: Vec<u64>,
-    pub(crate) posts: Vec<Arc<Post<K>>>,
+    pub(crate) shared_servers: Vec<Arc<SharedServer<K>>>,
     pub(crate) gate: Arc<G>,
-    pub(crate) bells: Arc<Bells>,
+    pub(crate) signals: Arc<Signals>,
     pub(crate) sessions: Mutex<u64>,
 }
 
-impl<K: BatchKeeper, G: Gate> Model for Front<K, G> {
+impl<K: BatchKeeper, G: Gate> Model for Frontend<K, G> {
     ghost use Rattle.std.specs.Prelude.{◌≡◌, length};
     ghost use Rattle.lynx_cluster.specs.Clusters.{ClusterState};
 
     ghost Value = { ClusterState };
 
-    ghost view = { λ front. record { set = front.set.value; starts = front.starts.items } };
+    ghost view = { λ frontend.
+        record { set = frontend.set.value; starts = frontend.starts.items } };
 
-    ghost invariant = { λ front. record {
-      one_start : length front.starts.items ≡ front.set.value.servers;
-      one_post : length front.posts.items ≡ front.set.value.servers;
+    ghost invariant = { λ frontend. record {
+      one_start : length frontend.starts.items ≡ frontend.set.value.servers;
+      one_shared : length frontend.shared_servers.items ≡ frontend.set.value.servers;
     } };
 }
 
 /// A running cluster: the servers behind their locks, and a worker thread for each. Other threads
-/// are lent its front. It can't be let go: [`Cluster::close`] is the one way to be rid of it, so
-/// that every worker is joined. Fallible work is done before the start or on the front.
+/// are lent its frontend. It can't be let go: [`Cluster::close`] is the one way to be rid of it, so
+/// that every worker is joined. Fallible work is done before the start or on the frontend.
 pub struct Cluster<K: BatchKeeper, G: Gate> {
-    pub(crate) front: Front<K, G>,
+    pub(crate) frontend: Frontend<K, G>,
     pub(crate) stop: Arc<AtomicBool>,
     pub(crate) workers: Vec<JoinHandle<()>>,
 }
@@ -67,7 +68,7 @@ impl<K: BatchKeeper, G: Gate> Model for Cluster<K, G> {
 
     ghost Value = { ClusterState };
 
-    ghost view = { λ cluster. cluster.front };
+    ghost view = { λ cluster. cluster.frontend };
 }
 
 /// The state is that of this server of this set: a walk over the set. Nothing else is known of a
@@ -95,20 +96,20 @@ fn next_session(alloc: Global, made: &mut u64) -> Option<Session>
 
 impl<K: BatchKeeper, G: Gate> Cluster<K, G> {
     /// What other threads are lent.
-    pub fn front(&self) -> &Front<K, G>
+    pub fn frontend(&self) -> &Frontend<K, G>
         ensures { result.now ≡ self.now }
     {
-        &self.front
+        &self.frontend
     }
 
-    /// A new session: [`Front::session`].
+    /// A new session: [`Frontend::session`].
     pub fn session<R: Wait>(&self, rt: &R, alloc: Global) -> Option<Session>
         ensures { IfSome result (λ session. session.told ≡ []) }
     {
-        self.front.session(rt, alloc)
+        self.frontend.session(rt, alloc)
     }
 
-    /// One begin: [`Front::begin`].
+    /// One begin: [`Frontend::begin`].
     pub fn begin<R: Wait + Clock>(
         &self,
         rt: &R,
@@ -118,10 +119,10 @@ impl<K: BatchKeeper, G: Gate> Cluster<K, G> {
     ) -> Answer
         ensures { AnswersBegin self.now.set session.old request result session.new }
     {
-        self.front.begin(rt, alloc, session, request)
+        self.frontend.begin(rt, alloc, session, request)
     }
 
-    /// One look: [`Front::look`].
+    /// One look: [`Frontend::look`].
     pub fn look<R: Wait>(
         &self,
         rt: &R,
@@ -135,11 +136,11 @@ impl<K: BatchKeeper, G: Gate> Cluster<K, G> {
         ensures same { OnErr result (session.new ≡ session.old) }
         ensures range { IfOk result IsLookedInRange }
     {
-        self.front.look(rt, alloc, session, chain, hop)
+        self.frontend.look(rt, alloc, session, chain, hop)
     }
 }
 
-impl<K: BatchKeeper, G: Gate> Front<K, G> {
+impl<K: BatchKeeper, G: Gate> Frontend<K, G> {
     /// The set of the cluster.
     pub fn set(&self) -> &ChainSet
         ensures { result.now ≡ self.now.set }
@@ -173,12 +174,16 @@ impl<K: BatchKeeper, G: Gate> Front<K, G> {
     pub fn program_of<R: Wait>(&self, rt: &R, chain: &ChainId) -> Option<ProgramId>
         ensures { IfSome result (IsProgramOf self.now.set chain.now) }
     {
-        let state = self.posts.as_slice().get(chain.origin.index())?.look(rt);
+        let state = self
+            .shared_servers
+            .as_slice()
+            .get(chain.origin.index())?
+            .look(rt);
         if !is_of(&state, &self.set, chain.origin) {
             return None;
         }
         // By its type the history is lawful.
-        let _ = state.settled();
+        learn(state.settled());
         match state.entry_of(*chain, 0)? {
             Entry::Begun(begun) => Some(begun.request.program),
             Entry::Refused(_) | Entry::Hop(_) => None,
@@ -209,10 +214,10 @@ impl<K: BatchKeeper, G: Gate> Front<K, G> {
             return Ok(Looked::Absent);
         };
         let server = asked.server;
-        let Some(post) = self.posts.as_slice().get(server.index()) else {
+        let Some(shared) = self.shared_servers.as_slice().get(server.index()) else {
             return Ok(Looked::Absent);
         };
-        let state = post.look(rt);
+        let state = shared.look(rt);
         if !is_of(&state, &self.set, server) {
             return Ok(Looked::Absent);
         }

@@ -7,11 +7,11 @@ ghost use Rattle.lynx_rules.specs.Lawful.{record_of};
 ghost use Rattle.lynx_server.specs.Acts.{act_of};
 ghost use Rattle.lynx_server.specs.History.{IsLawfulHistory};
 
-use crate::cluster::{Front, is_of};
+use crate::cluster::{Frontend, is_of};
 use crate::gate::Gate;
 use lynx_entry::{Entry, Request};
 use lynx_keep::BatchKeeper;
-use lynx_names::{ChainId, ClientId, Memory, ProgramId, ServerId, TryCopy, Values};
+use lynx_names::{ChainId, ClientId, Memory, ProgramId, ServerId, TryCopy, Values, learn};
 use lynx_resting::Resting;
 use std::alloc::Global;
 use std::sync::Wait;
@@ -55,7 +55,7 @@ fn beginning_at<K: BatchKeeper>(
     }
 }
 
-impl<K: BatchKeeper, G: Gate> Front<K, G> {
+impl<K: BatchKeeper, G: Gate> Frontend<K, G> {
     /// Adds what that server has recorded of the request, under its lock.
     fn find_at<R: Wait>(
         &self,
@@ -69,15 +69,15 @@ impl<K: BatchKeeper, G: Gate> Front<K, G> {
             × IsLawfulHistory self.now.set server history × (found.new.items
             ≡ found.old.items ++ recorded_at server (record_of request.now history))) }
     {
-        let Some(post) = self.posts.as_slice().get(server.index()) else {
+        let Some(shared) = self.shared_servers.as_slice().get(server.index()) else {
             return Ok(());
         };
-        let state = post.look(rt);
+        let state = shared.look(rt);
         if !is_of(&state, &self.set, server) {
             return Ok(());
         }
         // By its type the history is lawful.
-        let _ = state.settled();
+        learn(state.settled());
         add_recorded(alloc, found, &state, server, request)
     }
 
@@ -119,15 +119,15 @@ impl<K: BatchKeeper, G: Gate> Front<K, G> {
     ) -> Result<Option<Entry>, Memory>
         ensures { IfOk result (λ found. IfSome found (IsBeginning self.now.set chain)) }
     {
-        let Some(post) = self.posts.as_slice().get(chain.origin.index()) else {
+        let Some(shared) = self.shared_servers.as_slice().get(chain.origin.index()) else {
             return Ok(None);
         };
-        let state = post.look(rt);
+        let state = shared.look(rt);
         if !is_of(&state, &self.set, chain.origin) {
             return Ok(None);
         }
         // By its type the history is lawful.
-        let _ = state.settled();
+        learn(state.settled());
         beginning_at(alloc, &state, chain)
     }
 }

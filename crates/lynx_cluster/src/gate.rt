@@ -6,7 +6,7 @@ use std::time::Instant;
 
 /// What a step on the state behind a server's lock does there.
 #[derive(Clone, Copy, Debug, PartialEq, Eq)]
-pub enum Passage {
+pub enum StepKind {
     /// A begin of a session.
     Begin,
     /// A delivery of a message, or a wake while messages are held.
@@ -17,10 +17,10 @@ pub enum Passage {
 /// wait for another.
 pub trait Gate {
     /// A step is about to be made. It is called with that server's lock taken.
-    fn enter(&self, server: ServerId, passage: Passage);
+    fn enter(&self, server: ServerId, step: StepKind);
 
     /// The step was made. It is called after that server's lock was given back.
-    fn leave(&self, server: ServerId, passage: Passage);
+    fn leave(&self, server: ServerId, step: StepKind);
 
     /// What time it is, for a gate that times steps. It is asked before a step.
     fn now(&self) -> Option<Instant> {
@@ -51,7 +51,7 @@ pub trait Gate {
 pub struct OpenGate;
 
 impl Gate for OpenGate {
-    fn enter(&self, _server: ServerId, _passage: Passage) {}
+    fn enter(&self, _server: ServerId, _step: StepKind) {}
 
-    fn leave(&self, _server: ServerId, _passage: Passage) {}
+    fn leave(&self, _server: ServerId, _step: StepKind) {}
 }

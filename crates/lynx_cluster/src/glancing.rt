@@ -8,12 +8,12 @@ ghost use Rattle.lynx_server.specs.Acts.{act_of};
 ghost use Rattle.lynx_cluster.specs.Glances.{AreEntriesFrom, AreLastEntries, IsRecalled, IsSeen, glance_of, last_of};
 ghost use Rattle.lynx_cluster.specs.Looks.{looked_at};
 
-use crate::cluster::{Front, is_of};
+use crate::cluster::{Frontend, is_of};
 use crate::gate::Gate;
 use lynx_codec::Looked;
 use lynx_entry::Entry;
 use lynx_keep::BatchKeeper;
-use lynx_names::{ChainId, Memory, ServerId, Stamp, TryCopy, Values};
+use lynx_names::{ChainId, Memory, ServerId, Stamp, TryCopy, Values, learn};
 use lynx_resting::Resting;
 use std::alloc::Global;
 use std::sync::Wait;
@@ -84,7 +84,7 @@ fn entries_from<K: BatchKeeper>(
     ensures range { IfOk result (λ entries. All IsEntryInRange entries.items) }
 {
     // A lawful entry is in range where the server's number is.
-    let _ = state.server().number();
+    learn(state.server().number());
     let history = state.settled();
     let start = from.min(history.len());
     let end = start.saturating_add(most).min(history.len());
@@ -110,7 +110,7 @@ fn looked_at<K: BatchKeeper>(
     }
 }
 
-impl<K: BatchKeeper, G: Gate> Front<K, G> {
+impl<K: BatchKeeper, G: Gate> Frontend<K, G> {
     /// What the cluster tells of its steps.
     pub fn gate(&self) -> &G {
         &self.gate
@@ -121,12 +121,12 @@ impl<K: BatchKeeper, G: Gate> Front<K, G> {
     pub fn glance<R: Wait>(&self, rt: &R, server: ServerId) -> Option<Glance>
         ensures { IfSome result (IsSeen self.now.set server) }
     {
-        let state = self.posts.as_slice().get(server.index())?.look(rt);
+        let state = self.shared_servers.as_slice().get(server.index())?.look(rt);
         if !is_of(&state, &self.set, server) {
             return None;
         }
         // By its type the history is lawful.
-        let _ = state.settled();
+        learn(state.settled());
         Some(glance_of(&state))
     }
 
@@ -141,10 +141,10 @@ impl<K: BatchKeeper, G: Gate> Front<K, G> {
     ) -> Result<Vec<Entry>, Memory>
         ensures { IfOk result (λ entries. AreLastEntries self.now.set server most entries.items) }
     {
-        let Some(post) = self.posts.as_slice().get(server.index()) else {
+        let Some(shared) = self.shared_servers.as_slice().get(server.index()) else {
             return Ok(Vec::new(alloc));
         };
-        let state = post.look(rt);
+        let state = shared.look(rt);
         if !is_of(&state, &self.set, server) {
             return Ok(Vec::new(alloc));
         }
@@ -165,15 +165,15 @@ impl<K: BatchKeeper, G: Gate> Front<K, G> {
             entries.items) }
         ensures range { IfOk result (λ entries. All IsEntryInRange entries.items) }
     {
-        let Some(post) = self.posts.as_slice().get(server.index()) else {
+        let Some(shared) = self.shared_servers.as_slice().get(server.index()) else {
             return Ok(Vec::new(alloc));
         };
-        let state = post.look(rt);
+        let state = shared.look(rt);
         if !is_of(&state, &self.set, server) {
             return Ok(Vec::new(alloc));
         }
         // By its type the history is lawful.
-        let _ = state.settled();
+        learn(state.settled());
         entries_from(alloc, &state, from, most)
     }
 
@@ -189,15 +189,15 @@ impl<K: BatchKeeper, G: Gate> Front<K, G> {
     ) -> Result<Looked, Memory>
         ensures { IfOk result (IsRecalled self.now.set server chain hop) }
     {
-        let Some(post) = self.posts.as_slice().get(server.index()) else {
+        let Some(shared) = self.shared_servers.as_slice().get(server.index()) else {
             return Ok(Looked::Absent);
         };
-        let state = post.look(rt);
+        let state = shared.look(rt);
         if !is_of(&state, &self.set, server) {
             return Ok(Looked::Absent);
         }
         // By its type the history is lawful.
-        let _ = state.settled();
+        learn(state.settled());
         looked_at(alloc, &state, &chain, hop)
     }
 }

@@ -1,8 +1,8 @@
 //! What a thread does that leads: it begins what all ask who wait for a server.
-use crate::cluster::Front;
-use crate::gate::{Gate, Passage};
-use crate::post::Post;
+use crate::cluster::Frontend;
+use crate::gate::{Gate, StepKind};
 use crate::queue::{Mailbox, Waiting, Word};
+use crate::shared_server::SharedServer;
 use crate::submission::{Completion, Submission};
 use lynx_keep::BatchKeeper;
 use lynx_names::{Memory, ServerId};
@@ -11,19 +11,19 @@ use std::alloc::Global;
 use std::sync::{Arc, Wait};
 use std::time::Clock;
 
-impl<K: BatchKeeper, G: Gate> Front<K, G> {
+impl<K: BatchKeeper, G: Gate> Frontend<K, G> {
     /// Begins what one of them asks, on the state of the server.
     fn ask_one(
         &self,
         alloc: Global,
-        post: &Post<K>,
+        shared: &SharedServer<K>,
         state: &mut Resting<K>,
         server: ServerId,
         submission: &mut Submission,
     ) {
-        self.gate.enter(server, Passage::Begin);
+        self.gate.enter(server, StepKind::Begin);
         submission.ask(alloc, state, self.gate.now());
-        post.note_begins(submission.count());
+        shared.note_begins(submission.count());
     }
 
     /// Begins what all ask who wait, and how many entries there are then. The lock is given back
@@ -32,22 +32,22 @@ impl<K: BatchKeeper, G: Gate> Front<K, G> {
         &self,
         rt: &R,
         alloc: Global,
-        post: &Post<K>,
+        shared: &SharedServer<K>,
         server: ServerId,
     ) -> (Vec<Waiting>, usize) {
-        let mut state = post.enter_to_begin(rt, alloc, &self.bells, server);
-        let mut waiting = post.take_waiting(rt, alloc);
+        let mut state = shared.enter_to_begin(rt, alloc, &self.signals, server);
+        let mut waiting = shared.take_waiting(rt, alloc);
         for one in waiting.as_mut_slice() {
-            if post.is_turn_over(&state) {
-                post.give_back(rt, alloc, state);
-                state = post.enter_to_begin(rt, alloc, &self.bells, server);
+            if shared.is_turn_over(&state) {
+                shared.give_back(rt, alloc, state);
+                state = shared.enter_to_begin(rt, alloc, &self.signals, server);
             }
-            self.ask_one(alloc, post, &mut state, server, &mut one.submission);
+            self.ask_one(alloc, shared, &mut state, server, &mut one.submission);
         }
         let reached = state.reached();
-        post.give_back(rt, alloc, state);
+        shared.give_back(rt, alloc, state);
         for _ in waiting.iter() {
-            self.gate.leave(server, Passage::Begin);
+            self.gate.leave(server, StepKind::Begin);
         }
         (waiting, reached)
     }
@@ -65,18 +65,24 @@ impl<K: BatchKeeper, G: Gate> Front<K, G> {
             mailbox.put(rt, Word::Done(submission.complete(mark)));
         }
         if owes_more {
-            self.bells.ring(server);
+            self.signals.signal(server);
         }
     }
 
     /// Begins what all ask who wait for the server, tells each what came of it once all of it is
     /// settled, and has the next one lead.
-    fn lead<R: Wait + Clock>(&self, rt: &R, alloc: Global, post: &Post<K>, server: ServerId) {
-        let (waiting, reached) = self.ask_all(rt, alloc, post, server);
-        let mark = post.await_settled(rt, reached);
+    fn lead<R: Wait + Clock>(
+        &self,
+        rt: &R,
+        alloc: Global,
+        shared: &SharedServer<K>,
+        server: ServerId,
+    ) {
+        let (waiting, reached) = self.ask_all(rt, alloc, shared, server);
+        let mark = shared.await_settled(rt, reached);
         self.tell_all(rt, server, waiting, &mark);
-        post.pass_lead(rt);
-        post.wake_told(rt);
+        shared.pass_lead(rt);
+        shared.wake_told(rt);
     }
 
     /// Has these requests begun by whoever leads at their server, which may be this thread.
@@ -84,18 +90,18 @@ impl<K: BatchKeeper, G: Gate> Front<K, G> {
         &self,
         rt: &R,
         alloc: Global,
-        post: &Post<K>,
+        shared: &SharedServer<K>,
         server: ServerId,
         submission: Submission,
     ) -> Result<Completion, Memory> {
         let mailbox = Arc::new(alloc, Mailbox::new())?;
         let theirs = Arc::try_clone(&mailbox)?;
-        let mut leads = post.submit(rt, submission, theirs)?;
+        let mut leads = shared.submit(rt, submission, theirs)?;
         for _ in rt.forever() {
             if leads {
-                self.lead(rt, alloc, post, server);
+                self.lead(rt, alloc, shared, server);
             }
-            match post.await_word(rt, &mailbox) {
+            match shared.await_word(rt, &mailbox) {
                 Word::Lead => leads = true,
                 Word::Done(completion) => return Ok(completion),
             }

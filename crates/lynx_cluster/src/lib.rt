@@ -3,21 +3,20 @@
 #![tactic(auto)]
 
 pub use closing::Closed;
-pub use cluster::{Cluster, Front};
+pub use cluster::{Cluster, Frontend};
 pub use fault::{CloseFault, StartFault};
 pub use finding::Recorded;
-pub use gate::{Gate, OpenGate, Passage};
+pub use gate::{Gate, OpenGate, StepKind};
 pub use glancing::Glance;
 pub use host::Host;
-pub use lent::Lent;
 pub use opening::Opened;
-pub use post::Pace;
 pub use reading::CellsRead;
 pub use session::Session;
+pub use shared_server::Pace;
+pub use worker_share::WorkerShare;
 
 mod absent;
 mod beginning;
-mod bells;
 pub mod closing;
 pub mod cluster;
 pub mod fault;
@@ -27,17 +26,18 @@ pub mod glancing;
 pub mod host;
 mod inbox;
 mod leading;
-pub mod lent;
 mod looking;
 pub mod opening;
 mod owing;
-pub mod post;
 mod queue;
 pub mod reading;
 pub mod session;
 mod settling;
+pub mod shared_server;
+mod signals;
 pub mod starting;
 mod submission;
 mod taking;
 mod together;
+pub mod worker_share;
 mod workers;

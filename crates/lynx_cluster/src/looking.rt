@@ -9,7 +9,7 @@ use crate::beginning::later;
 use crate::session::Session;
 use lynx_codec::Looked;
 use lynx_keep::BatchKeeper;
-use lynx_names::{ChainId, Memory, Values};
+use lynx_names::{ChainId, Memory, Values, learn};
 use lynx_resting::Resting;
 use lynx_weave::ToldItem;
 use std::alloc::Global;
@@ -50,7 +50,7 @@ impl Session {
     }
 
     /// One look at what is settled of a server, noted by the session where it finds the hop. What
-    /// is found has a byte form.
+    /// is found has an encoding.
     pub(crate) fn look_at<K: BatchKeeper>(
         &mut self,
         alloc: Global,
@@ -66,7 +66,7 @@ impl Session {
         ensures range { IfOk result IsLookedInRange }
     {
         // By its type the history is lawful, so what is found in it is in range.
-        let _ = state.settled();
+        learn(state.settled());
         self.find_at(alloc, state, chain, hop)
     }
 }

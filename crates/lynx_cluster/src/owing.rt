@@ -6,7 +6,7 @@ ghost use Rattle.lynx_cluster.specs.inner.Serving.{AddsFound, AreOwed, AreOwedBe
 
 use crate::cluster::is_of;
 use crate::gate::Gate;
-use crate::lent::Lent;
+use crate::worker_share::WorkerShare;
 use lynx_entry::Message;
 use lynx_keep::BatchKeeper;
 use lynx_names::Memory;
@@ -25,7 +25,7 @@ fn add(dues: &mut Vec<Due>, due: Due) -> Option<()>
     }
 }
 
-impl<K: BatchKeeper, G: Gate> Lent<K, G> {
+impl<K: BatchKeeper, G: Gate> WorkerShare<K, G> {
     /// The message with the server that it is for.
     fn due(&self, place: u64, message: Message) -> Option<Due>
         ensures due { IfSome result (IsDueOf self.now.set place message) }

@@ -14,7 +14,8 @@ pub(crate) enum Word {
     Done(Completion),
 }
 
-/// Where one who asked is told. [`Post::await_word`](crate::post::Post::await_word) waits for that.
+/// Where one who asked is told.
+/// [`SharedServer::await_word`](crate::shared_server::SharedServer::await_word) waits for that.
 #[derive(Drop)]
 pub(crate) struct Mailbox {
     word: Mutex<Option<Word>>,

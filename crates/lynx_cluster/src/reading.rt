@@ -3,11 +3,11 @@ ghost use Rattle.std.specs.Prelude.{◌≡◌, ◌≤◌, IfOk, IfSome};
 ghost use Rattle.lynx_cluster.specs.Readings.{IsRead, ReadsHistory};
 ghost use Rattle.lynx_resting.specs.Resting.{settled_front};
 
-use crate::cluster::{Front, is_of};
+use crate::cluster::{Frontend, is_of};
 use crate::gate::Gate;
 use crate::glancing::clock_of;
 use lynx_keep::BatchKeeper;
-use lynx_names::{Memory, ServerId, Stamp, TableId};
+use lynx_names::{Memory, ServerId, Stamp, TableId, learn};
 use lynx_resting::Resting;
 use std::alloc::Global;
 use std::sync::Wait;
@@ -44,7 +44,7 @@ fn read_of<K: BatchKeeper>(
     }))
 }
 
-impl<K: BatchKeeper, G: Gate> Front<K, G> {
+impl<K: BatchKeeper, G: Gate> Frontend<K, G> {
     /// The cells of a table that aren't 0 at that server and have keys from `first` to `last`, by
     /// key, so many at most, between two whole steps of the server. Nothing is written, and no
     /// session notes it. None where there is no such server, or where it stopped and something that
@@ -64,15 +64,15 @@ impl<K: BatchKeeper, G: Gate> Front<K, G> {
         ensures { IfOk result (λ found. IfSome found (IsRead self.now.set server table first last
             most)) }
     {
-        let Some(post) = self.posts.as_slice().get(server.index()) else {
+        let Some(shared) = self.shared_servers.as_slice().get(server.index()) else {
             return Ok(None);
         };
-        let state = post.look_settled(rt, alloc);
+        let state = shared.look_settled(rt, alloc);
         if !is_of(&state, &self.set, server) {
             return Ok(None);
         }
         // By its type the history is lawful.
-        let _ = state.settled();
+        learn(state.settled());
         read_of(alloc, &state, table, first, last, most)
     }
 }

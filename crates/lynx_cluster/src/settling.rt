@@ -9,35 +9,38 @@ use lynx_entry::Entry;
 use lynx_keep::Keeper;
 use lynx_names::Memory;
 use lynx_server::Server;
-use lynx_worker::Receipt;
+use lynx_worker::Acknowledgement;
 use std::alloc::Global;
 
-/// A receipt for each hop behind a first that the server did, for the server that sends its
-/// message.
-fn receipts_of<K: Keeper>(alloc: Global, state: &Server<K>) -> Result<Vec<Receipt>, Memory>
-    ensures { IfOk result (λ receipts. AreDone state.now.history receipts.items) }
+/// An acknowledgement for each hop behind a first that the server did, for the server that sends
+/// its message.
+fn acknowledgements_of<K: Keeper>(
+    alloc: Global,
+    state: &Server<K>,
+) -> Result<Vec<Acknowledgement>, Memory>
+    ensures { IfOk result (λ acknowledgements. AreDone state.now.history acknowledgements.items) }
 {
-    let mut receipts = Vec::new(alloc);
+    let mut acknowledgements = Vec::new(alloc);
     for entry in state.history() {
         let Entry::Hop(ran) = entry else {
             continue;
         };
         let (chain, hop) = (ran.message.chain, ran.message.hop);
         if let Some(to) = state.sender_of(&chain, hop) {
-            receipts.push(Receipt { to, chain, hop })?;
+            acknowledgements.push(Acknowledgement { to, chain, hop })?;
         }
     }
-    Ok(receipts)
+    Ok(acknowledgements)
 }
 
 /// Marks at the server that sends its message that a hop was done.
-fn settle_one<K: Keeper>(servers: &mut [Server<K>], receipt: &Receipt)
-    ensures { (histories : List History) → IsDoneIn histories receipt.now.chain receipt.now.hop
-        → AreSettled histories servers.old servers.new }
+fn settle_one<K: Keeper>(servers: &mut [Server<K>], acknowledgement: &Acknowledgement)
+    ensures { (histories : List History) → IsDoneIn histories acknowledgement.now.chain
+        acknowledgement.now.hop → AreSettled histories servers.old servers.new }
 {
-    let index = receipt.to.index();
+    let index = acknowledgement.to.index();
     if index < servers.len() {
-        servers[index].acknowledge(receipt.chain, receipt.hop);
+        servers[index].acknowledge(acknowledgement.chain, acknowledgement.hop);
     }
 }
 
@@ -50,17 +53,17 @@ fn settle_at<K: Keeper>(
     requires { receiver < length servers.old }
     ensures { AreSettled (histories_of servers.old) servers.old servers.new }
 {
-    let receipts = receipts_of(alloc, &servers[receiver])?;
-    for receipt in receipts.as_slice() {
-        settle_one(servers, receipt);
+    let acknowledgements = acknowledgements_of(alloc, &servers[receiver])?;
+    for acknowledgement in acknowledgements.as_slice() {
+        settle_one(servers, acknowledgement);
     }
     Ok(())
 }
 
 /// Marks at each server the messages whose hops have their entries at the others, so that they
 /// aren't sent again: a server that was opened owes those of all its entries, since
-/// acknowledgements aren't stored. Three look-ups for each hop behind a first, and memory for a
-/// receipt of each that one server did. Where there is none for them some are sent again.
+/// acknowledgements aren't stored. Three look-ups for each hop behind a first, and memory for an
+/// acknowledgement of each that one server did. Where there is none for them some are sent again.
 pub(crate) fn settle<K: Keeper>(alloc: Global, servers: &mut [Server<K>]) -> Result<(), Memory>
     ensures { AreSettled (histories_of servers.old) servers.old servers.new }
 {

@@ -4,13 +4,13 @@ ghost use Rattle.lynx_weave.specs.Servers.{AreServersOf};
 ghost use Rattle.lynx_cluster.specs.Starting.{IsStarted, IsUnstarted, Starts, start_of};
 ghost use Rattle.lynx_cluster.specs.inner.Opening.{IsLate};
 
-use crate::bells::Bells;
-use crate::cluster::{Cluster, Front};
+use crate::cluster::{Cluster, Frontend};
 use crate::fault::StartFault;
 use crate::gate::Gate;
 use crate::opening::Opened;
-use crate::post::{Pace, Post};
 use crate::settling::settle;
+use crate::shared_server::{Pace, SharedServer};
+use crate::signals::Signals;
 use crate::workers::{lend_all, start_all};
 use lynx_keep::BatchKeeper;
 use lynx_names::Memory;
@@ -25,8 +25,8 @@ use std::time::Clock;
 
 /// Servers behind their locks, and how long each history was before.
 #[derive(Drop)]
-struct Posted<K: BatchKeeper> {
-    posts: Vec<Arc<Post<K>>>,
+struct SharedAll<K: BatchKeeper> {
+    shared_servers: Vec<Arc<SharedServer<K>>>,
     starts: Vec<u64>,
 }
 
@@ -42,21 +42,25 @@ fn starts_of<K: BatchKeeper>(alloc: Global, servers: &[Server<K>]) -> Result<Vec
 }
 
 /// Puts each server behind a lock.
-fn post_all<K: BatchKeeper + Drop>(
+fn share_all<K: BatchKeeper + Drop>(
     alloc: Global,
     servers: Vec<Server<K>>,
     pace: Pace,
-) -> Result<Posted<K>, Memory>
-    ensures starts { IfOk result (λ posted. posted.starts.items ≡ map start_of servers.items) }
-    ensures posts { IfOk result (λ posted. length posted.posts.items ≡ length servers.items) }
+) -> Result<SharedAll<K>, Memory>
+    ensures starts { IfOk result (λ shared. shared.starts.items ≡ map start_of servers.items) }
+    ensures shared { IfOk result (λ shared. length shared.shared_servers.items ≡ length
+        servers.items) }
 {
     let starts = starts_of(alloc, servers.as_slice())?;
-    let mut posts = Vec::new(alloc);
+    let mut shared_servers = Vec::new(alloc);
     for server in servers {
         let state = Resting::new(alloc, server);
-        posts.push(Arc::new(alloc, Post::new(alloc, state, pace))?)?;
+        shared_servers.push(Arc::new(alloc, SharedServer::new(alloc, state, pace))?)?;
     }
-    Ok(Posted { posts, starts })
+    Ok(SharedAll {
+        shared_servers,
+        starts,
+    })
 }
 
 impl<K: BatchKeeper + Drop> Opened<K> {
@@ -80,24 +84,27 @@ impl<K: BatchKeeper + Drop> Opened<K> {
         let Opened { set, mut servers } = self;
         // Where there is no memory for it, messages that need not come again do.
         let _ = settle(alloc, servers.as_mut_slice());
-        let Posted { posts, starts } = post_all(alloc, servers, pace)?;
+        let SharedAll {
+            shared_servers,
+            starts,
+        } = share_all(alloc, servers, pace)?;
         let gate = Arc::new(alloc, gate)?;
         let stop = Arc::new(alloc, AtomicBool::new(false))?;
-        let bells = Arc::new(alloc, Bells::new(alloc, set.servers())?)?;
-        let lents = lend_all(alloc, &set, posts.as_slice(), &gate, &bells)?;
+        let signals = Arc::new(alloc, Signals::new(alloc, set.servers())?)?;
+        let shares = lend_all(alloc, &set, shared_servers.as_slice(), &gate, &signals)?;
         let servers = set.servers();
         let set = Arc::new(alloc, set)?;
-        let workers = start_all(rt, alloc, servers, lents, &bells, &stop)?;
-        let front = Front {
+        let workers = start_all(rt, alloc, servers, shares, &signals, &stop)?;
+        let frontend = Frontend {
             set,
             starts,
-            posts,
+            shared_servers,
             gate,
-            bells,
+            signals,
             sessions: Mutex::new(0),
         };
         Ok(Cluster {
-            front,
+            frontend,
             stop,
             workers,
         })

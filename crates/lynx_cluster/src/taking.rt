@@ -6,8 +6,8 @@ ghost use Rattle.lynx_cluster.specs.inner.Closing.{IsTakeFault};
 
 use crate::cluster::is_of;
 use crate::fault::CloseFault;
-use crate::post::Post;
 use crate::session::Session;
+use crate::shared_server::SharedServer;
 use lynx_entry::Entry;
 use lynx_keep::BatchKeeper;
 use lynx_names::{Memory, ServerId};
@@ -29,11 +29,11 @@ fn take_back<K: BatchKeeper + Drop>(
     alloc: Global,
     set: &ChainSet,
     server: ServerId,
-    post: Arc<Post<K>>,
+    shared: Arc<SharedServer<K>>,
 ) -> Option<(Vec<Entry>, K)>
     ensures { IfSome result (λ taken. IsTakenBack K.terms set.now server taken.0.items taken.1) }
 {
-    let state = Arc::into_inner(post)?.into_state();
+    let state = Arc::into_inner(shared)?.into_state();
     if !is_of(&state, set, server) {
         return None;
     }
@@ -59,9 +59,9 @@ impl<K: BatchKeeper + Drop> Taken<K> {
 pub(crate) fn take_all<K: BatchKeeper + Drop>(
     alloc: Global,
     set: &ChainSet,
-    posts: Vec<Arc<Post<K>>>,
+    shared_servers: Vec<Arc<SharedServer<K>>>,
 ) -> Result<Taken<K>, CloseFault>
-    requires { length posts.items ≡ set.now.servers }
+    requires { length shared_servers.items ≡ set.now.servers }
     ensures taken { IfOk result (λ taken. AreTakenBack K.terms set.now
         (histories_in taken.histories.items) taken.keepers.items) }
     ensures fault { IfErr result (IsTakeFault set.now.servers) }
@@ -71,13 +71,13 @@ pub(crate) fn take_all<K: BatchKeeper + Drop>(
         histories: Vec::new(alloc),
         keepers: Vec::new(alloc),
     };
-    let mut posts = posts.into_iter();
+    let mut shared_servers = shared_servers.into_iter();
     for number in 0..count {
-        let Some(post) = posts.next() else {
+        let Some(shared) = shared_servers.next() else {
             unreachable!()
         };
         let server = ServerId::at(number);
-        let Some(back) = take_back(alloc, set, server, post) else {
+        let Some(back) = take_back(alloc, set, server, shared) else {
             return Err(CloseFault::Stopped { server });
         };
         taken.add(back)?;

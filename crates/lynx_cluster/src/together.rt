@@ -6,10 +6,10 @@ ghost use Rattle.lynx_cluster.specs.inner.Submitting.{AreFew, BeginAt, seen_afte
 ghost use Rattle.lynx_cluster.specs.inner.Together.{BeginsLeading};
 
 use crate::beginning::note;
-use crate::cluster::Front;
+use crate::cluster::Frontend;
 use crate::gate::Gate;
-use crate::post::Post;
 use crate::session::Session;
+use crate::shared_server::SharedServer;
 use crate::submission::{Completion, Submission};
 use lynx_entry::{Answer, AnswerRoom, Request};
 use lynx_keep::BatchKeeper;
@@ -90,12 +90,12 @@ fn note_all(
     }
 }
 
-impl<K: BatchKeeper, G: Gate> Front<K, G> {
+impl<K: BatchKeeper, G: Gate> Frontend<K, G> {
     /// Tells the gate of each answer.
     fn tell_gate<R: Wait>(
         &self,
         rt: &R,
-        post: &Post<K>,
+        shared: &SharedServer<K>,
         server: ServerId,
         requests: &[Request],
         completion: &Completion,
@@ -107,7 +107,7 @@ impl<K: BatchKeeper, G: Gate> Front<K, G> {
         let is_stopped = completion.answers().len() < requests.len()
             || matches!(completion.answers().last(), Some(Answer::Stopped));
         if is_stopped {
-            let cause = post.look(rt).cause();
+            let cause = shared.look(rt).cause();
             self.gate.stopped(server, cause);
         }
     }
@@ -134,7 +134,7 @@ impl<K: BatchKeeper, G: Gate> Front<K, G> {
         ensures same_len { OnErr result (vec_len answers.new ≡ vec_len answers.old) }
         ensures capacity { vec_capacity answers.new ≡ vec_capacity answers.old }
     {
-        let Some(post) = self.posts.as_slice().get(server.index()) else {
+        let Some(shared) = self.shared_servers.as_slice().get(server.index()) else {
             answer_none(requests.len(), true, answers);
             return Ok(());
         };
@@ -142,8 +142,8 @@ impl<K: BatchKeeper, G: Gate> Front<K, G> {
         session.told.reserve(requests.len())?;
         let rooms = rooms_for(alloc, requests.len())?;
         let submission = Submission::new(alloc, &self.set, server, seen, requests.as_slice())?;
-        let completion = self.exchange(rt, alloc, post, server, submission)?;
-        self.tell_gate(rt, post, server, requests.as_slice(), &completion);
+        let completion = self.exchange(rt, alloc, shared, server, submission)?;
+        self.tell_gate(rt, shared, server, requests.as_slice(), &completion);
         if completion.answers_all(&self.set, server, seen, requests.as_slice()) {
             let given = completion.into_answers();
             let (told, greatest) = (&mut session.told, &mut session.greatest);
@@ -201,8 +201,8 @@ impl<K: BatchKeeper, G: Gate> Front<K, G> {
 
     /// Each step of that server is settled by itself.
     fn is_each(&self, server: ServerId) -> bool {
-        match self.posts.as_slice().get(server.index()) {
-            Some(post) => post.is_each(),
+        match self.shared_servers.as_slice().get(server.index()) {
+            Some(shared) => shared.is_each(),
             None => false,
         }
     }
@@ -259,7 +259,7 @@ impl<K: BatchKeeper, G: Gate> Front<K, G> {
         }
     }
 
-    /// Begins these in order, as [`Front::begin`] does each of them, and puts each answer behind
+    /// Begins these in order, as [`Frontend::begin`] does each of them, and puts each answer behind
     /// those before it, into a list that has room for all. Those that stand side by side and begin
     /// at one server are begun together, and share a settling: where the store fails in that, each
     /// of them is answered Stopped, and where memory is wanting for all of them, Memory. Each is

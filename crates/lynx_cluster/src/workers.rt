@@ -2,11 +2,11 @@
 ghost use Rattle.std.specs.Prelude.{IfErr};
 ghost use Rattle.lynx_cluster.specs.inner.Opening.{IsLate};
 
-use crate::bells::Bells;
 use crate::fault::StartFault;
 use crate::gate::Gate;
-use crate::lent::Lent;
-use crate::post::Post;
+use crate::shared_server::SharedServer;
+use crate::signals::Signals;
+use crate::worker_share::WorkerShare;
 use lynx_keep::BatchKeeper;
 use lynx_link::{Ends, links};
 use lynx_names::{ServerId, TryCopy};
@@ -23,11 +23,11 @@ use std::time::Clock;
 pub(crate) fn stop_all<R: Threads>(
     rt: &R,
     stop: &AtomicBool,
-    bells: &Bells,
+    signals: &Signals,
     workers: Vec<JoinHandle<()>>,
 ) {
     stop.store(true, Ordering::SeqCst);
-    bells.ring_all();
+    signals.signal_all();
     for worker in workers {
         worker.join(rt);
     }
@@ -41,14 +41,14 @@ fn start_worker<
 >(
     rt: R,
     alloc: Global,
-    lent: Lent<K, G>,
+    share: WorkerShare<K, G>,
     ends: Ends,
     stop: Arc<AtomicBool>,
 ) -> Result<JoinHandle<()>, StartFault>
     ensures { IfErr result IsLate }
 {
-    let servers = lent.servers();
-    let worker = Worker::new(alloc, lent, ends, servers)?;
+    let servers = share.servers();
+    let worker = Worker::new(alloc, share, ends, servers)?;
     match thread::spawn(&rt, move || worker.run(&rt, alloc, &stop)) {
         Ok(worker) => Ok(worker),
         Err(_) => Err(StartFault::NoThread),
@@ -63,7 +63,7 @@ fn start_next<
 >(
     rt: R,
     alloc: Global,
-    lent: Lent<K, G>,
+    share: WorkerShare<K, G>,
     ends: Ends,
     stop: &Arc<AtomicBool>,
     workers: &mut Vec<JoinHandle<()>>,
@@ -72,7 +72,7 @@ fn start_next<
 {
     workers.reserve(1)?;
     let stop = Arc::try_clone(stop)?;
-    workers.push_reserved(start_worker(rt, alloc, lent, ends, stop)?);
+    workers.push_reserved(start_worker(rt, alloc, share, ends, stop)?);
     Ok(())
 }
 
@@ -86,57 +86,57 @@ pub(crate) fn start_all<
     rt: R,
     alloc: Global,
     servers: u8,
-    lents: Vec<Lent<K, G>>,
-    bells: &Bells,
+    shares: Vec<WorkerShare<K, G>>,
+    signals: &Signals,
     stop: &Arc<AtomicBool>,
 ) -> Result<Vec<JoinHandle<()>>, StartFault>
     ensures { IfErr result IsLate }
 {
     let ends = links(alloc, servers)?;
     let mut workers = Vec::new(alloc);
-    for (lent, ends) in lents.into_iter().zip(ends) {
-        if let Err(fault) = start_next(rt, alloc, lent, ends, stop, &mut workers) {
-            stop_all(&rt, stop, bells, workers);
+    for (share, ends) in shares.into_iter().zip(ends) {
+        if let Err(fault) = start_next(rt, alloc, share, ends, stop, &mut workers) {
+            stop_all(&rt, stop, signals, workers);
             return Err(fault);
         }
     }
     Ok(workers)
 }
 
-/// What the worker of that server is lent.
+/// The share of the worker of that server.
 fn lend<K: BatchKeeper + Drop, G: Gate + Drop>(
     alloc: Global,
     set: &ChainSet,
     server: ServerId,
-    post: &Arc<Post<K>>,
+    shared: &Arc<SharedServer<K>>,
     gate: &Arc<G>,
-    bells: &Arc<Bells>,
-) -> Result<Lent<K, G>, StartFault>
+    signals: &Arc<Signals>,
+) -> Result<WorkerShare<K, G>, StartFault>
     ensures { IfErr result IsLate }
 {
     let set = set.copy(alloc)?;
-    let post = Arc::try_clone(post)?;
+    let shared = Arc::try_clone(shared)?;
     let gate = Arc::try_clone(gate)?;
-    let bells = Arc::try_clone(bells)?;
-    Ok(Lent::new(set, server, post, gate, bells))
+    let signals = Arc::try_clone(signals)?;
+    Ok(WorkerShare::new(set, server, shared, gate, signals))
 }
 
-/// What each worker is lent.
+/// The share of each worker.
 pub(crate) fn lend_all<K: BatchKeeper + Drop, G: Gate + Drop>(
     alloc: Global,
     set: &ChainSet,
-    posts: &[Arc<Post<K>>],
+    shared_servers: &[Arc<SharedServer<K>>],
     gate: &Arc<G>,
-    bells: &Arc<Bells>,
-) -> Result<Vec<Lent<K, G>>, StartFault>
+    signals: &Arc<Signals>,
+) -> Result<Vec<WorkerShare<K, G>>, StartFault>
     ensures { IfErr result IsLate }
 {
-    let mut lents = Vec::new(alloc);
+    let mut shares = Vec::new(alloc);
     for number in 0..set.servers() {
-        if let Some(post) = posts.get(usize::from(number)) {
+        if let Some(shared) = shared_servers.get(usize::from(number)) {
             let server = ServerId::at(number);
-            lents.push(lend(alloc, set, server, post, gate, bells)?)?;
+            shares.push(lend(alloc, set, server, shared, gate, signals)?)?;
         }
     }
-    Ok(lents)
+    Ok(shares)
 }

@@ -4,7 +4,7 @@ use crate::keepers::empty;
 use crate::talk::hand_in;
 use crate::texts::FAN;
 use crate::trouble::Trouble;
-use lynx_cluster::{Cluster, Front, Gate, Session};
+use lynx_cluster::{Cluster, Frontend, Gate, Session};
 use lynx_codec::Looked;
 use lynx_entry::Answer;
 use lynx_fixtures::made::{chain, request};
@@ -31,7 +31,7 @@ const MOST_LOOKS: u32 = 5_000;
 fn begins<R: Wait + Clock, K: BatchKeeper, G: Gate>(
     rt: &R,
     alloc: Global,
-    front: &Front<K, G>,
+    frontend: &Frontend<K, G>,
     session: &mut Session,
     program: u8,
     number: u64,
@@ -42,7 +42,7 @@ fn begins<R: Wait + Clock, K: BatchKeeper, G: Gate>(
         program,
         args: &[],
     };
-    let answer = front.begin(rt, alloc, session, request(alloc, parts)?);
+    let answer = frontend.begin(rt, alloc, session, request(alloc, parts)?);
     Ok(matches!(answer, Answer::Begun { .. }))
 }
 
@@ -50,12 +50,12 @@ fn begins<R: Wait + Clock, K: BatchKeeper, G: Gate>(
 fn is_done<R: Wait + Clock, K: BatchKeeper, G: Gate>(
     rt: &R,
     alloc: Global,
-    front: &Front<K, G>,
+    frontend: &Frontend<K, G>,
     session: &mut Session,
     index: u64,
 ) -> Result<bool, Memory> {
     for _ in 0..MOST_LOOKS {
-        if front.look(rt, alloc, session, chain(0, index)?, 1)? != Looked::Absent {
+        if frontend.look(rt, alloc, session, chain(0, index)?, 1)? != Looked::Absent {
             return Ok(true);
         }
         thread::sleep(rt, Duration::from_millis(1));
@@ -68,19 +68,19 @@ fn is_done<R: Wait + Clock, K: BatchKeeper, G: Gate>(
 fn are_done<R: Wait + Clock, K: BatchKeeper, G: Gate>(
     rt: &R,
     alloc: Global,
-    front: &Front<K, G>,
+    frontend: &Frontend<K, G>,
     session: &mut Session,
     is_open: &AtomicBool,
 ) -> Result<bool, Memory> {
     for number in 0..STUCK {
-        if !begins(rt, alloc, front, session, 0, number)? {
+        if !begins(rt, alloc, frontend, session, 0, number)? {
             return Ok(false);
         }
     }
-    let has_begun = begins(rt, alloc, front, session, 1, STUCK)?;
-    let passes = is_done(rt, alloc, front, session, STUCK)?;
+    let has_begun = begins(rt, alloc, frontend, session, 1, STUCK)?;
+    let passes = is_done(rt, alloc, frontend, session, STUCK)?;
     is_open.store(true, Ordering::SeqCst);
-    Ok(has_begun && passes && is_done(rt, alloc, front, session, STUCK - 1)?)
+    Ok(has_begun && passes && is_done(rt, alloc, frontend, session, STUCK - 1)?)
 }
 
 /// Whether that is so in a cluster, and an order explains all.
@@ -94,7 +94,7 @@ fn are_apart<
     let mut sessions = Vec::new(alloc);
     let mut are_done_all = false;
     if let Some(mut session) = cluster.session(&rt, alloc) {
-        let done = are_done(&rt, alloc, cluster.front(), &mut session, &is_open);
+        let done = are_done(&rt, alloc, cluster.frontend(), &mut session, &is_open);
         are_done_all = done == Ok(true);
         hand_in(&mut sessions, session);
     }

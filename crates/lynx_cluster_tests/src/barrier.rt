@@ -1,5 +1,5 @@
 //! A gate that holds one server back.
-use lynx_cluster::{Gate, Passage};
+use lynx_cluster::{Gate, StepKind};
 use lynx_names::{Memory, ServerId};
 use std::alloc::Global;
 use std::sync::Arc;
@@ -18,8 +18,8 @@ pub struct Barrier<R: Clock> {
 }
 
 impl<R: Clock> Gate for Barrier<R> {
-    fn enter(&self, server: ServerId, passage: Passage) {
-        if passage != Passage::Deliver || server.index() != 1 {
+    fn enter(&self, server: ServerId, step: StepKind) {
+        if step != StepKind::Deliver || server.index() != 1 {
             return;
         }
         for _ in 0..MOST_TURNS {
@@ -30,7 +30,7 @@ impl<R: Clock> Gate for Barrier<R> {
         }
     }
 
-    fn leave(&self, _server: ServerId, _passage: Passage) {}
+    fn leave(&self, _server: ServerId, _step: StepKind) {}
 }
 
 /// A barrier that isn't open, and its mark.

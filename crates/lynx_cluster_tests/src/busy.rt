@@ -3,7 +3,7 @@ use crate::barrier::make_barrier;
 use crate::keepers::empty;
 use crate::talk::{Asked, hand_in, is_explained, talk};
 use crate::trouble::Trouble;
-use lynx_cluster::{Cluster, Front, Gate, Session};
+use lynx_cluster::{Cluster, Frontend, Gate, Session};
 use lynx_fixtures::parts::{AnswerParts, RequestParts};
 use lynx_fixtures::texts::{TRIP, set_of};
 use lynx_keep::BatchKeeper;
@@ -66,16 +66,16 @@ const BACK: &[Asked] = &[
 fn talked<R: Wait + Clock, K: BatchKeeper, G: Gate>(
     rt: &R,
     alloc: Global,
-    front: &Front<K, G>,
+    frontend: &Frontend<K, G>,
     is_open: &AtomicBool,
 ) -> (Vec<Session>, bool) {
     let mut sessions = Vec::new(alloc);
-    let Some(mut session) = front.session(rt, alloc) else {
+    let Some(mut session) = frontend.session(rt, alloc) else {
         return (sessions, false);
     };
-    let is_busy = talk(rt, alloc, front, &mut session, WHILE_AWAY);
+    let is_busy = talk(rt, alloc, frontend, &mut session, WHILE_AWAY);
     is_open.store(true, Ordering::SeqCst);
-    let is_back = talk(rt, alloc, front, &mut session, BACK);
+    let is_back = talk(rt, alloc, frontend, &mut session, BACK);
     hand_in(&mut sessions, session);
     (sessions, is_busy && is_back)
 }
@@ -88,7 +88,7 @@ fn is_busy<
     let set = set_of(alloc, TRIP)?;
     let (gate, is_open) = make_barrier(rt, alloc)?;
     let cluster = Cluster::start(rt, alloc, &set, keepers, gate)?;
-    let (sessions, is_right) = talked(&rt, alloc, cluster.front(), &is_open);
+    let (sessions, is_right) = talked(&rt, alloc, cluster.frontend(), &is_open);
     let closed = cluster.close(&rt, alloc, sessions)?;
     Ok(is_right && is_explained(alloc, &closed.world, &[(0, 0), (0, 1)])?)
 }

@@ -3,7 +3,7 @@ use crate::keepers::{empty, failing};
 use crate::talk::{Asked, hand_in, talked};
 use crate::texts::PUTS;
 use crate::trouble::Trouble;
-use lynx_cluster::{CloseFault, Cluster, Front, Gate, OpenGate, Session};
+use lynx_cluster::{CloseFault, Cluster, Frontend, Gate, OpenGate, Session};
 use lynx_fixtures::made::{message, server};
 use lynx_fixtures::parts::{AnswerParts, RequestParts};
 use lynx_fixtures::payments::SENT;
@@ -68,7 +68,7 @@ fn fault_after<
 ) -> Result<(bool, Option<CloseFault>), Trouble> {
     let set = set_of(alloc, text)?;
     let cluster = Cluster::start(rt, alloc, &set, keepers, OpenGate)?;
-    let (sessions, is_right) = talked(&rt, alloc, cluster.front(), asked);
+    let (sessions, is_right) = talked(&rt, alloc, cluster.frontend(), asked);
     let fault = cluster.close(&rt, alloc, sessions).err();
     Ok((is_right, fault))
 }
@@ -117,11 +117,11 @@ fn a_hop_that_nobody_sent_is_a_mismatch(rt: HostRuntime) -> Result<(), Fail> {
 fn two_of_three<R: Wait, K: BatchKeeper, G: Gate>(
     rt: &R,
     alloc: Global,
-    front: &Front<K, G>,
+    frontend: &Frontend<K, G>,
 ) -> Vec<Session> {
     let mut sessions = Vec::new(alloc);
     for _ in 0..3 {
-        let Some(session) = front.session(rt, alloc) else {
+        let Some(session) = frontend.session(rt, alloc) else {
             continue;
         };
         if session.number() == 1 {
@@ -140,7 +140,7 @@ fn fault_without_second<
 >(rt: R, alloc: Global, keepers: Vec<K>) -> Result<Option<CloseFault>, Trouble> {
     let set = set_of(alloc, PUTS)?;
     let cluster = Cluster::start(rt, alloc, &set, keepers, OpenGate)?;
-    let sessions = two_of_three(&rt, alloc, cluster.front());
+    let sessions = two_of_three(&rt, alloc, cluster.frontend());
     Ok(cluster.close(&rt, alloc, sessions).err())
 }
 
@@ -157,12 +157,12 @@ fn a_session_that_is_abandoned_is_absent(rt: HostRuntime) -> Result<(), Fail> {
 fn stranger<
     R: Threads + Wait + Clock + Copy + Send + 'static,
     K: BatchKeeper + Send + Drop + 'static,
->(rt: R, alloc: Global, front: &Front<K, OpenGate>, keepers: Vec<K>) -> Vec<Session> {
-    let Ok(cluster) = Cluster::start(rt, alloc, front.set(), keepers, OpenGate) else {
+>(rt: R, alloc: Global, frontend: &Frontend<K, OpenGate>, keepers: Vec<K>) -> Vec<Session> {
+    let Ok(cluster) = Cluster::start(rt, alloc, frontend.set(), keepers, OpenGate) else {
         return Vec::new(alloc);
     };
     let asked = PUTS_AT_A_STOP.split_at(1).0;
-    let (sessions, _) = talked(&rt, alloc, cluster.front(), asked);
+    let (sessions, _) = talked(&rt, alloc, cluster.frontend(), asked);
     let _ = cluster.close(&rt, alloc, Vec::new(alloc));
     sessions
 }
@@ -174,7 +174,7 @@ fn fault_of_stranger<
 >(rt: R, alloc: Global, one: Vec<K>, other: Vec<K>) -> Result<Option<CloseFault>, Trouble> {
     let set = set_of(alloc, PUTS)?;
     let cluster = Cluster::start(rt, alloc, &set, one, OpenGate)?;
-    let strangers = stranger(rt, alloc, cluster.front(), other);
+    let strangers = stranger(rt, alloc, cluster.frontend(), other);
     Ok(cluster.close(&rt, alloc, strangers).err())
 }
 

@@ -1,5 +1,5 @@
 //! A gate that lets two threads meet inside two servers.
-use lynx_cluster::{Gate, Passage};
+use lynx_cluster::{Gate, StepKind};
 use lynx_names::{Memory, ServerId};
 use std::alloc::Global;
 use std::sync::Arc;
@@ -46,7 +46,7 @@ impl Marks {
 #[derive(Drop)]
 pub struct Crossing<R: Clock> {
     rt: R,
-    passage: Passage,
+    step: StepKind,
     marks: Arc<Marks>,
 }
 
@@ -54,13 +54,13 @@ pub struct Crossing<R: Clock> {
 pub fn make_crossing<R: Clock + Drop>(
     rt: R,
     alloc: Global,
-    passage: Passage,
+    step: StepKind,
 ) -> Result<(Crossing<R>, Arc<Marks>), Memory> {
     let marks = Arc::new(alloc, Marks::new())?;
     let theirs = Arc::try_clone(&marks)?;
     let gate = Crossing {
         rt,
-        passage,
+        step,
         marks: theirs,
     };
     Ok((gate, marks))
@@ -79,9 +79,9 @@ impl<R: Clock> Crossing<R> {
 }
 
 impl<R: Clock> Gate for Crossing<R> {
-    fn enter(&self, server: ServerId, passage: Passage) {
+    fn enter(&self, server: ServerId, step: StepKind) {
         let place = server.index();
-        if passage != self.passage || place >= 2 {
+        if step != self.step || place >= 2 {
             return;
         }
         let is_first = self.marks.first[place].swap(false, Ordering::SeqCst);
@@ -95,8 +95,8 @@ impl<R: Clock> Gate for Crossing<R> {
         }
     }
 
-    fn leave(&self, server: ServerId, passage: Passage) {
-        if passage == self.passage && server.index() == 1 {
+    fn leave(&self, server: ServerId, step: StepKind) {
+        if step == self.step && server.index() == 1 {
             self.marks.left.store(true, Ordering::SeqCst);
         }
     }

@@ -4,7 +4,7 @@ use lynx_fixtures::made::message;
 use lynx_fixtures::parts::MessageParts;
 use lynx_link::{Parcel, links};
 use lynx_names::{ChainId, Memory, ServerId};
-use lynx_worker::{Arrived, Due, Heard, Owed, Receipt, Served, Steps, Worker};
+use lynx_worker::{Acknowledgement, Arrived, Due, Handled, Heard, Owed, Steps, Worker};
 use std::alloc::Global;
 use std::collections::VecDeque;
 use std::sync::Wait;
@@ -29,8 +29,8 @@ pub struct Board {
     pub done: AtomicU64,
     /// How many messages came.
     pub came: AtomicU64,
-    /// How many receipts came.
-    pub receipts: AtomicU64,
+    /// How many acknowledgements came.
+    pub acknowledgements: AtomicU64,
 }
 
 impl Board {
@@ -43,7 +43,7 @@ impl Board {
             held: AtomicU64::new(0),
             done: AtomicU64::new(0),
             came: AtomicU64::new(0),
-            receipts: AtomicU64::new(0),
+            acknowledgements: AtomicU64::new(0),
         }
     }
 }
@@ -109,37 +109,41 @@ impl<'a> Fake<'a> {
     }
 
     /// What a parcel asks is done.
-    fn take(&self, arrived: Arrived, served: &mut Served) {
+    fn take(&self, arrived: Arrived, handled: &mut Handled) {
         let from = arrived.from;
-        served.is_busy = true;
+        handled.is_busy = true;
         match arrived.parcel {
             Parcel::Message(message) => {
                 let (to, chain, hop) = (from, message.chain, message.hop);
                 if self.deliver(chain.index) {
-                    let _ = served.receipts.push(Receipt { to, chain, hop });
+                    let _ = handled
+                        .acknowledgements
+                        .push(Acknowledgement { to, chain, hop });
                 }
             }
             Parcel::Done { chain, hop } => {
-                self.board.receipts.fetch_add(1, Ordering::SeqCst);
+                self.board.acknowledgements.fetch_add(1, Ordering::SeqCst);
                 if hop == 1 {
                     let (place, left) = (chain.index, !bit(chain.index));
                     self.board.owed.fetch_and(left, Ordering::SeqCst);
-                    let _ = served.heard.push(Heard { from, place });
+                    let _ = handled.heard.push(Heard { from, place });
                 }
             }
         }
     }
 
     /// The chains of server 0 that are held are done.
-    fn wake(&self, served: &mut Served) {
+    fn wake(&self, handled: &mut Handled) {
         let held = self.board.held.swap(0, Ordering::SeqCst);
         for index in 0..LEN {
             if held & bit(index) != 0 {
                 self.board.done.fetch_or(bit(index), Ordering::SeqCst);
                 let to = ServerId::first();
                 let chain = ChainId { origin: to, index };
-                let _ = served.receipts.push(Receipt { to, chain, hop: 1 });
-                served.is_busy = true;
+                let _ = handled
+                    .acknowledgements
+                    .push(Acknowledgement { to, chain, hop: 1 });
+                handled.is_busy = true;
             }
         }
     }
@@ -174,15 +178,15 @@ impl<'a> Steps for Fake<'a> {
         _rt: &R,
         alloc: Global,
         inbox: &mut VecDeque<Arrived>,
-    ) -> Served {
-        let mut served = Served::new(alloc);
-        self.wake(&mut served);
+    ) -> Handled {
+        let mut handled = Handled::new(alloc);
+        self.wake(&mut handled);
         for _ in 0..inbox.len() {
             if let Some(arrived) = inbox.pop_front() {
-                self.take(arrived, &mut served);
+                self.take(arrived, &mut handled);
             }
         }
-        served
+        handled
     }
 }
 

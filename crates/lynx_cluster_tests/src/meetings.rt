@@ -4,7 +4,7 @@ use crate::keepers::{began, empty};
 use crate::talk::{Asked, hand_in, is_explained, talk, talked, two_sessions};
 use crate::texts::{GO_AND_COME, PUTS};
 use crate::trouble::Trouble;
-use lynx_cluster::{Closed, Cluster, Front, Gate, Passage, Session};
+use lynx_cluster::{Closed, Cluster, Frontend, Gate, Session, StepKind};
 use lynx_fixtures::cells::are_cells;
 use lynx_fixtures::made::server;
 use lynx_fixtures::parts::{AnswerParts, RequestParts};
@@ -73,17 +73,17 @@ fn both_begin<
     R: Threads + Wait + Clock + Sync,
     K: BatchKeeper + Send + Drop,
     G: Gate + Send + Sync + Drop,
->(rt: &R, alloc: Global, front: &Front<K, G>) -> (Vec<Session>, bool) {
+>(rt: &R, alloc: Global, frontend: &Frontend<K, G>) -> (Vec<Session>, bool) {
     let mut sessions = Vec::new(alloc);
-    let Some((mut first, mut second)) = two_sessions(rt, alloc, front) else {
+    let Some((mut first, mut second)) = two_sessions(rt, alloc, frontend) else {
         return (sessions, false);
     };
     let (left, right) = thread::join(
         rt,
-        || talk(rt, alloc, front, &mut first, AT_FIRST),
-        || talk(rt, alloc, front, &mut second, AT_SECOND),
+        || talk(rt, alloc, frontend, &mut first, AT_FIRST),
+        || talk(rt, alloc, frontend, &mut second, AT_SECOND),
     );
-    let is_right = left && right && talk(rt, alloc, front, &mut first, AFTERWARDS);
+    let is_right = left && right && talk(rt, alloc, frontend, &mut first, AFTERWARDS);
     hand_in(&mut sessions, first);
     hand_in(&mut sessions, second);
     (sessions, is_right)
@@ -96,9 +96,9 @@ fn begins_meet<
     K: BatchKeeper + Send + Drop + 'static,
 >(rt: R, alloc: Global, keepers: Vec<K>) -> Result<bool, Trouble> {
     let set = set_of(alloc, PUTS)?;
-    let (gate, marks) = make_crossing(rt, alloc, Passage::Begin)?;
+    let (gate, marks) = make_crossing(rt, alloc, StepKind::Begin)?;
     let cluster = Cluster::start(rt, alloc, &set, keepers, gate)?;
-    let (sessions, is_right) = both_begin(&rt, alloc, cluster.front());
+    let (sessions, is_right) = both_begin(&rt, alloc, cluster.frontend());
     let closed = cluster.close(&rt, alloc, sessions)?;
     let order = &[(0, 0), (1, 0), (0, 1)];
     Ok(is_right && marks.have_met() && is_explained(alloc, &closed.world, order)?)
@@ -160,9 +160,9 @@ fn deliveries_meet<
     K: BatchKeeper + Send + Drop + 'static,
 >(rt: R, alloc: Global, keepers: Vec<K>) -> Result<bool, Trouble> {
     let set = set_of(alloc, GO_AND_COME)?;
-    let (gate, marks) = make_crossing(rt, alloc, Passage::Deliver)?;
+    let (gate, marks) = make_crossing(rt, alloc, StepKind::Deliver)?;
     let cluster = Cluster::start(rt, alloc, &set, keepers, gate)?;
-    let (sessions, is_right) = talked(&rt, alloc, cluster.front(), ARRIVALS);
+    let (sessions, is_right) = talked(&rt, alloc, cluster.frontend(), ARRIVALS);
     let closed = cluster.close(&rt, alloc, sessions)?;
     Ok(is_right && marks.have_met() && have_crossed(alloc, &closed)?)
 }

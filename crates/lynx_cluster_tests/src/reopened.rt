@@ -3,7 +3,7 @@ use crate::keepers::empty;
 use crate::sessions::TRIPS;
 use crate::talk::talked;
 use crate::trouble::Trouble;
-use lynx_cluster::{Cluster, Gate, OpenGate, Passage};
+use lynx_cluster::{Cluster, Gate, OpenGate, StepKind};
 use lynx_entry::Delivered;
 use lynx_fixtures::texts::set_of;
 use lynx_keep::MemoryKeeper;
@@ -22,9 +22,9 @@ struct Counting {
 }
 
 impl Gate for Counting {
-    fn enter(&self, _server: ServerId, _passage: Passage) {}
+    fn enter(&self, _server: ServerId, _step: StepKind) {}
 
-    fn leave(&self, _server: ServerId, _passage: Passage) {}
+    fn leave(&self, _server: ServerId, _step: StepKind) {}
 
     fn delivered(&self, _server: ServerId, _delivered: &Delivered, _since: Option<Instant>) {
         self.deliveries.fetch_add(1, Ordering::SeqCst);
@@ -39,7 +39,7 @@ fn keepers_after_trip<R: Threads + Wait + Clock + Copy + Send + 'static>(
     let set = set_of(alloc, TRIPS.set)?;
     let keepers = empty(alloc, set.servers())?;
     let cluster = Cluster::start(rt, alloc, &set, keepers, OpenGate)?;
-    let (sessions, _) = talked(&rt, alloc, cluster.front(), &TRIPS.asked[..2]);
+    let (sessions, _) = talked(&rt, alloc, cluster.frontend(), &TRIPS.asked[..2]);
     Ok(cluster.close(&rt, alloc, sessions)?.keepers)
 }
 

@@ -143,7 +143,7 @@ fn is_met<
 >(rt: R, alloc: Global, row: Row, keepers: Vec<K>) -> Result<bool, Trouble> {
     let set = set_of(alloc, row.set)?;
     let cluster = Cluster::start(rt, alloc, &set, keepers, OpenGate)?;
-    let (sessions, is_right) = talked(&rt, alloc, cluster.front(), row.asked);
+    let (sessions, is_right) = talked(&rt, alloc, cluster.frontend(), row.asked);
     let closed = cluster.close(&rt, alloc, sessions)?;
     Ok(is_right && is_explained(alloc, &closed.world, row.order)?)
 }

@@ -3,7 +3,7 @@ use crate::keepers::failing;
 use crate::talk::{hand_in, two_sessions};
 use crate::texts::PUTS;
 use crate::trouble::Trouble;
-use lynx_cluster::{CloseFault, Cluster, Front, Gate, OpenGate, Session};
+use lynx_cluster::{CloseFault, Cluster, Frontend, Gate, OpenGate, Session};
 use lynx_codec::Looked;
 use lynx_entry::Answer;
 use lynx_fixtures::made::{chain, request};
@@ -28,7 +28,7 @@ const SETTLINGS: u64 = 40;
 fn begin_on<R: Wait + Clock, K: BatchKeeper, G: Gate>(
     rt: &R,
     alloc: Global,
-    front: &Front<K, G>,
+    frontend: &Frontend<K, G>,
     session: &mut Session,
     client: u64,
 ) -> Result<(u64, bool), Memory> {
@@ -39,7 +39,7 @@ fn begin_on<R: Wait + Clock, K: BatchKeeper, G: Gate>(
             program: 0,
             args: &[7],
         };
-        match front.begin(rt, alloc, session, request(alloc, parts)?) {
+        match frontend.begin(rt, alloc, session, request(alloc, parts)?) {
             Answer::Begun { .. } => {}
             answer => return Ok((number.saturating_sub(1), answer == Answer::Stopped)),
         }
@@ -56,14 +56,14 @@ fn begin_both<
 >(
     rt: &R,
     alloc: Global,
-    front: &Front<K, G>,
+    frontend: &Frontend<K, G>,
     one: &mut Session,
     other: &mut Session,
 ) -> Result<(u64, bool, bool), Memory> {
     let (first, second) = thread::join(
         rt,
-        || begin_on(rt, alloc, front, one, 1),
-        || begin_on(rt, alloc, front, other, 2),
+        || begin_on(rt, alloc, frontend, one, 1),
+        || begin_on(rt, alloc, frontend, other, 2),
     );
     let (first, second) = (first?, second?);
     let told = first.0.saturating_add(second.0);
@@ -74,17 +74,17 @@ fn begin_both<
 fn shows<R: Wait, K: BatchKeeper, G: Gate>(
     rt: &R,
     alloc: Global,
-    front: &Front<K, G>,
+    frontend: &Frontend<K, G>,
     session: &mut Session,
     told: u64,
     has_stopped: bool,
 ) -> Result<bool, Memory> {
-    let Some(glance) = front.glance(rt, ServerId::first()) else {
+    let Some(glance) = frontend.glance(rt, ServerId::first()) else {
         return Ok(false);
     };
-    let next = front.look(rt, alloc, session, chain(0, told)?, 0)?;
+    let next = frontend.look(rt, alloc, session, chain(0, told)?, 0)?;
     let last = match told.checked_sub(1) {
-        Some(last) => front.look(rt, alloc, session, chain(0, last)?, 0)?,
+        Some(last) => frontend.look(rt, alloc, session, chain(0, last)?, 0)?,
         None => Looked::Absent,
     };
     Ok(
@@ -101,16 +101,16 @@ fn both_told<
     R: Threads + Wait + Clock + Sync,
     K: BatchKeeper + Send + Drop,
     G: Gate + Send + Sync + Drop,
->(rt: &R, alloc: Global, front: &Front<K, G>, stops: bool) -> (Vec<Session>, bool) {
+>(rt: &R, alloc: Global, frontend: &Frontend<K, G>, stops: bool) -> (Vec<Session>, bool) {
     let mut sessions = Vec::new(alloc);
-    let Some((mut one, mut other)) = two_sessions(rt, alloc, front) else {
+    let Some((mut one, mut other)) = two_sessions(rt, alloc, frontend) else {
         return (sessions, false);
     };
-    let is_right = match begin_both(rt, alloc, front, &mut one, &mut other) {
+    let is_right = match begin_both(rt, alloc, frontend, &mut one, &mut other) {
         Ok((told, first, second)) => {
             first == stops
                 && second == stops
-                && shows(rt, alloc, front, &mut one, told, stops) == Ok(true)
+                && shows(rt, alloc, frontend, &mut one, told, stops) == Ok(true)
         }
         Err(Memory) => false,
     };
@@ -130,7 +130,7 @@ fn is_kept<R: Threads + Wait + Clock + Copy + Send + Sync + 'static>(
     let set = set_of(alloc, PUTS)?;
     let keepers = failing(alloc, 2, 0, SETTLINGS, planned)?;
     let cluster = Cluster::start(rt, alloc, &set, keepers, OpenGate)?;
-    let (sessions, is_right) = both_told(&rt, alloc, cluster.front(), stops);
+    let (sessions, is_right) = both_told(&rt, alloc, cluster.frontend(), stops);
     let fault = cluster.close(&rt, alloc, sessions).err();
     let stopped = CloseFault::Stopped {
         server: ServerId::first(),

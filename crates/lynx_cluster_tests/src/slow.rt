@@ -45,6 +45,8 @@ impl<R: Clock> Keeper for SlowKeeper<R> {
       leaves = λ keeper one other. (keeper.inner ≡ one) ⊎ (keeper.inner ≡ other);
       counted = λ _. 0;
       rests = λ keeper settled kept. Unit {0};
+      Owner = Unit {0};
+      owner = λ _. tt;
     } };
 
     fn commit(&mut self, alloc: Global, entry: &Entry, changes: &Changes) -> Result<(), KeepFault> {

@@ -1,6 +1,6 @@
 //! What a session asks, and is to be told.
 use crate::trouble::Trouble;
-use lynx_cluster::{Front, Gate, Session};
+use lynx_cluster::{Frontend, Gate, Session};
 use lynx_codec::Looked;
 use lynx_fixtures::made::{answer, chain, request, stamp, values};
 use lynx_fixtures::parts::{AnswerParts, RequestParts};
@@ -41,13 +41,13 @@ pub enum Asked {
 fn found<R: Wait + Clock, K: BatchKeeper, G: Gate>(
     rt: &R,
     alloc: Global,
-    front: &Front<K, G>,
+    frontend: &Frontend<K, G>,
     session: &mut Session,
     chain: &ChainId,
     hop: u8,
 ) -> Result<Looked, Memory> {
     for _ in 0..MOST_LOOKS {
-        let looked = front.look(rt, alloc, session, *chain, hop)?;
+        let looked = frontend.look(rt, alloc, session, *chain, hop)?;
         if looked != Looked::Absent {
             return Ok(looked);
         }
@@ -60,13 +60,13 @@ fn found<R: Wait + Clock, K: BatchKeeper, G: Gate>(
 fn is_told<R: Wait + Clock, K: BatchKeeper, G: Gate>(
     rt: &R,
     alloc: Global,
-    front: &Front<K, G>,
+    frontend: &Frontend<K, G>,
     session: &mut Session,
     asked: Asked,
 ) -> Result<bool, Memory> {
     match asked {
         Asked::Begin(parts, want) => {
-            let told = front.begin(rt, alloc, session, request(alloc, parts)?);
+            let told = frontend.begin(rt, alloc, session, request(alloc, parts)?);
             Ok(told == answer(alloc, want)?)
         }
         Asked::Find {
@@ -76,7 +76,7 @@ fn is_told<R: Wait + Clock, K: BatchKeeper, G: Gate>(
             results,
         } => {
             let sought = chain(origin, index)?;
-            let told = found(rt, alloc, front, session, &sought, hop)?;
+            let told = found(rt, alloc, frontend, session, &sought, hop)?;
             let (stamp, results) = (stamp(time)?, values(alloc, results)?);
             Ok(told == Looked::Found { stamp, results })
         }
@@ -84,7 +84,7 @@ fn is_told<R: Wait + Clock, K: BatchKeeper, G: Gate>(
             chain: (origin, index),
             hop,
         } => {
-            let told = front.look(rt, alloc, session, chain(origin, index)?, hop)?;
+            let told = frontend.look(rt, alloc, session, chain(origin, index)?, hop)?;
             Ok(told == Looked::Absent)
         }
     }
@@ -94,12 +94,12 @@ fn is_told<R: Wait + Clock, K: BatchKeeper, G: Gate>(
 pub fn talk<R: Wait + Clock, K: BatchKeeper, G: Gate>(
     rt: &R,
     alloc: Global,
-    front: &Front<K, G>,
+    frontend: &Frontend<K, G>,
     session: &mut Session,
     asked: &[Asked],
 ) -> bool {
     for asked in asked {
-        if is_told(rt, alloc, front, session, *asked) != Ok(true) {
+        if is_told(rt, alloc, frontend, session, *asked) != Ok(true) {
             return false;
         }
     }
@@ -118,10 +118,10 @@ pub fn hand_in(sessions: &mut Vec<Session>, session: Session) {
 pub fn two_sessions<R: Wait, K: BatchKeeper, G: Gate>(
     rt: &R,
     alloc: Global,
-    front: &Front<K, G>,
+    frontend: &Frontend<K, G>,
 ) -> Option<(Session, Session)> {
-    let first = front.session(rt, alloc)?;
-    let Some(second) = front.session(rt, alloc) else {
+    let first = frontend.session(rt, alloc)?;
+    let Some(second) = frontend.session(rt, alloc) else {
         first.abandon();
         return None;
     };
@@ -132,14 +132,14 @@ pub fn two_sessions<R: Wait, K: BatchKeeper, G: Gate>(
 pub fn talked<R: Wait + Clock, K: BatchKeeper, G: Gate>(
     rt: &R,
     alloc: Global,
-    front: &Front<K, G>,
+    frontend: &Frontend<K, G>,
     asked: &[Asked],
 ) -> (Vec<Session>, bool) {
     let mut sessions = Vec::new(alloc);
-    let Some(mut session) = front.session(rt, alloc) else {
+    let Some(mut session) = frontend.session(rt, alloc) else {
         return (sessions, false);
     };
-    let is_right = talk(rt, alloc, front, &mut session, asked);
+    let is_right = talk(rt, alloc, frontend, &mut session, asked);
     hand_in(&mut sessions, session);
     (sessions, is_right)
 }

@@ -3,7 +3,7 @@ use crate::keepers::failing;
 use crate::talk::hand_in;
 use crate::texts::PUTS;
 use crate::trouble::Trouble;
-use lynx_cluster::{CloseFault, Cluster, Front, Gate, OpenGate, Opened, Pace, Session};
+use lynx_cluster::{CloseFault, Cluster, Frontend, Gate, OpenGate, Opened, Pace, Session};
 use lynx_fixtures::made::{answer, request};
 use lynx_fixtures::parts::{AnswerParts, RequestParts};
 use lynx_fixtures::texts::set_of;
@@ -214,7 +214,7 @@ const ROWS: &[Row] = &[
 fn is_told<R: Wait + Clock, K: BatchKeeper, G: Gate>(
     rt: &R,
     alloc: Global,
-    front: &Front<K, G>,
+    frontend: &Frontend<K, G>,
     session: &mut Session,
     row: Row,
 ) -> Result<bool, Memory> {
@@ -223,12 +223,12 @@ fn is_told<R: Wait + Clock, K: BatchKeeper, G: Gate>(
         requests.push(request(alloc, *asked)?)?;
     }
     let mut answers = Vec::with_capacity(alloc, requests.len())?;
-    front.begin_all(rt, alloc, session, requests, &mut answers);
+    frontend.begin_all(rt, alloc, session, requests, &mut answers);
     let mut wanted = Vec::new(alloc);
     for parts in row.answers {
         wanted.push(answer(alloc, *parts)?)?;
     }
-    let entries = front
+    let entries = frontend
         .glance(rt, ServerId::first())
         .map(|glance| glance.entries);
     Ok(answers == wanted && entries == Some(row.entries))
@@ -247,7 +247,7 @@ fn is_met<R: Threads + Wait + Clock + Copy + Send + Sync + 'static>(
     let mut sessions = Vec::new(alloc);
     let mut is_right = false;
     if let Some(mut session) = cluster.session(&rt, alloc) {
-        let told = is_told(&rt, alloc, cluster.front(), &mut session, row);
+        let told = is_told(&rt, alloc, cluster.frontend(), &mut session, row);
         is_right = told == Ok(true);
         hand_in(&mut sessions, session);
     }

@@ -4,7 +4,7 @@ use crate::slow::{SlowKeeper, slow_keeper};
 use crate::talk::hand_in;
 use crate::texts::PURSES;
 use crate::trouble::Trouble;
-use lynx_cluster::{Cluster, Front, Gate, Session};
+use lynx_cluster::{Cluster, Frontend, Gate, Session};
 use lynx_entry::Answer;
 use lynx_fixtures::made::request;
 use lynx_fixtures::parts::RequestParts;
@@ -51,7 +51,7 @@ struct Call {
 fn begins<R: Wait + Clock, K: BatchKeeper, G: Gate>(
     rt: &R,
     alloc: Global,
-    front: &Front<K, G>,
+    frontend: &Frontend<K, G>,
     session: &mut Session,
     number: u64,
     call: Call,
@@ -62,7 +62,7 @@ fn begins<R: Wait + Clock, K: BatchKeeper, G: Gate>(
         program: call.program,
         args: call.args,
     };
-    let answer = front.begin(rt, alloc, session, request(alloc, parts)?);
+    let answer = frontend.begin(rt, alloc, session, request(alloc, parts)?);
     Ok(matches!(answer, Answer::Begun { .. }))
 }
 
@@ -71,7 +71,7 @@ fn begins<R: Wait + Clock, K: BatchKeeper, G: Gate>(
 fn send_ahead<R: Wait + Clock, K: BatchKeeper, G: Gate>(
     rt: &R,
     alloc: Global,
-    front: &Front<K, G>,
+    frontend: &Frontend<K, G>,
     session: &mut Session,
 ) -> Result<bool, Memory> {
     let seed = Call {
@@ -86,10 +86,10 @@ fn send_ahead<R: Wait + Clock, K: BatchKeeper, G: Gate>(
         program: NEAR,
         args: &[1],
     };
-    let mut have_begun = begins(rt, alloc, front, session, 0, seed)?
-        && begins(rt, alloc, front, session, 1, far)?;
+    let mut have_begun = begins(rt, alloc, frontend, session, 0, seed)?
+        && begins(rt, alloc, frontend, session, 1, far)?;
     for number in 0..HELD {
-        have_begun = have_begun && begins(rt, alloc, front, session, 2 + number, near)?;
+        have_begun = have_begun && begins(rt, alloc, frontend, session, 2 + number, near)?;
     }
     Ok(have_begun)
 }
@@ -98,7 +98,7 @@ fn send_ahead<R: Wait + Clock, K: BatchKeeper, G: Gate>(
 fn most_commits<R: Wait + Clock, K: BatchKeeper, G: Gate>(
     rt: &R,
     alloc: Global,
-    front: &Front<K, G>,
+    frontend: &Frontend<K, G>,
     session: &mut Session,
     commits: &AtomicU64,
 ) -> Result<Option<u64>, Memory> {
@@ -109,7 +109,7 @@ fn most_commits<R: Wait + Clock, K: BatchKeeper, G: Gate>(
     let mut most: u64 = 0;
     for number in 0..BEGINS {
         let before = commits.load(Ordering::SeqCst);
-        if !begins(rt, alloc, front, session, 1_000 + number, call)? {
+        if !begins(rt, alloc, frontend, session, 1_000 + number, call)? {
             return Ok(None);
         }
         let after = commits.load(Ordering::SeqCst);
@@ -124,12 +124,12 @@ fn most_commits<R: Wait + Clock, K: BatchKeeper, G: Gate>(
 fn is_short<R: Wait + Clock, K: BatchKeeper, G: Gate>(
     rt: &R,
     alloc: Global,
-    front: &Front<K, G>,
+    frontend: &Frontend<K, G>,
     session: &mut Session,
     is_open: &AtomicBool,
     commits: &AtomicU64,
 ) -> Result<bool, Memory> {
-    let have_begun = send_ahead(rt, alloc, front, session)?;
+    let have_begun = send_ahead(rt, alloc, frontend, session)?;
     is_open.store(true, Ordering::SeqCst);
     for _ in 0..1_000 {
         if commits.load(Ordering::SeqCst) > 2 {
@@ -137,7 +137,7 @@ fn is_short<R: Wait + Clock, K: BatchKeeper, G: Gate>(
         }
         thread::sleep(rt, Duration::from_millis(1));
     }
-    match most_commits(rt, alloc, front, session, commits)? {
+    match most_commits(rt, alloc, frontend, session, commits)? {
         Some(most) => Ok(have_begun && most <= MOST_COMMITS),
         None => Ok(false),
     }
@@ -175,7 +175,7 @@ fn take_turns<R: Threads + Wait + Clock + Copy + Drop + Send + Sync + 'static>(
         let short = is_short(
             &rt,
             alloc,
-            cluster.front(),
+            cluster.frontend(),
             &mut session,
             &is_open,
             &commits,

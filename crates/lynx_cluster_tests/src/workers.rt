@@ -24,11 +24,11 @@ fn first_turns<R: Wait + Clock>(rt: &R, alloc: Global) -> Result<(Turns, u64, u6
     let (payer, payee) = (Board::owing(0b111), Board::owing(0));
     let (mut sender, mut receiver) = workers(alloc, &payer, &payee)?;
     let turns = Turns {
-        sends: sender.turn(rt, alloc),
-        delivers: receiver.turn(rt, alloc),
-        hears: sender.turn(rt, alloc),
-        sends_more: sender.turn(rt, alloc),
-        delivers_more: receiver.turn(rt, alloc),
+        sends: sender.pass(rt, alloc),
+        delivers: receiver.pass(rt, alloc),
+        hears: sender.pass(rt, alloc),
+        sends_more: sender.pass(rt, alloc),
+        delivers_more: receiver.pass(rt, alloc),
     };
     let done = payee.done.load(Ordering::SeqCst);
     Ok((turns, done, payer.owed.load(Ordering::SeqCst)))
@@ -54,8 +54,8 @@ fn turn_both<R: Wait + Clock>(
     receiver: &mut Worker<Fake<'_>>,
 ) {
     thread::sleep(rt, Duration::from_millis(10));
-    sender.turn(rt, alloc);
-    receiver.turn(rt, alloc);
+    sender.pass(rt, alloc);
+    receiver.pass(rt, alloc);
 }
 
 /// Which messages of four were done first, where the receiver drops the first one, and which after
@@ -123,9 +123,9 @@ fn owed_around_wake<R: Wait + Clock>(rt: &R, alloc: Global) -> Result<(u64, u64)
     let (payer, payee) = (Board::owing(0b10_0000), Board::owing(0));
     payee.held.store(0b10_0000, Ordering::SeqCst);
     let (mut sender, mut receiver) = workers(alloc, &payer, &payee)?;
-    receiver.turn(rt, alloc);
+    receiver.pass(rt, alloc);
     let first = payer.owed.load(Ordering::SeqCst);
-    sender.turn(rt, alloc);
+    sender.pass(rt, alloc);
     Ok((first, payer.owed.load(Ordering::SeqCst)))
 }
 
@@ -134,23 +134,26 @@ fn what_is_woken_is_acknowledged(rt: HostRuntime) {
     assert!(rt; owed_around_wake(&rt, rt.alloc()) == Ok((0b10_0000, 0)));
 }
 
-/// How many receipts come of five times 64 hops, all of which are done before one receipt is taken
-/// out of the ring: it has room for 256.
-fn receipts_behind_full_ring<R: Wait + Clock>(rt: &R, alloc: Global) -> Result<u64, Memory> {
+/// How many acknowledgements come of five times 64 hops, all of which are done before one
+/// acknowledgement is taken out of the ring: it has room for 256.
+fn acknowledgements_behind_full_ring<R: Wait + Clock>(
+    rt: &R,
+    alloc: Global,
+) -> Result<u64, Memory> {
     let (payer, payee) = (Board::owing(0), Board::owing(0));
     let (mut sender, mut receiver) = workers(alloc, &payer, &payee)?;
     for _ in 0..5 {
         payee.held.store(u64::MAX, Ordering::SeqCst);
-        receiver.turn(rt, alloc);
+        receiver.pass(rt, alloc);
     }
     for _ in 0..8 {
-        sender.turn(rt, alloc);
-        receiver.turn(rt, alloc);
+        sender.pass(rt, alloc);
+        receiver.pass(rt, alloc);
     }
-    Ok(payer.receipts.load(Ordering::SeqCst))
+    Ok(payer.acknowledgements.load(Ordering::SeqCst))
 }
 
 #[test]
-fn receipts_wait_for_room(rt: HostRuntime) {
-    assert!(rt; receipts_behind_full_ring(&rt, rt.alloc()) == Ok(320));
+fn acknowledgements_wait_for_room(rt: HostRuntime) {
+    assert!(rt; acknowledgements_behind_full_ring(&rt, rt.alloc()) == Ok(320));
 }

@@ -8,7 +8,7 @@ use Rattle.lynx_codec.specs.declared.fault.DecodeFault.{DecodeFault}
 use Rattle.lynx_codec.specs.declared.fault.DecodeFault.TheVariants as faults
 use Rattle.lynx_codec.specs.contracts.fault.DecodeFault.{the_type}
 use Rattle.lynx_codec.specs.declared.item.Item.{Item}
-use Rattle.lynx_codec.specs.Form.{form}
+use Rattle.lynx_codec.specs.Encoding.{encoding}
 use Rattle.lynx_codec.specs.Ranges.{IsItem}
 use Rattle.lynx_codec.specs.Reading.{Fails}
 use Rattle.lynx_codec.specs.Front.{Found, front}
@@ -17,9 +17,9 @@ use Rattle.lynx_codec.proofs.Codec.{IsBytes}
 use Rattle.lynx_codec.proofs.Ranges.{is_in_range}
 use Rattle.lynx_codec.proofs.Fronts.{whole_is, front_takes, front_again, front_faulty, front_stays}
 
--- no form of an item begins another's
-pub no_form_begins_another : (a b : Item) (x y : List ℕ) → IsItem a → IsItem b → form a ++ x ≡ form b ++ y → (a ≡ b) × (x ≡ y)
-no_form_begins_another a b x y fits_a fits_b e = whole_is a b x y (sym (front_again a x fits_a) ∙ ap front e ∙ front_again b y fits_b)
+-- no encoding of an item begins another's
+pub no_encoding_begins_another : (a b : Item) (x y : List ℕ) → IsItem a → IsItem b → encoding a ++ x ≡ encoding b ++ y → (a ≡ b) × (x ≡ y)
+no_encoding_begins_another a b x y fits_a fits_b e = whole_is a b x y (sym (front_again a x fits_a) ∙ ap front e ∙ front_again b y fits_b)
 
 pub nothing_yet-begins_none : (bytes : List ℕ) → front bytes ≡ Ok None → BeginsNoItem bytes
 nothing_yet-begins_none bytes e item more fits is =
@@ -35,7 +35,7 @@ pub found : (bytes : List ℕ) (r : Result (Option (Item × ℕ)) DecodeFault) �
 found bytes (Ok None) fits is within = tt
 found bytes (Ok (Some f)) fits is within =
     let taken = front_takes bytes f.0 (drop f.1 bytes) fits is in
-    record { within = within; form_stands = taken.0; is_item = taken.1 }
+    record { within = within; encoding_stands = taken.0; is_item = taken.1 }
 found bytes (Err fault) fits is within = tt
 
 pub waits : (s : Stream) (bytes : List ℕ) → bytes ≡ s.rest → s.failed ≡ None → front bytes ≡ Ok None → Waits s s
@@ -48,7 +48,7 @@ pub gives : (s : Stream) (bytes all : List ℕ) (given size : ℕ) (item : Item)
 gives s bytes all given size item failed same is was_open stays_open f =
     let left : drop size bytes ≡ drop (given + size) all = ap (drop size) (same ∙ sym is) ∙ drop-drop size given all in
     record {
-      form_stood = sym same ∙ f.form_stands ∙ ap (λ (z : List ℕ). form item ++ z) left;
+      encoding_stood = sym same ∙ f.encoding_stands ∙ ap (λ (z : List ℕ). encoding item ++ z) left;
       is_item = f.is_item;
       in_range = is_in_range item f.is_item;
       was_open = was_open;
@@ -105,10 +105,10 @@ failed-faults s fault e failing =
 
 -- what is whole is given
 pub only : (s new : Stream) (r : Result (Option Item) DecodeFault) → IfOk r (λ o. IfSome o (λ item. Gives s item new)) → IfOk r (λ o. IfNone o (Waits s new)) → IfErr r (Faults s new)
-    → (item : Item) (more : List ℕ) → IsItem item → s.rest ≡ form item ++ more → (r ≡ Ok (Some item)) ⊎ (r ≡ Err faults.Memory)
+    → (item : Item) (more : List ℕ) → IsItem item → s.rest ≡ encoding item ++ more → (r ≡ Ok (Some item)) ⊎ (r ≡ Err faults.Memory)
 only s new (Ok None) given waits fault item more fits is = absurd (waits.no_item item more fits is)
 only s new (Ok (Some other)) given waits fault item more fits is =
-    let same = no_form_begins_another other item new.rest more given.is_item fits (sym given.form_stood ∙ is) in
+    let same = no_encoding_begins_another other item new.rest more given.is_item fits (sym given.encoding_stood ∙ is) in
     inl (ap (λ (i : Item). Ok (Some i)) same.0)
 only s new (Err faults.Memory) given waits fault item more fits is = inr refl
 only s new (Err faults.Short) given waits fault item more fits is = absurd fault
@@ -129,21 +129,21 @@ added-kept all more given (Some fault) kept =
 
 -- a stream is read in one way
 pub one_reading : (ours theirs : List Item) (x y : List ℕ) → AllByRecursion IsItem ours → AllByRecursion IsItem theirs → BeginsNoItem x → BeginsNoItem y
-    → flat_map form ours ++ x ≡ flat_map form theirs ++ y → (ours ≡ theirs) × (x ≡ y)
+    → flat_map encoding ours ++ x ≡ flat_map encoding theirs ++ y → (ours ≡ theirs) × (x ≡ y)
 one_reading [] [] x y fits_ours fits_theirs x_none y_none e = (refl, e)
 one_reading [] (b ∷ theirs) x y fits_ours fits_theirs x_none y_none e =
-    absurd (x_none b (flat_map form theirs ++ y) fits_theirs.0 (e ∙ append_assoc (form b) (flat_map form theirs) y))
+    absurd (x_none b (flat_map encoding theirs ++ y) fits_theirs.0 (e ∙ append_assoc (encoding b) (flat_map encoding theirs) y))
 one_reading (a ∷ ours) [] x y fits_ours fits_theirs x_none y_none e =
-    absurd (y_none a (flat_map form ours ++ x) fits_ours.0 (sym e ∙ append_assoc (form a) (flat_map form ours) x))
+    absurd (y_none a (flat_map encoding ours ++ x) fits_ours.0 (sym e ∙ append_assoc (encoding a) (flat_map encoding ours) x))
 one_reading (a ∷ ours) (b ∷ theirs) x y fits_ours fits_theirs x_none y_none e =
-    let split : form a ++ (flat_map form ours ++ x) ≡ form b ++ (flat_map form theirs ++ y) = sym (append_assoc (form a) (flat_map form ours) x) ∙ e ∙ append_assoc (form b) (flat_map form theirs) y in
-    let first = no_form_begins_another a b (flat_map form ours ++ x) (flat_map form theirs ++ y) fits_ours.0 fits_theirs.0 split in
+    let split : encoding a ++ (flat_map encoding ours ++ x) ≡ encoding b ++ (flat_map encoding theirs ++ y) = sym (append_assoc (encoding a) (flat_map encoding ours) x) ∙ e ∙ append_assoc (encoding b) (flat_map encoding theirs) y in
+    let first = no_encoding_begins_another a b (flat_map encoding ours ++ x) (flat_map encoding theirs ++ y) fits_ours.0 fits_theirs.0 split in
     let others = one_reading ours theirs x y fits_ours.1 fits_theirs.1 x_none y_none first.1 in
     (ap (λ (i : Item). i ∷ ours) first.0 ∙ ap (λ (is : List Item). b ∷ is) others.0, others.1)
 
--- an item is read from its form, and from nothing else
-pub read_from_form : (bytes : List ℕ) (item : Item) (rest : List ℕ) → IsBytes bytes → (front bytes ≡ Ok (Some (item, rest))) ↔ (IsItem item × (bytes ≡ form item ++ rest))
-read_from_form bytes item rest fits = (
+-- an item is read from its encoding, and from nothing else
+pub read_from_encoding : (bytes : List ℕ) (item : Item) (rest : List ℕ) → IsBytes bytes → (front bytes ≡ Ok (Some (item, rest))) ↔ (IsItem item × (bytes ≡ encoding item ++ rest))
+read_from_encoding bytes item rest fits = (
   (λ e. let taken = front_takes bytes item rest fits e in (taken.1, taken.0)),
   (λ h. ap front h.1 ∙ front_again item rest h.0),
 )
@@ -152,10 +152,10 @@ none_of_both : (r rest : List ℕ) → (rest ≡ [] → ⊥) → [] ≡ r ++ res
 none_of_both [] rest some e = some (sym e)
 none_of_both (x ∷ r) rest some e = absurd cc
 
--- a form without its end is no fault
-pub cut_form_waits : (item : Item) (begun rest : List ℕ) → IsItem item → IsBytes begun → (rest ≡ [] → ⊥) → form item ≡ begun ++ rest → front begun ≡ Ok None
-cut_form_waits item begun rest is_item fits some e =
-    let whole_stands : front (begun ++ rest) ≡ Ok (Some (item, [])) = ap front (sym e ∙ sym (append-nil (form item))) ∙ front_again item [] is_item in
+-- an encoding without its end is no fault
+pub cut_encoding_waits : (item : Item) (begun rest : List ℕ) → IsItem item → IsBytes begun → (rest ≡ [] → ⊥) → encoding item ≡ begun ++ rest → front begun ≡ Ok None
+cut_encoding_waits item begun rest is_item fits some e =
+    let whole_stands : front (begun ++ rest) ≡ Ok (Some (item, [])) = ap front (sym e ∙ sym (append-nil (encoding item))) ∙ front_again item [] is_item in
     let P : Found → Type 0 = λ f. front begun ≡ f → f ≡ Ok None in
     elim (front begun) as P [
       | Err fault ↦ λ is. let no = sym (front_stays begun rest fault is) ∙ whole_stands in absurd cc
@@ -166,8 +166,8 @@ cut_form_waits item begun rest is_item fits some e =
             | None ↦ λ is. refl
             | Some other ↦ λ is.
                 let taken = front_takes begun other.0 other.1 fits is in
-                let split : form item ++ [] ≡ form other.0 ++ (other.1 ++ rest) = append-nil (form item) ∙ e ∙ ap (λ (z : List ℕ). z ++ rest) taken.0 ∙ append_assoc (form other.0) other.1 rest in
-                let same = no_form_begins_another item other.0 [] (other.1 ++ rest) is_item taken.1 split in
+                let split : encoding item ++ [] ≡ encoding other.0 ++ (other.1 ++ rest) = append-nil (encoding item) ∙ e ∙ ap (λ (z : List ℕ). z ++ rest) taken.0 ∙ append_assoc (encoding other.0) other.1 rest in
+                let same = no_encoding_begins_another item other.0 [] (other.1 ++ rest) is_item taken.1 split in
                 absurd (none_of_both other.1 rest some same.1)
           ] is
     ] refl

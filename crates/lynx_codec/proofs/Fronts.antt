@@ -1,4 +1,4 @@
--- What stands at the front of a stream: an item exactly where its form does, and a fault that more bytes don't mend.
+-- What stands at the front of a stream: an item exactly where its encoding does, and a fault that more bytes don't mend.
 use Rattle.std.proofs.Common.{◌≡◌, ℕ, ◌≤◌, ◌⊎◌, Bool, true, false, cond, ltb, List, [], ◌∷◌, ◌++◌, length, take, drop, Option, Some, None, Ok, Err, refl, sym, ap, subst, ◌∙◌, append_assoc, arith, inl, inr}
 use Rattle.std.specs.Int.{w32, from_be_bytes}
 use Rattle.std.proofs.lemmas.Bool.{ltb-false, le-ltb}
@@ -8,7 +8,7 @@ use Rattle.lynx_codec.specs.declared.fault.DecodeFault.TheVariants as faults
 use Rattle.lynx_codec.specs.declared.item.Item.{Item}
 use Rattle.lynx_codec.specs.declared.limits.TheConstants.{MAX_BODY_BYTES}
 use Rattle.lynx_codec.specs.declared.tag.Tag.{Tag}
-use Rattle.lynx_codec.specs.Form.{body, tag, byte_of, length_bytes, form}
+use Rattle.lynx_codec.specs.Encoding.{body, tag, byte_of, length_bytes, encoding}
 use Rattle.lynx_codec.specs.Ranges.{IsItem}
 use Rattle.lynx_codec.specs.Reading.{◌>>=◌}
 use Rattle.lynx_codec.specs.Bodies.{body_at}
@@ -122,11 +122,11 @@ sized_stays t size bytes more fault e =
 abbrev headed : Tag → List ℕ → Found
 headed t bytes = cond (ltb (length bytes) 4) nothing_yet (sized t (from_be_bytes w32 (take 4 bytes)) (drop 4 bytes))
 
-pub front_takes : (bytes : List ℕ) (item : Item) (rest : List ℕ) → IsBytes bytes → front bytes ≡ whole item rest → (bytes ≡ form item ++ rest) × IsItem item
-unfolding front form
+pub front_takes : (bytes : List ℕ) (item : Item) (rest : List ℕ) → IsBytes bytes → front bytes ≡ whole item rest → (bytes ≡ encoding item ++ rest) × IsItem item
+unfolding front encoding
 front_takes [] item rest fits e = absurd cc
 front_takes (b ∷ bytes) item rest fits e =
-    let P : Option Tag → Type 0 = λ o. tag_of b ≡ o → tagged o bytes ≡ whole item rest → (b ∷ bytes ≡ form item ++ rest) × IsItem item in
+    let P : Option Tag → Type 0 = λ o. tag_of b ≡ o → tagged o bytes ≡ whole item rest → (b ∷ bytes ≡ encoding item ++ rest) × IsItem item in
     elim (tag_of b) as P [
       | None ↦ λ is e. absurd (let no : faulty faults.BadTag ≡ whole item rest = e in cc)
       | Some t ↦ λ is e. elim (chosen (ltb (length bytes) 4) nothing_yet (sized t (from_be_bytes w32 (take 4 bytes)) (drop 4 bytes)) (whole item rest) e) [
@@ -147,13 +147,13 @@ front_takes (b ∷ bytes) item rest fits e =
       ]
     ] refl e
 
-pub front_again : (item : Item) (rest : List ℕ) → IsItem item → front (form item ++ rest) ≡ whole item rest
-unfolding front form
+pub front_again : (item : Item) (rest : List ℕ) → IsItem item → front (encoding item ++ rest) ≡ whole item rest
+unfolding front encoding
 front_again item rest fits =
     let size = length (body item) in
     let after : List ℕ = body item ++ rest in
     let bytes : List ℕ = length_bytes size ++ after in
-    let regrouped : form item ++ rest ≡ byte_of (tag item) ∷ bytes = ap (λ (z : List ℕ). byte_of (tag item) ∷ z) (append_assoc (length_bytes size) (body item) rest) in
+    let regrouped : encoding item ++ rest ≡ byte_of (tag item) ∷ bytes = ap (λ (z : List ℕ). byte_of (tag item) ∷ z) (append_assoc (length_bytes size) (body item) rest) in
     let len = length-length_bytes size in
     let long : ltb (length bytes) 4 ≡ false = le-ltb _ _ (omega (arith, length-append (length_bytes size) after, len)) in
     let said : from_be_bytes w32 (take 4 bytes) ≡ size = ap (from_be_bytes w32) (take_at (length_bytes size) after 4 len) ∙ from-length_bytes size (omega (arith, body_short item fits)) in

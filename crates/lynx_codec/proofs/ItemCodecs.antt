@@ -8,7 +8,7 @@ use Rattle.lynx_entry.specs.declared.answer.Answer.TheVariants as answers
 use Rattle.lynx_codec.specs.declared.item.Looked.{Looked}
 use Rattle.lynx_codec.specs.declared.item.Looked.TheVariants as looks
 use Rattle.lynx_codec.specs.Fields.{word, flag, values, chain}
-use Rattle.lynx_codec.specs.Form.{request, look, answer, looked, message, begun, refused, hop}
+use Rattle.lynx_codec.specs.Encoding.{request, look, answer, looked, message, begun, refused, hop}
 use Rattle.lynx_codec.specs.Ranges.{IsStamp, IsChain, AreValues, IsRequest, IsLook, IsAnswer, IsLooked, IsMessage, IsBegunEntry, IsRefusedEntry, IsHopEntry}
 use Rattle.lynx_codec.specs.Reading.{◌then◌, nothing, byte_below, flag_at, stamp_at, chain_at, values_at}
 use Rattle.lynx_codec.specs.Bodies.{request_of, request_at, look_at, begun_of, refused_of, answer_kinds, answer_at, found_of, looked_kinds, looked_at, message_of, message_at, begun_entry_of, begun_entry_at, refused_entry_of, refused_entry_at, hop_entry_of, hop_entry_at}

@@ -1,4 +1,4 @@
--- Each item is read from its form, and nothing else is; where an item can't be read, more bytes don't help.
+-- Each item is read from its encoding, and nothing else is; where an item can't be read, more bytes don't help.
 use Rattle.std.proofs.Common.{◌≡◌, ℕ, ◌^◌, ◌<◌, ◌≤◌, Bool, true, false, cond, eqb, List, [], ◌∷◌, ◌++◌, length, Some, Ok, Err, refl, sym, ap, subst, ◌∙◌, arith, inl, inr}
 use Rattle.std.specs.Prelude.{find}
 use Rattle.std.specs.Int.{w32, from_be_bytes}
@@ -11,7 +11,7 @@ use Rattle.lynx_codec.specs.declared.item.Item.{Item}
 use Rattle.lynx_codec.specs.declared.item.Item.TheVariants as items
 use Rattle.lynx_codec.specs.declared.tag.Tag.{Tag}
 use Rattle.lynx_codec.specs.declared.tag.Tag.TheVariants as tags
-use Rattle.lynx_codec.specs.Form.{body, tag, byte_of, length_bytes}
+use Rattle.lynx_codec.specs.Encoding.{body, tag, byte_of, length_bytes}
 use Rattle.lynx_codec.specs.Ranges.{IsItem}
 use Rattle.lynx_codec.specs.Reading.{Reading, made, nothing}
 use Rattle.lynx_codec.specs.Bodies.{fields_at, body_at}

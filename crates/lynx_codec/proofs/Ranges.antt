@@ -1,4 +1,4 @@
--- What has a form is in range.
+-- What has an encoding is in range.
 use Rattle.std.proofs.Common.{ℕ, ◌≤◌, List, [], ◌∷◌, length}
 use Rattle.std.specs.List.{AllByRecursion}
 use Rattle.lynx_names.specs.declared.limits.TheConstants.{MAX_ACTIONS}

@@ -4,14 +4,14 @@ use Rattle.std.specs.List.{flat_map, AllByRecursion}
 use Rattle.std.proofs.lemmas.List.{append-nil}
 use Rattle.std.proofs.lemmas.List.Concat.{flat_map-append}
 use Rattle.lynx_codec.specs.declared.item.Item.{Item}
-use Rattle.lynx_codec.specs.Form.{form}
+use Rattle.lynx_codec.specs.Encoding.{encoding}
 use Rattle.lynx_codec.specs.Ranges.{IsItem}
 use Rattle.lynx_codec.specs.Feeding.{Stream, BeginsNoItem, GivesAll, Run, empty, pushed_of, given_of}
 use Rattle.lynx_codec.proofs.Feeds.{one_reading}
 
--- what these bytes are: the forms of these items, and a rest
+-- what these bytes are: the encodings of these items, and a rest
 record IsRead (bytes : List ℕ) (items : List Item) (rest : List ℕ) : Type 0 where
-  parts : bytes ≡ flat_map form items ++ rest
+  parts : bytes ≡ flat_map encoding items ++ rest
   are_items : AllByRecursion IsItem items
 
 all_given : (old new : Stream) (items : List Item) → GivesAll old items new → IsRead old.rest items new.rest
@@ -19,7 +19,7 @@ all_given old new [] same = record { parts = ap (λ (s : Stream). s.rest) (sym s
 all_given old new (item ∷ items) g =
     let others = all_given g.0 new items g.2 in
     record {
-      parts = g.1.form_stood ∙ ap (λ (z : List ℕ). form item ++ z) others.parts ∙ sym (append_assoc (form item) (flat_map form items) new.rest);
+      parts = g.1.encoding_stood ∙ ap (λ (z : List ℕ). encoding item ++ z) others.parts ∙ sym (append_assoc (encoding item) (flat_map encoding items) new.rest);
       are_items = (g.1.is_item, others.are_items);
     }
 
@@ -36,14 +36,14 @@ run_is_read old new (step ∷ steps) r =
       parts =
           sym (append_assoc old.rest step.0 (pushed_of steps))
           ∙ ap (λ (z : List ℕ). z ++ pushed_of steps) first.parts
-          ∙ append_assoc (flat_map form step.1) r.0.rest (pushed_of steps)
-          ∙ ap (λ (z : List ℕ). flat_map form step.1 ++ z) others.parts
-          ∙ sym (append_assoc (flat_map form step.1) (flat_map form (given_of steps)) new.rest)
-          ∙ ap (λ (z : List ℕ). z ++ new.rest) (sym (flat_map-append form step.1 (given_of steps)));
+          ∙ append_assoc (flat_map encoding step.1) r.0.rest (pushed_of steps)
+          ∙ ap (λ (z : List ℕ). flat_map encoding step.1 ++ z) others.parts
+          ∙ sym (append_assoc (flat_map encoding step.1) (flat_map encoding (given_of steps)) new.rest)
+          ∙ ap (λ (z : List ℕ). z ++ new.rest) (sym (flat_map-append encoding step.1 (given_of steps)));
       are_items = all_of_both step.1 (given_of steps) first.are_items others.are_items;
     }
 
-pub begins_the_stream : (steps : List (List ℕ × List Item)) (now : Stream) → Run empty steps now → AllByRecursion IsItem (given_of steps) × (pushed_of steps ≡ flat_map form (given_of steps) ++ now.rest)
+pub begins_the_stream : (steps : List (List ℕ × List Item)) (now : Stream) → Run empty steps now → AllByRecursion IsItem (given_of steps) × (pushed_of steps ≡ flat_map encoding (given_of steps) ++ now.rest)
 begins_the_stream steps now run =
     let r = run_is_read empty now steps run in
     (r.are_items, r.parts)

@@ -4,14 +4,14 @@ use Rattle.std.specs.List.{flat_map}
 use Rattle.lynx_codec.specs.declared.fault.DecodeFault.{DecodeFault}
 use Rattle.lynx_codec.specs.declared.fault.DecodeFault.TheVariants as faults
 use Rattle.lynx_codec.specs.declared.item.Item.{Item}
-use Rattle.lynx_codec.specs.Form.{form}
+use Rattle.lynx_codec.specs.Encoding.{encoding}
 use Rattle.lynx_codec.specs.Ranges.{IsItem, IsInRange}
 use Rattle.lynx_codec.specs.Reading.{Fails}
 use Rattle.lynx_codec.specs.Front.{front}
 
 -- what a feed is seen as
 pub record Stream : Type 0 where
-  -- the bytes that were pushed, without the forms of the items that were given
+  -- the bytes that were pushed, without the encodings of the items that were given
   pub rest : List ℕ
   -- the fault that was given, which ended the feed
   pub failed : Option DecodeFault
@@ -24,25 +24,25 @@ stream_of bytes given failed = record { rest = drop given bytes; failed = failed
 abbrev pub IsFailing : Stream → Type 0
 IsFailing stream = IfSome stream.failed (λ fault. front stream.rest ≡ Err fault)
 
--- no form of an item stands at the front of the bytes
+-- no encoding of an item stands at the front of the bytes
 abbrev pub BeginsNoItem : List ℕ → Type 0
-BeginsNoItem bytes = (item : Item) (more : List ℕ) → IsItem item → bytes ≡ form item ++ more → ⊥
+BeginsNoItem bytes = (item : Item) (more : List ℕ) → IsItem item → bytes ≡ encoding item ++ more → ⊥
 
--- A call answers what stands at the front, and of an item how many bytes its form has.
+-- A call answers what stands at the front, and of an item how many bytes its encoding has.
 abbrev pub Finds : List ℕ → Result (Option (Item × ℕ)) DecodeFault → Type 0
 Finds bytes (Ok None) = front bytes ≡ Ok None
 Finds bytes (Ok (Some found)) = front bytes ≡ Ok (Some (found.0, drop found.1 bytes))
 Finds bytes (Err fault) = Fails fault (front bytes)
 
--- the first bytes, so many of them, are the form of the item
+-- the first bytes, so many of them, are the encoding of the item
 pub record IsFront (bytes : List ℕ) (item : Item) (size : ℕ) : Type 0 where
   pub within : size ≤ length bytes
-  pub form_stands : bytes ≡ form item ++ drop size bytes
+  pub encoding_stands : bytes ≡ encoding item ++ drop size bytes
   pub is_item : IsItem item
 
--- the item's form stood at the front of old, and new has what stood behind it
+-- the item's encoding stood at the front of old, and new has what stood behind it
 pub record Gives (old : Stream) (item : Item) (new : Stream) : Type 0 where
-  pub form_stood : old.rest ≡ form item ++ new.rest
+  pub encoding_stood : old.rest ≡ encoding item ++ new.rest
   pub is_item : IsItem item
   pub in_range : IsInRange item
   pub was_open : old.failed ≡ None

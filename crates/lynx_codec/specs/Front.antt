@@ -7,7 +7,7 @@ use Rattle.lynx_codec.specs.declared.item.Item.{Item}
 use Rattle.lynx_codec.specs.declared.limits.TheConstants.{MAX_BODY_BYTES}
 use Rattle.lynx_codec.specs.declared.tag.Tag.{Tag}
 use Rattle.lynx_codec.specs.declared.tag.Tag.TheVariants as tags
-use Rattle.lynx_codec.specs.Form.{byte_of}
+use Rattle.lynx_codec.specs.Encoding.{byte_of}
 use Rattle.lynx_codec.specs.Reading.{◌>>=◌}
 use Rattle.lynx_codec.specs.Bodies.{body_at}
 

@@ -1,5 +1,5 @@
 pub mod Fields
-pub mod Form
+pub mod Encoding
 pub mod Ranges
 pub mod Entries
 pub mod Reading

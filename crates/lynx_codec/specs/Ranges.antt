@@ -1,4 +1,4 @@
--- Which items have a form, and what of it their types leave open.
+-- Which items have an encoding, and what of it their types leave open.
 use Rattle.std.specs.Prelude.{ℕ, suc, ◌<◌, ◌≤◌, ◌^◌, List, [], ◌∷◌, length}
 use Rattle.std.specs.List.{AllByRecursion}
 use Rattle.lynx_names.specs.declared.chain.ChainId.{ChainId}

@@ -1,7 +1,7 @@
 //! Adds the bodies of items to bytes that have room for them.
 ghost use Rattle.lynx_codec.specs.declared.sizes.TheConstants.{REQUEST_BYTES, LOOK_BYTES, ANSWER_BYTES, LOOKED_BYTES, MESSAGE_BYTES, BEGUN_BYTES, REFUSED_BYTES, HOP_BYTES};
 ghost use Rattle.lynx_codec.specs.Adding.{HasRoom, Adds};
-ghost use Rattle.lynx_codec.specs.Form.{request, look, answer, looked, message, begun, refused, hop, body};
+ghost use Rattle.lynx_codec.specs.Encoding.{request, look, answer, looked, message, begun, refused, hop, body};
 ghost use Rattle.lynx_codec.specs.Ranges.{IsInRange, IsRequestInRange, IsRequest, IsLook, IsAnswerInRange, IsAnswer, IsLookedInRange, IsLooked, IsMessageInRange, IsMessage, IsBegunInRange, IsBegunEntry, IsRefusedInRange, IsRefusedEntry, IsHopInRange, IsHopEntry, IsItem};
 
 use crate::item::{Item, Look, Looked};

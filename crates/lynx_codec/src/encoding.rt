@@ -1,24 +1,25 @@
 ghost use Rattle.std.specs.Prelude.{◌≡◌, ◌≤◌, ◌++◌, IfOk, OnOk, vec_capacity};
-ghost use Rattle.lynx_codec.specs.declared.limits.TheConstants.{MAX_FORM_BYTES};
+ghost use Rattle.lynx_codec.specs.declared.limits.TheConstants.{MAX_ENCODING_BYTES};
 ghost use Rattle.lynx_codec.specs.Adding.{HasRoom};
-ghost use Rattle.lynx_codec.specs.Form.{form};
+ghost use Rattle.lynx_codec.specs.Encoding.{encoding};
 ghost use Rattle.lynx_codec.specs.Ranges.{IsInRange, IsItem};
 
 use crate::bodies::{put_body, put_entry};
 use crate::item::Item;
-use crate::limits::MAX_FORM_BYTES;
+use crate::limits::MAX_ENCODING_BYTES;
 use crate::tag::Tag;
 use crate::writing::put_byte;
 use lynx_entry::Entry;
 use lynx_names::Memory;
 use std::alloc::Global;
 
-/// Adds the form of an item at the end, without taking memory: there is room for the longest form.
-#[tactic(auto, unfolding(crate::specs::Form::form, crate::specs::Form::length_bytes))]
+/// Adds the encoding of an item at the end, without taking memory: there is room for the longest
+/// encoding.
+#[tactic(auto, unfolding(crate::specs::Encoding::encoding, crate::specs::Encoding::length_bytes))]
 pub fn append(item: &Item, out: &mut Vec<u8>)
     requires range { IsInRange item.now }
-    requires room { HasRoom out.old MAX_FORM_BYTES }
-    ensures form { out.new.items ≡ out.old.items ++ form item.now }
+    requires room { HasRoom out.old MAX_ENCODING_BYTES }
+    ensures encoding { out.new.items ≡ out.old.items ++ encoding item.now }
     ensures capacity { vec_capacity out.old ≤ vec_capacity out.new }
     ensures item { IsItem item.now }
 {
@@ -30,13 +31,13 @@ pub fn append(item: &Item, out: &mut Vec<u8>)
     out[start..start + 4].copy_from_slice(&length.to_be_bytes());
 }
 
-/// Adds the form of an entry, as `append` adds that of the item that has it: no copy of the entry
-/// is made.
-#[tactic(auto, unfolding(crate::specs::Form::form, crate::specs::Form::length_bytes))]
+/// Adds the encoding of an entry, as `append` adds that of the item that has it: no copy of the
+/// entry is made.
+#[tactic(auto, unfolding(crate::specs::Encoding::encoding, crate::specs::Encoding::length_bytes))]
 pub fn append_entry(entry: &Entry, out: &mut Vec<u8>)
     requires range { IsInRange (Item.Entry entry.now) }
-    requires room { HasRoom out.old MAX_FORM_BYTES }
-    ensures form { out.new.items ≡ out.old.items ++ form (Item.Entry entry.now) }
+    requires room { HasRoom out.old MAX_ENCODING_BYTES }
+    ensures encoding { out.new.items ≡ out.old.items ++ encoding (Item.Entry entry.now) }
     ensures capacity { vec_capacity out.old ≤ vec_capacity out.new }
     ensures item { IsItem (Item.Entry entry.now) }
 {
@@ -48,13 +49,13 @@ pub fn append_entry(entry: &Entry, out: &mut Vec<u8>)
     out[start..start + 4].copy_from_slice(&length.to_be_bytes());
 }
 
-/// The form of an item. It takes [`MAX_FORM_BYTES`] of memory, however short the form.
+/// The encoding of an item. It takes [`MAX_ENCODING_BYTES`] of memory, however short the encoding.
 pub fn encode(alloc: Global, item: &Item) -> Result<Vec<u8>, Memory>
     requires { IsInRange item.now }
-    ensures form { IfOk result (λ bytes. bytes.items ≡ form item.now) }
+    ensures encoding { IfOk result (λ bytes. bytes.items ≡ encoding item.now) }
     ensures item { OnOk result (IsItem item.now) }
 {
-    let mut out = Vec::with_capacity(alloc, MAX_FORM_BYTES)?;
+    let mut out = Vec::with_capacity(alloc, MAX_ENCODING_BYTES)?;
     append(item, &mut out);
     Ok(out)
 }

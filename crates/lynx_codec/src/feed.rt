@@ -1,7 +1,7 @@
 ghost use Rattle.std.specs.Prelude.{◌≡◌, ◌≤◌, ◌++◌, ◌⊎◌, ℕ, List, [], length, drop, Some, None, Ok, Err, IfOk, IfErr, IfSome, IfNone, OnOk, OnErr};
 ghost use Rattle.lynx_codec.specs.declared.fault.DecodeFault.TheVariants.{Memory as WantOfMemory};
 ghost use Rattle.lynx_codec.specs.declared.item.Item.{Item};
-ghost use Rattle.lynx_codec.specs.Form.{form};
+ghost use Rattle.lynx_codec.specs.Encoding.{encoding};
 ghost use Rattle.lynx_codec.specs.Ranges.{IsItem};
 ghost use Rattle.lynx_codec.specs.Front.{front};
 ghost use Rattle.lynx_codec.specs.Feeding.{Gives, Waits, Faults, end_of};
@@ -89,7 +89,7 @@ impl Feed {
 
         // What is whole is given, unless memory runs out.
         ensures whole { (item : Item) (more : List ℕ) → IsItem item →
-            self.old.rest ≡ form item ++ more
+            self.old.rest ≡ encoding item ++ more
             → (result ≡ Ok (Some item)) ⊎ (result ≡ Err WantOfMemory) }
     {
         match self.failed {

@@ -35,7 +35,7 @@ fn read_front(alloc: Global, bytes: &[u8]) -> Result<Option<(Item, usize)>, Deco
     Ok(Some((item, size + 5)))
 }
 
-/// The item at the front of a stream, and how many bytes its form has. None where nothing whole
+/// The item at the front of a stream, and how many bytes its encoding has. None where nothing whole
 /// stands there, and no fault yet. Memory is taken for the lists of a whole body alone.
 pub fn find_front(alloc: Global, bytes: &[u8]) -> Result<Option<(Item, usize)>, DecodeFault>
     ensures exact { Finds bytes.now result }

@@ -17,7 +17,7 @@ pub enum Looked {
     Found { stamp: Stamp, results: Values },
 }
 
-/// Whatever is kept or sent, each with a form in bytes.
+/// Whatever is kept or sent, each with an encoding in bytes.
 #[derive(Debug, PartialEq, Eq, Drop)]
 pub enum Item {
     /// From a client.

@@ -1,4 +1,4 @@
-//! The byte forms of all that is kept or sent, and the feed that gives the items of a stream of
+//! The encodings of all that is kept or sent, and the feed that gives the items of a stream of
 //! bytes back.
 #![tactic(auto)]
 

@@ -1,7 +1,7 @@
 use crate::item::Item;
 use lynx_entry::Entry;
 
-/// What an item's form begins with.
+/// What an item's encoding begins with.
 #[derive(Clone, Copy, Debug, PartialEq, Eq)]
 pub enum Tag {
     Request = 0x01,
@@ -19,7 +19,7 @@ pub enum Tag {
 
 impl Tag {
     ghost use Rattle.std.specs.Prelude.{◌≡◌};
-    ghost use Rattle.lynx_codec.specs.Form.{tag, byte_of};
+    ghost use Rattle.lynx_codec.specs.Encoding.{tag, byte_of};
     ghost use Rattle.lynx_codec.specs.Front.{tag_of};
 
     pub fn of(item: &Item) -> Tag
@@ -54,7 +54,7 @@ impl Tag {
         self as u8
     }
 
-    /// None where no item's form begins with that byte.
+    /// None where no item's encoding begins with that byte.
     #[tactic(auto, unfolding(crate::specs::Front::tag_of))]
     pub fn from_byte(byte: u8) -> Option<Tag>
         ensures { result ≡ tag_of byte }

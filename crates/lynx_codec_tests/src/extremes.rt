@@ -1,6 +1,6 @@
 //! Each kind of item with its least fields, and with its greatest.
 use crate::bytes::runs;
-use crate::feeding::is_form;
+use crate::feeding::is_encoding;
 use crate::items::ItemParts;
 use lynx_codec::DecodeFault;
 use lynx_fixtures::parts::{
@@ -101,8 +101,8 @@ const EIGHT: Runs = &[(1, 8)];
 /// What a message has between its chain and its arguments, with the arguments.
 const HEAD: Runs = &[(1, 63), (1, 255), (1, 0x3f), (7, 255), (1, 8), (64, 255)];
 
-/// Runs of bytes, one behind the other, and the item whose form they are.
-const FORMS: &[(&[Runs], ItemParts)] = &[
+/// Runs of bytes, one behind the other, and the item whose encoding they are.
+const ENCODINGS: &[(&[Runs], ItemParts)] = &[
     (
         &[&[(1, 1), (3, 0), (1, 18), (18, 0)]],
         ItemParts::Request(LEAST_REQUEST),
@@ -279,15 +279,15 @@ const FORMS: &[(&[Runs], ItemParts)] = &[
     ),
 ];
 
-/// Whether these runs are the form of the item.
+/// Whether these runs are the encoding of the item.
 fn is_joined(alloc: Global, parts: &[Runs], item: ItemParts) -> Result<bool, DecodeFault> {
-    let form = runs(alloc, parts)?;
-    is_form(alloc, form.as_slice(), item)
+    let encoding = runs(alloc, parts)?;
+    is_encoding(alloc, encoding.as_slice(), item)
 }
 
 #[test]
 fn least_and_greatest_fields(rt: HostRuntime) {
-    for (place, &(parts, item)) in FORMS.iter().enumerate() {
+    for (place, &(parts, item)) in ENCODINGS.iter().enumerate() {
         assert!(rt;
             is_joined(rt.alloc(), parts, item) == Ok(true),
             "form {place}"

@@ -1,4 +1,4 @@
-//! The fault of each wrong form, and what an unfinished one ends with.
+//! The fault of each wrong encoding, and what an unfinished one ends with.
 use crate::bytes::hex;
 use crate::feeding::next;
 use lynx_codec::{DecodeFault, Feed};
@@ -65,7 +65,7 @@ const FAULTS: &[(&str, DecodeFault)] = &[
 ];
 
 #[test]
-fn wrong_forms(rt: HostRuntime) {
+fn wrong_encodings(rt: HostRuntime) {
     for &(text, fault) in FAULTS {
         assert!(rt; fault_of(rt.alloc(), text) == Ok(Some(fault)), "{text}");
     }

@@ -1,4 +1,4 @@
-//! Whether bytes are the form of an item.
+//! Whether bytes are the encoding of an item.
 ghost use Rattle.std.specs.Prelude.{IfNone, IfOk};
 ghost use Rattle.lynx_codec.specs.Feeding.{Waits};
 
@@ -6,11 +6,12 @@ use crate::items::{ItemParts, item};
 use lynx_codec::{DecodeFault, Feed, Item, encode};
 use std::alloc::Global;
 
-/// An item that a feed gave, in a box, which is dropped by one call, and its form as it is written.
+/// An item that a feed gave, in a box, which is dropped by one call, and its encoding as it is
+/// written.
 #[derive(Drop)]
 pub struct Given {
     pub item: Box<Item>,
-    pub form: Vec<u8>,
+    pub encoding: Vec<u8>,
 }
 
 /// What the feed gives next.
@@ -21,8 +22,8 @@ pub fn next(alloc: Global, feed: &mut Feed) -> Result<Option<Given>, DecodeFault
         None => Ok(None),
         Some(item) => {
             let item = Box::new(alloc, item)?;
-            let form = encode(alloc, &item)?;
-            Ok(Some(Given { item, form }))
+            let encoding = encode(alloc, &item)?;
+            Ok(Some(Given { item, encoding }))
         }
     }
 }
@@ -33,9 +34,9 @@ fn is_item(given: Option<Given>, item: &Item, first: &[u8], second: &[u8]) -> bo
         None => false,
         Some(given) => {
             *given.item == *item
-                && given.form.as_slice().starts_with(first)
-                && given.form.as_slice().ends_with(second)
-                && given.form.len() == first.len() + second.len()
+                && given.encoding.as_slice().starts_with(first)
+                && given.encoding.as_slice().ends_with(second)
+                && given.encoding.len() == first.len() + second.len()
         }
     }
 }
@@ -52,11 +53,11 @@ fn is_given(alloc: Global, first: &[u8], second: &[u8], item: &Item) -> Result<b
     Ok(is_item(given, item, first, second) && next(alloc, &mut feed)?.is_none())
 }
 
-/// Whether these bytes are the form of the item, in two pieces that are cut at any place.
-pub fn is_form(alloc: Global, form: &[u8], parts: ItemParts) -> Result<bool, DecodeFault> {
+/// Whether these bytes are the encoding of the item, in two pieces that are cut at any place.
+pub fn is_encoding(alloc: Global, encoding: &[u8], parts: ItemParts) -> Result<bool, DecodeFault> {
     let item = item(alloc, parts)?;
-    for cut in 0..form.len() {
-        let (first, second) = form.split_at(cut);
+    for cut in 0..encoding.len() {
+        let (first, second) = encoding.split_at(cut);
         if !is_given(alloc, first, second, &item)? {
             return Ok(false);
         }

@@ -1,17 +1,17 @@
-//! Tests of byte forms: worked forms, least and greatest fields, faults, streams, and a slow
+//! Tests of encodings: worked encodings, least and greatest fields, faults, streams, and a slow
 //! reading of the rules beside the feed.
 #![tactic(auto)]
 
 #[cfg(test)]
 mod bytes;
 #[cfg(test)]
+mod encodings;
+#[cfg(test)]
 mod extremes;
 #[cfg(test)]
 mod faults;
 #[cfg(test)]
 mod feeding;
-#[cfg(test)]
-mod forms;
 #[cfg(test)]
 mod items;
 #[cfg(test)]

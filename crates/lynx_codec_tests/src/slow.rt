@@ -1,4 +1,4 @@
-//! The rules of forms, read slowly from a table of fields, by no code of the feed's.
+//! The rules of encodings, read slowly from a table of fields, by no code of the feed's.
 use lynx_codec::DecodeFault;
 use std::slice::Iter;
 
@@ -188,9 +188,9 @@ fn read_body(tag: u8, body: &[u8]) -> Result<(), DecodeFault> {
 /// What stands at the front of some bytes.
 #[derive(Clone, Copy)]
 pub enum Slow {
-    /// A form of so many bytes.
-    Form(usize),
-    /// Neither a whole form nor a fault.
+    /// An encoding of so many bytes.
+    Encoding(usize),
+    /// Neither a whole encoding nor a fault.
     Nothing,
     Fault(DecodeFault),
 }
@@ -208,11 +208,11 @@ fn read_sized(tag: u8, bytes: &[u8]) -> Slow {
     if 2_048 < size {
         return Slow::Fault(DecodeFault::BadLength);
     }
-    let form = 5 + size;
+    let encoding = 5 + size;
     match bytes.get(4..4 + size) {
         None => Slow::Nothing,
         Some(body) => match read_body(tag, body) {
-            Ok(()) => Slow::Form(form),
+            Ok(()) => Slow::Encoding(encoding),
             Err(fault) => Slow::Fault(fault),
         },
     }

@@ -1,19 +1,19 @@
-//! Forms with one byte of each value: the feed gives what the slow reading of the rules does.
+//! Encodings with one byte of each value: the feed gives what the slow reading of the rules does.
 use crate::bytes::hex;
+use crate::encodings::ENCODINGS;
 use crate::feeding::next;
-use crate::forms::FORMS;
 use crate::slow::{Slow, read_slowly};
 use lynx_codec::{DecodeFault, Feed};
 use std::alloc::Global;
 
-/// How long the form is that the feed gives, 0 where it isn't what stands at the front of the
+/// How long the encoding is that the feed gives, 0 where it isn't what stands at the front of the
 /// bytes.
 fn front(alloc: Global, feed: &mut Feed, bytes: &[u8]) -> Result<Option<usize>, DecodeFault> {
     match next(alloc, feed)? {
         None => Ok(None),
         Some(given) => {
-            let is_there = bytes.starts_with(given.form.as_slice());
-            Ok(Some(if is_there { given.form.len() } else { 0 }))
+            let is_there = bytes.starts_with(given.encoding.as_slice());
+            Ok(Some(if is_there { given.encoding.len() } else { 0 }))
         }
     }
 }
@@ -27,7 +27,7 @@ fn is_read_alike(alloc: Global, bytes: &[u8]) -> Result<bool, DecodeFault> {
         match (read_slowly(rest), front(alloc, &mut feed, rest)) {
             (Slow::Nothing, Ok(None)) => return Ok(true),
             (Slow::Fault(slow), Err(fault)) => return Ok(slow == fault),
-            (Slow::Form(slow), Ok(Some(size))) => {
+            (Slow::Encoding(slow), Ok(Some(size))) => {
                 if slow != size || rest.len() < size {
                     return Ok(false);
                 }
@@ -39,7 +39,7 @@ fn is_read_alike(alloc: Global, bytes: &[u8]) -> Result<bool, DecodeFault> {
     Ok(false)
 }
 
-/// The same of this form with each value in each place.
+/// The same of this encoding with each value in each place.
 fn are_read_alike(alloc: Global, text: &str) -> Result<bool, DecodeFault> {
     let mut bytes = hex(alloc, text)?;
     for place in 0..bytes.len() {
@@ -67,7 +67,7 @@ const TWO: &str = "04 00000000 12 0000000a 01 0000000000000001 00";
 
 #[test]
 fn each_value_of_each_byte(rt: HostRuntime) {
-    for &(text, _) in FORMS {
+    for &(text, _) in ENCODINGS {
         assert!(rt; are_read_alike(rt.alloc(), text) == Ok(true), "{text}");
     }
     assert!(rt; are_read_alike(rt.alloc(), TWO) == Ok(true));

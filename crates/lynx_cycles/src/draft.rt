@@ -1,6 +1,6 @@
 //! A circle of chains on its way.
 use crate::facts::Facts;
-use crate::graph::{Graph, HopOf};
+use crate::graph::{HopGraph, HopOf};
 use crate::joints::Joint;
 use lynx_names::{Memory, ServerId};
 use lynx_set::Key;
@@ -33,7 +33,7 @@ pub(crate) struct Draft {
     /// The program of each chain.
     pub chains: Vec<usize>,
     /// The hops, with the conflicts and the rules of order.
-    pub graph: Graph,
+    pub graph: HopGraph,
     pub ties: Vec<Tie>,
     /// The pairs that conflicts have to link.
     pub pairs: Vec<Pair>,
@@ -46,7 +46,7 @@ impl Draft {
     pub(crate) fn new(alloc: Global) -> Draft {
         Draft {
             chains: Vec::new(alloc),
-            graph: Graph::new(alloc),
+            graph: HopGraph::new(alloc),
             ties: Vec::new(alloc),
             pairs: Vec::new(alloc),
             begins: Vec::new(alloc),

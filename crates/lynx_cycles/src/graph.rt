@@ -20,25 +20,25 @@ pub(crate) enum Begins {
 /// The hops of some chains, and for each those that have to be done before it. Only the first 128
 /// hops count.
 #[derive(Drop)]
-pub(crate) struct Graph {
+pub(crate) struct HopGraph {
     hops: Vec<HopOf>,
     /// The place of each chain's first hop.
     starts: Vec<usize>,
     waits: Vec<HopSet>,
 }
 
-impl Graph {
+impl HopGraph {
     /// The graph of no chains.
-    pub(crate) fn new(alloc: Global) -> Graph {
-        Graph {
+    pub(crate) fn new(alloc: Global) -> HopGraph {
+        HopGraph {
             hops: Vec::new(alloc),
             starts: Vec::new(alloc),
             waits: Vec::new(alloc),
         }
     }
 
-    pub(crate) fn copy(&self) -> Result<Graph, Memory> {
-        Ok(Graph {
+    pub(crate) fn copy(&self) -> Result<HopGraph, Memory> {
+        Ok(HopGraph {
             hops: self.hops.clone()?,
             starts: self.starts.clone()?,
             waits: self.waits.clone()?,

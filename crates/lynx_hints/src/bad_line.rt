@@ -6,7 +6,7 @@ use crate::flaw::flaw_of;
 use crate::near::is_near;
 use crate::place::{fits, put_fitting};
 use crate::site::Site;
-use crate::verb::{Kind, LINES, Verb};
+use crate::verb::{LINES, LineKind, Verb};
 use crate::word::{Marked, Word, Written};
 use std::fmt::Write;
 
@@ -62,13 +62,13 @@ fn put_owed(out: &mut String, before: &Before<'_>) -> Written {
 fn put_no_verb(out: &mut String, site: &Site<'_>) -> Written {
     let (word, kind) = (site.word, site.before.kind);
     let is_version = word.text == b"lynx".as_slice();
-    if is_version && kind == Kind::Set {
+    if is_version && kind == LineKind::Set {
         out.push_str("  lynx begins the first line alone\n")?;
         return put_fitting(out, &site.before);
     }
     write!(out, "  no line of {} begins with {word}", text_of(kind))?;
     let other = if is_version {
-        Some(Kind::Set)
+        Some(LineKind::Set)
     } else {
         Verb::of(word.text).map(|verb| verb.kind())
     };
@@ -82,20 +82,20 @@ fn put_no_verb(out: &mut String, site: &Site<'_>) -> Written {
 }
 
 /// How a text of that kind is called ..
-fn text_of(kind: Kind) -> &'static str {
+fn text_of(kind: LineKind) -> &'static str {
     match kind {
-        Kind::Set => "a set",
-        Kind::Script => "a script",
-        Kind::Asked => "what is asked",
+        LineKind::Set => "a set",
+        LineKind::Script => "a script",
+        LineKind::Asked => "what is asked",
     }
 }
 
 /// .. and many of them.
-fn texts_of(kind: Kind) -> &'static str {
+fn texts_of(kind: LineKind) -> &'static str {
     match kind {
-        Kind::Set => "sets",
-        Kind::Script => "scripts",
-        Kind::Asked => "what a service is asked",
+        LineKind::Set => "sets",
+        LineKind::Script => "scripts",
+        LineKind::Asked => "what a service is asked",
     }
 }
 
@@ -103,11 +103,11 @@ fn texts_of(kind: Kind) -> &'static str {
 fn put_wanted(out: &mut String, site: &Site<'_>) -> Written {
     let (word, kind) = (site.word, site.before.kind);
     match word.text {
-        _ if kind != Kind::Set => {
+        _ if kind != LineKind::Set => {
             if find(site.before.programs.as_slice(), word.text).is_none() {
                 return Ok(());
             }
-            let begin = if kind == Kind::Script {
+            let begin = if kind == LineKind::Script {
                 Verb::Begin
             } else {
                 Verb::Request

@@ -3,7 +3,7 @@
 
 ghost use Rattle.std.specs.Prelude.{◌≡◌, IfOk, IfSome};
 
-use crate::verb::{Kind, Verb};
+use crate::verb::{LineKind, Verb};
 use crate::word::{Word, Written, word_at, words_of};
 use lynx_lex::lines::next_line;
 use lynx_set::ChainSet;
@@ -46,7 +46,7 @@ struct ShardLine<'a> {
 /// is asked, what the set does.
 #[derive(Drop)]
 pub(crate) struct Before<'a> {
-    pub kind: Kind,
+    pub kind: LineKind,
     /// Whether the text is of version 2.
     pub is_second: bool,
     /// The verb of the last line, None where that is the version's.
@@ -67,7 +67,7 @@ pub(crate) struct Before<'a> {
 
 impl<'a> Before<'a> {
     /// Nothing yet.
-    fn new(alloc: Global, kind: Kind) -> Before<'a> {
+    fn new(alloc: Global, kind: LineKind) -> Before<'a> {
         Before {
             kind,
             is_second: false,
@@ -86,7 +86,11 @@ impl<'a> Before<'a> {
     }
 
     /// What the set declares, before a line of that kind.
-    pub fn of_set(alloc: Global, set: &'a ChainSet, kind: Kind) -> Result<Before<'a>, AllocError>
+    pub fn of_set(
+        alloc: Global,
+        set: &'a ChainSet,
+        kind: LineKind,
+    ) -> Result<Before<'a>, AllocError>
         ensures { IfOk result (λ before. before.servers ≡ set.now.servers) }
     {
         let mut before = Before::new(alloc, kind);
@@ -101,7 +105,7 @@ impl<'a> Before<'a> {
 
     /// What the lines of the text before that of this number declare.
     pub fn of_text(alloc: Global, text: &'a [u8], number: usize) -> Result<Before<'a>, AllocError> {
-        let mut before = Before::new(alloc, Kind::Set);
+        let mut before = Before::new(alloc, LineKind::Set);
         let mut rest = text;
         for line in 1..number {
             let Some((bytes, after)) = next_line(rest) else {
@@ -109,7 +113,7 @@ impl<'a> Before<'a> {
             };
             rest = after;
             let words = words_of(alloc, bytes)?;
-            before.last_verb = Verb::among(Kind::Set, word_at(words.as_slice(), 0).text);
+            before.last_verb = Verb::among(LineKind::Set, word_at(words.as_slice(), 0).text);
             match before.last_verb {
                 Some(verb) => before.learn(verb, words.as_slice(), line)?,
                 None => before.is_second = bytes == b"lynx 2".as_slice(),

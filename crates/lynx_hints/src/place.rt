@@ -1,14 +1,14 @@
 //! Which lines of a set can stand behind which.
 
 use crate::before::Before;
-use crate::verb::{Kind, LINES, Verb};
+use crate::verb::{LINES, LineKind, Verb};
 use crate::word::Written;
 use lynx_names::limits::{MAX_ACTIONS, MAX_HOPS, MAX_PROGRAMS, MAX_SHARDS, MAX_TABLES};
 
 /// Whether a line of the verb can stand behind these, limits apart.
 pub(crate) fn fits(before: &Before<'_>, verb: Verb) -> bool {
     match before.last_verb {
-        _ if before.kind != Kind::Set => verb.kind() == before.kind,
+        _ if before.kind != LineKind::Set => verb.kind() == before.kind,
         None => verb == Verb::Servers,
         Some(Verb::Servers) => verb == Verb::Table || verb == Verb::Program,
         Some(Verb::Table) => verb == Verb::Shard,
@@ -39,7 +39,7 @@ fn is_whole(before: &Before<'_>) -> bool {
 fn may_end(before: &Before<'_>) -> bool {
     match before.last_verb {
         Some(Verb::Servers | Verb::End) => true,
-        _ => before.kind == Kind::Script || is_whole(before),
+        _ => before.kind == LineKind::Script || is_whole(before),
     }
 }
 
@@ -47,7 +47,7 @@ fn may_end(before: &Before<'_>) -> bool {
 fn has_room(before: &Before<'_>, verb: Verb) -> bool {
     match verb {
         Verb::Servers | Verb::End => true,
-        _ if verb.kind() != Kind::Set => true,
+        _ if verb.kind() != LineKind::Set => true,
         Verb::Table => before.tables.len() < usize::from(MAX_TABLES),
         Verb::Shard => before.shards_of_last() < MAX_SHARDS && !is_whole(before),
         Verb::Program => before.programs.len() < usize::from(MAX_PROGRAMS),

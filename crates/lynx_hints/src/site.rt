@@ -5,7 +5,7 @@ ghost use Rattle.std.specs.Prelude.{◌≡◌, None};
 use crate::before::Before;
 use crate::hints::Part;
 use crate::line::Line;
-use crate::verb::{Kind, Verb};
+use crate::verb::{LineKind, Verb};
 use crate::word::{Mark, Word, word_at};
 use lynx_lex::{FaultKind, TextFault};
 use std::alloc::{AllocError, Global};
@@ -34,8 +34,8 @@ impl<'a> Site<'a> {
     ) -> Result<Site<'a>, AllocError> {
         let (before, number) = match part {
             Part::Set => (Before::of_text(alloc, text, fault.line)?, fault.line),
-            Part::Script(set) => (Before::of_set(alloc, set, Kind::Script)?, fault.line),
-            Part::Asked(set) => (Before::of_set(alloc, set, Kind::Asked)?, 1),
+            Part::Script(set) => (Before::of_set(alloc, set, LineKind::Script)?, fault.line),
+            Part::Asked(set) => (Before::of_set(alloc, set, LineKind::Asked)?, 1),
         };
         let line = Line::new(alloc, text, number)?;
         let after = Line::new(alloc, text, number.saturating_add(1))?;

@@ -5,7 +5,7 @@ use std::fmt::Write;
 
 /// What a line is of.
 #[derive(Clone, Copy, PartialEq, Eq)]
-pub(crate) enum Kind {
+pub(crate) enum LineKind {
     Set,
     Script,
     /// What a service is asked.
@@ -100,7 +100,7 @@ impl Verb {
     }
 
     /// The verb that the word is among lines of that kind.
-    pub fn among(kind: Kind, word: &[u8]) -> Option<Verb> {
+    pub fn among(kind: LineKind, word: &[u8]) -> Option<Verb> {
         for (verb, _, _) in LINES {
             if verb.kind() == kind && verb.spelled().as_bytes() == word {
                 return Some(verb);
@@ -121,11 +121,12 @@ impl Verb {
     }
 
     /// What its line is of.
-    pub fn kind(self) -> Kind {
+    pub fn kind(self) -> LineKind {
         match self {
-            Verb::Begin | Verb::Deliver | Verb::Lose | Verb::Wake | Verb::Restart => Kind::Script,
-            Verb::Request | Verb::Look | Verb::Quit | Verb::Shut => Kind::Asked,
-            _ => Kind::Set,
+            Verb::Begin | Verb::Deliver | Verb::Lose | Verb::Wake | Verb::Restart =>
+                LineKind::Script,
+            Verb::Request | Verb::Look | Verb::Quit | Verb::Shut => LineKind::Asked,
+            _ => LineKind::Set,
         }
     }
 
@@ -156,7 +157,7 @@ impl Verb {
     pub fn role(self, word: usize) -> Role {
         match (self, word) {
             (Verb::Hop, _) => Role::Server,
-            (_, 2) if self.has_chain() || self.kind() == Kind::Script => Role::Server,
+            (_, 2) if self.has_chain() || self.kind() == LineKind::Script => Role::Server,
             (Verb::Get, 3) => Role::Table,
             (Verb::Get, 4) => Role::Key,
             (Verb::Let, 3 | 5) | (Verb::Need, 2 | 4) => Role::Value,

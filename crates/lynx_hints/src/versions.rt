@@ -3,7 +3,7 @@
 use crate::flaw::{Flaw, flaw_of};
 use crate::near::is_near;
 use crate::site::Site;
-use crate::verb::{Kind, Verb};
+use crate::verb::{LineKind, Verb};
 use crate::word::{Mark, Marked, Word};
 use std::fmt::Write;
 
@@ -31,7 +31,7 @@ pub(crate) fn put_bad_version(out: &mut String, site: &Site<'_>) -> Marked {
 
 fn put_line_fault(out: &mut String, site: &Site<'_>) -> Marked {
     let first = site.line.word(1);
-    if Verb::of(first.text).is_some_and(|verb| verb.kind() != Kind::Set) {
+    if Verb::of(first.text).is_some_and(|verb| verb.kind() != LineKind::Set) {
         write!(out, "  {first} begins a line of scripts, ")?;
         out.push_str("and the set has to stand here\n")?;
         out.push_str("  were the files given in the wrong order? the set comes first\n")?;

@@ -27,7 +27,7 @@ holding_code {K} keeper =
     (λ p. record { inner = p.0; waiting = p.1.0; changes = p.1.1.0; faults = p.1.1.1 })
     (λ _. refl)
 
--- each entry that waits has a byte form, and where none waits, nothing is changed
+-- each entry that waits has an encoding, and where none waits, nothing is changed
 pub record IsHolding (waiting : History) (changes : ChangeSet) : Type 0 where
   pub range : All IsEntryInRange waiting
   pub idle : waiting ≡ [] → changes ≡ map.empty
@@ -73,4 +73,6 @@ held_terms terms = record {
   leaves = λ holding one other. LeavesFront terms holding.inner one other;
   counted = λ holding. counted_both terms holding;
   rests = λ holding settled kept. RestsBehind terms holding settled kept;
+  Owner = terms.Owner;
+  owner = λ holding. terms.owner holding.inner;
 }

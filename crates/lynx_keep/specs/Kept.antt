@@ -26,6 +26,9 @@ pub record Terms (K : Type 0) : Type 1 where
   pub counted : K → ℕ
   -- the first is kept for good, and the second is kept, with what is held back behind the first
   pub rests : K → KeptState → KeptState → Type 0
+  -- whose store it is, by which what a stop leaves is told
+  pub Owner : Type 0
+  pub owner : K → Owner
 
 -- what was kept for good is so still, and what is kept goes from the one to the other
 abbrev pub RestsOn : {K : Type 0} → Terms K → K → K → KeptState → KeptState → Type 0
@@ -59,6 +62,8 @@ memory_terms = record {
   leaves = λ keeper one other. (keeper ≡ one) ⊎ (keeper ≡ other);
   counted = λ keeper. 0;
   rests = λ keeper settled kept. Unit {0};
+  Owner = Unit {0};
+  owner = λ keeper. tt;
 }
 
 -- the count rose, unless it is at the limit of a u64

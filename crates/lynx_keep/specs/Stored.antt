@@ -1,24 +1,24 @@
--- Entries that are stored as their byte forms, one behind the other.
+-- Entries that are stored as their encodings, one behind the other.
 use Rattle.std.specs.Prelude.{◌≡◌, ℕ, zero, suc, List, [], ◌∷◌, length, Some, None, Ok, Err}
 use Rattle.std.specs.List.{flat_map, AllByRecursion}
 use Rattle.lynx_entry.specs.declared.entry.Entry.{Entry}
 use Rattle.lynx_entry.specs.Entry.{History}
 use Rattle.lynx_codec.specs.declared.item.Item.{Item}
 use Rattle.lynx_codec.specs.declared.item.Item.TheVariants as items
-use Rattle.lynx_codec.specs.Form.{form}
+use Rattle.lynx_codec.specs.Encoding.{encoding}
 use Rattle.lynx_codec.specs.Front.{Found, front}
 use Rattle.lynx_codec.specs.Ranges.{IsItem}
 use Rattle.lynx_codec.specs.Feeding.{Stream}
 
-abbrev pub form_of : Entry → List ℕ
-form_of entry = form (items.Entry entry)
+abbrev pub encoding_of : Entry → List ℕ
+encoding_of entry = encoding (items.Entry entry)
 
-abbrev pub HasForm : Entry → Type 0
-HasForm entry = IsItem (items.Entry entry)
+abbrev pub HasEncoding : Entry → Type 0
+HasEncoding entry = IsItem (items.Entry entry)
 
--- the forms of entries, one behind the other
-abbrev pub forms_of : History → List ℕ
-forms_of entries = flat_map form_of entries
+-- the encodings of entries, one behind the other
+abbrev pub encodings_of : History → List ℕ
+encodings_of entries = flat_map encoding_of entries
 
 abbrev pub IsEntry : Item → Type 0
 IsEntry item = (entry : Entry) × (item ≡ items.Entry entry)
@@ -34,21 +34,21 @@ entries_from (Ok (Some found)) read = item_before found.0 (read found.1)
 entries_from (Ok None) read = []
 entries_from (Err fault) read = []
 
--- the entries whose forms the bytes begin with, at most so many
+-- the entries whose encodings the bytes begin with, at most so many
 unfoldable pub first_entries : ℕ → List ℕ → History
 first_entries zero bytes = []
 first_entries (suc n) bytes = entries_from (front bytes) (first_entries n)
 
--- the entries whose forms the bytes begin with: each form has a byte at least
+-- the entries whose encodings the bytes begin with: each encoding has a byte at least
 unfoldable pub entries_in : List ℕ → History
 entries_in bytes = first_entries (length bytes) bytes
 
--- the bytes are forms of entries, and nothing else
+-- the bytes are encodings of entries, and nothing else
 pub record AreStored (bytes : List ℕ) : Type 0 where
-  pub have_forms : AllByRecursion HasForm (entries_in bytes)
-  pub forms : bytes ≡ forms_of (entries_in bytes)
+  pub have_encodings : AllByRecursion HasEncoding (entries_in bytes)
+  pub encodings : bytes ≡ encodings_of (entries_in bytes)
 
--- a feed that has not failed has forms of entries before it
+-- a feed that has not failed has encodings of entries before it
 pub record HasEntries (stream : Stream) : Type 0 where
   pub stored : AreStored stream.rest
   pub open_so : stream.failed ≡ None

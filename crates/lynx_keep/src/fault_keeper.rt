@@ -81,6 +81,8 @@ impl Keeper for FaultKeeper {
       leaves = λ keeper one other. (keeper.inner ≡ one) ⊎ (keeper.inner ≡ other);
       counted = λ keeper. keeper.faults;
       rests = λ keeper settled kept. Unit {0};
+      Owner = Unit {0};
+      owner = λ _. tt;
     } };
 
     fn commit(&mut self, alloc: Global, entry: &Entry, changes: &Changes) -> Result<(), KeepFault> {

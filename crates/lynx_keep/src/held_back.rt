@@ -103,6 +103,7 @@ impl<K: BatchKeeper> HeldBack<K> {
         ensures failed { IsErrOf result KeepFault.Failed
             → HasRisen (K.terms.counted self.old.inner) (K.terms.counted self.new.inner) }
         ensures counts { K.terms.counted self.old.inner ≤ K.terms.counted self.new.inner }
+        ensures owner { K.terms.owner self.new.inner ≡ K.terms.owner self.old.inner }
         ensures dropped { IsErrOf result KeepFault.Failed → self.new.waiting ≡ [] }
         ensures dropped_changes { IsErrOf result KeepFault.Failed → self.new.changes ≡ map.empty }
         ensures faults { self.new.faults ≡ self.old.faults }
@@ -142,6 +143,7 @@ impl<K: BatchKeeper> HeldBack<K> {
         ensures failed { IsErrOf result KeepFault.Failed
             → HasRisen (K.terms.counted self.old.inner) (K.terms.counted self.new.inner) }
         ensures counts { K.terms.counted self.old.inner ≤ K.terms.counted self.new.inner }
+        ensures owner { K.terms.owner self.new.inner ≡ K.terms.owner self.old.inner }
         ensures dropped { IsErrOf result KeepFault.Failed → self.new.waiting ≡ [] }
         ensures dropped_changes { IsErrOf result KeepFault.Failed → self.new.changes ≡ map.empty }
         ensures faults { self.new.faults ≡ self.old.faults }
@@ -180,6 +182,7 @@ impl<K: BatchKeeper> HeldBack<K> {
         ensures failed { OnErr result (HasRisen (counted_both K.terms self.old)
             (counted_both K.terms self.new)) }
         ensures counts { counted_both K.terms self.old ≤ counted_both K.terms self.new }
+        ensures owner { K.terms.owner self.new.inner ≡ K.terms.owner self.old.inner }
     {
         match self.hand_on_again(alloc) {
             Ok(()) => Ok(()),

@@ -17,11 +17,11 @@ pub struct Loaded {
 
 /// What keeps a server's entries, and the cells after them.
 pub trait Keeper {
-    // When the store can be believed, what is kept, what a stop leaves of it, and how often the
-    // store failed.
+    // When the store can be believed, what is kept, what a stop leaves of it, how often the store
+    // failed, and whose it is.
     ghost terms: { Terms Self };
 
-    /// Keeps an entry, which has a byte form, and the changes of its cells, both or neither. A stop
+    /// Keeps an entry, which has an encoding, and the changes of its cells, both or neither. A stop
     /// at any moment of the call leaves what was kept, or that with the whole entry.
     fn commit(&mut self, alloc: Global, entry: &Entry, changes: &Changes) -> Result<(), KeepFault>
         requires range { IsEntryInRange entry.now }
@@ -37,6 +37,7 @@ pub trait Keeper {
         ensures failed { IsErrOf result KeepFault.Failed → HasRisen (terms.counted self.old)
             (terms.counted self.new) }
         ensures counts { terms.counted self.old ≤ terms.counted self.new }
+        ensures owner { terms.owner self.new ≡ terms.owner self.old }
         ensures rests { OnOk result ((before : KeptState)
             → RestsOn terms self.old self.new before (with_entry before entry.now changes.now)) }
         ensures rests_still { IsErrOf result KeepFault.Memory → (before : KeptState)
@@ -55,7 +56,8 @@ pub trait Keeper {
             → terms.leaves self.new kept kept }
         ensures failed { IsErrOf result KeepFault.Failed → HasRisen (terms.counted self.old)
             (terms.counted self.new) }
-        ensures counts { terms.counted self.old ≤ terms.counted self.new };
+        ensures counts { terms.counted self.old ≤ terms.counted self.new }
+        ensures owner { terms.owner self.new ≡ terms.owner self.old };
 
     /// How often the store has failed. A count at the limit of a u64 stays there.
     fn faults(&self) -> u64

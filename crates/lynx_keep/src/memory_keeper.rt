@@ -10,18 +10,18 @@ use crate::keeper::{Keeper, Loaded};
 use crate::reading::read_entries;
 use lynx_cells::{Cells, Changes};
 use lynx_codec::append_entry;
-use lynx_codec::limits::MAX_FORM_BYTES;
+use lynx_codec::limits::MAX_ENCODING_BYTES;
 use lynx_entry::Entry;
 use lynx_names::{Memory, TryCopy};
 use std::alloc::Global;
 use std::marker::Model;
 
-/// Keeps everything in memory, its entries as their byte forms. It never answers Failed, and has no
+/// Keeps everything in memory, its entries as their encodings. It never answers Failed, and has no
 /// faults to count.
 #[derive(Debug, Drop)]
 pub struct MemoryKeeper {
-    /// The forms of the entries, one behind the other.
-    forms: Vec<u8>,
+    /// The encodings of the entries, one behind the other.
+    encodings: Vec<u8>,
     cells: Cells,
 }
 
@@ -34,11 +34,11 @@ impl Model for MemoryKeeper {
     ghost coded = { kept_code };
 
     ghost view = { λ keeper. record {
-      entries = entries_in keeper.forms.items;
+      entries = entries_in keeper.encodings.items;
       cells = keeper.cells.database;
     } };
 
-    ghost invariant = { λ keeper. AreStored keeper.forms.items };
+    ghost invariant = { λ keeper. AreStored keeper.encodings.items };
 }
 
 impl MemoryKeeper {
@@ -47,7 +47,7 @@ impl MemoryKeeper {
         ensures { result ≡ nothing_kept }
     {
         MemoryKeeper {
-            forms: Vec::new(alloc),
+            encodings: Vec::new(alloc),
             cells: Cells::new(alloc),
         }
     }
@@ -58,9 +58,9 @@ impl MemoryKeeper {
         ensures { IfOk result (λ keeper. keeper
             ≡ record { entries = entries.now; cells = cells.now.database }) }
     {
-        let forms = forms_of(alloc, entries)?;
+        let encodings = encodings_of(alloc, entries)?;
         let cells = copy_cells(alloc, cells)?;
-        Ok(MemoryKeeper { forms, cells })
+        Ok(MemoryKeeper { encodings, cells })
     }
 
     /// All growth comes first.
@@ -70,7 +70,7 @@ impl MemoryKeeper {
         ensures err { OnErr result (self.new ≡ self.old) }
     {
         self.cells.stage(changes)?;
-        add_form(&mut self.forms, entry)?;
+        add_encoding(&mut self.encodings, entry)?;
         self.cells.apply(changes);
         Ok(())
     }
@@ -86,45 +86,45 @@ impl MemoryKeeper {
         ensures ok { OnOk result (self.new ≡ with_entries self.old entries.now changes.now) }
         ensures err { OnErr result (self.new ≡ self.old) }
     {
-        let forms = forms_of(alloc, entries)?;
+        let encodings = encodings_of(alloc, entries)?;
         self.cells.stage(changes)?;
-        self.forms.extend_from_slice(forms.as_slice())?;
+        self.encodings.extend_from_slice(encodings.as_slice())?;
         self.cells.apply(changes);
         Ok(())
     }
 }
 
-/// Adds the form of an entry behind those of others.
-fn add_form(forms: &mut Vec<u8>, entry: &Entry) -> Result<(), Memory>
-    requires stored { AreStored forms.old.items }
+/// Adds the encoding of an entry behind those of others.
+fn add_encoding(encodings: &mut Vec<u8>, entry: &Entry) -> Result<(), Memory>
+    requires stored { AreStored encodings.old.items }
     requires range { IsEntryInRange entry.now }
-    ensures ok { OnOk result (entries_in forms.new.items
-        ≡ entries_in forms.old.items ++ entry.now ∷ []) }
-    ensures err { OnErr result (forms.new.items ≡ forms.old.items) }
-    ensures stored { AreStored forms.new.items }
+    ensures ok { OnOk result (entries_in encodings.new.items
+        ≡ entries_in encodings.old.items ++ entry.now ∷ []) }
+    ensures err { OnErr result (encodings.new.items ≡ encodings.old.items) }
+    ensures stored { AreStored encodings.new.items }
 {
-    forms.reserve(MAX_FORM_BYTES)?;
-    append_entry(entry, forms);
+    encodings.reserve(MAX_ENCODING_BYTES)?;
+    append_entry(entry, encodings);
     Ok(())
 }
 
-/// The forms of entries, one behind the other.
-fn forms_of(alloc: Global, entries: &[Entry]) -> Result<Vec<u8>, Memory>
+/// The encodings of entries, one behind the other.
+fn encodings_of(alloc: Global, entries: &[Entry]) -> Result<Vec<u8>, Memory>
     requires { All IsEntryInRange entries.now }
-    ensures { IfOk result (λ forms. AreStored forms.items
-        × (entries_in forms.items ≡ entries.now)) }
+    ensures { IfOk result (λ encodings. AreStored encodings.items
+        × (entries_in encodings.items ≡ entries.now)) }
 {
-    let mut forms = Vec::new(alloc);
+    let mut encodings = Vec::new(alloc);
     for entry in entries {
-        add_form(&mut forms, entry)?;
+        add_encoding(&mut encodings, entry)?;
     }
-    Ok(forms)
+    Ok(encodings)
 }
 
 impl TryCopy for MemoryKeeper {
     fn copy(&self, alloc: Global) -> Result<MemoryKeeper, Memory> {
         Ok(MemoryKeeper {
-            forms: Vec::from_slice(alloc, self.forms.as_slice())?,
+            encodings: Vec::from_slice(alloc, self.encodings.as_slice())?,
             cells: copy_cells(alloc, &self.cells)?,
         })
     }
@@ -147,7 +147,7 @@ impl Keeper for MemoryKeeper {
     }
 
     fn load(&mut self, alloc: Global) -> Result<Loaded, KeepFault> {
-        let entries = read_entries(alloc, self.forms.as_slice())?;
+        let entries = read_entries(alloc, self.encodings.as_slice())?;
         let cells = copy_cells(alloc, &self.cells)?;
         Ok(Loaded { entries, cells })
     }

@@ -1,4 +1,4 @@
-//! Entries that are read back from their forms.
+//! Entries that are read back from their encodings.
 ghost use Rattle.std.specs.Prelude.{◌≡◌, ◌∷◌, [], IfNone, IfOk, IfSome, OnOk};
 ghost use Rattle.lynx_keep.specs.Stored.{AreStored, HasEntries, IsEntry, entries_in};
 
@@ -33,13 +33,13 @@ fn next_entry(alloc: Global, feed: &mut Feed) -> Result<Option<Entry>, Memory>
     }
 }
 
-/// The entries whose forms these bytes are. Takes the time and the memory of all of them.
-pub(crate) fn read_entries(alloc: Global, forms: &[u8]) -> Result<Vec<Entry>, Memory>
-    requires { AreStored forms.now }
-    ensures { IfOk result (λ entries. entries.items ≡ entries_in forms.now) }
+/// The entries whose encodings these bytes are. Takes the time and the memory of all of them.
+pub(crate) fn read_entries(alloc: Global, encodings: &[u8]) -> Result<Vec<Entry>, Memory>
+    requires { AreStored encodings.now }
+    ensures { IfOk result (λ entries. entries.items ≡ entries_in encodings.now) }
 {
     let mut feed = Feed::new(alloc);
-    feed.push(forms)?;
+    feed.push(encodings)?;
     let mut entries = Vec::new(alloc);
     while let Some(entry) = next_entry(alloc, &mut feed)? {
         entries.push(entry)?;

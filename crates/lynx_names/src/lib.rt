@@ -4,6 +4,7 @@
 
 pub use chain::ChainId;
 pub use client::ClientId;
+pub use fact::learn;
 pub use items::Items;
 pub use memory::Memory;
 pub use numbers::{NumberAt, Numbers};
@@ -16,6 +17,7 @@ pub use try_copy::TryCopy;
 
 pub mod chain;
 pub mod client;
+pub mod fact;
 pub mod items;
 pub mod limits;
 pub mod memory;

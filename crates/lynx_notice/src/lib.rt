@@ -2,8 +2,8 @@
 //! the set.
 #![tactic(auto)]
 
-pub use board::{Board, service_path};
 pub use notice::{Notice, notice_in, notice_text};
+pub use notice_file::{NoticeFile, service_path};
 
-pub mod board;
 pub mod notice;
+pub mod notice_file;

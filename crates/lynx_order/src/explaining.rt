@@ -17,7 +17,7 @@ use crate::listing::touches_by_cell;
 use crate::picked::pick_all;
 use crate::picks::first_marked;
 use crate::table::{all_touchings, table_of};
-use lynx_names::{ChainId, Items, Memory};
+use lynx_names::{ChainId, Items, Memory, learn};
 use lynx_order_search::{Candidate, ChainTouch, Link, search};
 use lynx_set::ChainSet;
 use lynx_world::World;
@@ -160,6 +160,6 @@ pub fn explain(alloc: Global, world: &World) -> Result<Explained, Memory>
 {
     let set = world.set();
     // By its type a set has few servers.
-    let _ = set.servers();
+    learn(set.servers());
     explain_list(alloc, set, world)
 }

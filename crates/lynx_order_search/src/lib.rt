@@ -6,9 +6,9 @@ pub use candidate::{Candidate, Link};
 pub use searching::search;
 pub use touched::ChainTouch;
 
+mod adjacency;
 pub mod candidate;
 mod edges;
-mod graph;
 mod nearest;
 mod picking;
 mod round;

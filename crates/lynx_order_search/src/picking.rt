@@ -1,5 +1,5 @@
 //! Chains one after another, each when no node is left that has an edge to it.
-use crate::graph::Graph;
+use crate::adjacency::Adjacency;
 use lynx_names::{Items, Memory};
 use std::alloc::Global;
 use std::cmp::Reverse;
@@ -41,8 +41,8 @@ impl Picking {
     }
 
     /// The joint's edges are gone.
-    fn take_joint(&mut self, graph: &Graph, joint: usize) -> Result<(), Memory> {
-        for chain in graph.targets_of(joint) {
+    fn take_joint(&mut self, adjacency: &Adjacency, joint: usize) -> Result<(), Memory> {
+        for chain in adjacency.targets_of(joint) {
             if self.was_last_edge(*chain) {
                 self.free.push(Reverse(*chain))?;
             }
@@ -51,13 +51,13 @@ impl Picking {
     }
 
     /// The chain's edges are gone, and with them those of each joint to which no other comes.
-    fn take_chain(&mut self, graph: &Graph, chain: usize) -> Result<(), Memory> {
-        for node in graph.targets_of(chain) {
+    fn take_chain(&mut self, adjacency: &Adjacency, chain: usize) -> Result<(), Memory> {
+        for node in adjacency.targets_of(chain) {
             if self.was_last_edge(*node) {
                 if *node < self.chains {
                     self.free.push(Reverse(*node))?;
                 } else {
-                    self.take_joint(graph, *node)?;
+                    self.take_joint(adjacency, *node)?;
                 }
             }
         }
@@ -70,7 +70,7 @@ impl Picking {
 pub(crate) fn pick(
     alloc: Global,
     chains: usize,
-    graph: &Graph,
+    adjacency: &Adjacency,
     degrees: Vec<usize>,
 ) -> Result<Items<usize>, Memory> {
     let mut order = Items::new(alloc);
@@ -80,7 +80,7 @@ pub(crate) fn pick(
             break;
         };
         order.push(chain)?;
-        picking.take_chain(graph, chain)?;
+        picking.take_chain(adjacency, chain)?;
     }
     Ok(order)
 }

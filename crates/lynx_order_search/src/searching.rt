@@ -1,5 +1,5 @@
+use crate::adjacency::{Adjacency, degrees_of};
 use crate::candidate::Candidate;
-use crate::graph::{Graph, degrees_of};
 use crate::nearest::predecessors;
 use crate::picking::pick;
 use crate::round::cycle_from;
@@ -23,8 +23,8 @@ fn left_of(alloc: Global, chains: usize, order: &[usize]) -> Result<Vec<bool>, M
 fn order_of(alloc: Global, chains: usize, touches: &[ChainTouch]) -> Result<Items<usize>, Memory> {
     let edges = edges_of(alloc, chains, touches)?;
     let degrees = degrees_of(alloc, &edges)?;
-    let graph = Graph::of(alloc, &edges)?;
-    pick(alloc, chains, &graph, degrees)
+    let adjacency = Adjacency::of(alloc, &edges)?;
+    pick(alloc, chains, &adjacency, degrees)
 }
 
 /// An order of so many chains, or a cycle among them. The touches are in order of their cells,

@@ -4,7 +4,7 @@ use Rattle.std.specs.Prelude.{Bool, false}
 use Rattle.std.specs.List.{flat_map}
 use Rattle.std.specs.Io.KnownBytes.{Consumes, Keeps, IsAtEnd}
 use Rattle.std.proofs.KnownBytes.{Consumes-nil, Consumes-trans, Consumes-kept, Appends-nil}
-use Rattle.lynx_codec.specs.Form.{form}
+use Rattle.lynx_codec.specs.Encoding.{encoding}
 use Rattle.lynx_port.specs.declared.fault.PortFault.{PortFault}
 use Rattle.lynx_port.specs.declared.serving.Served.{Served}
 use Rattle.lynx_port.specs.Desks.{Begins, Looks, Answering, Replies}
@@ -35,7 +35,7 @@ going_more replies first last unread read later unwritten wrote left more count 
       talks = a.answered.talked.talks;
       are_frames = a.answered.talked.are_frames;
       are_replies = a.answered.talked.are_replies;
-      taken = ap (λ bytes. bytes ++ more) a.answered.talked.taken ∙ append_assoc (flat_map form a.answered.frames) left more;
+      taken = ap (λ bytes. bytes ++ more) a.answered.talked.taken ∙ append_assoc (flat_map encoding a.answered.frames) left more;
       appended = a.answered.talked.appended;
     };
     counted = a.answered.counted;

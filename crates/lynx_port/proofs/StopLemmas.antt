@@ -6,7 +6,7 @@ use Rattle.std.proofs.KnownBytes.{Appends-nil}
 use Rattle.lynx_codec.specs.declared.fault.DecodeFault.{DecodeFault}
 use Rattle.lynx_codec.specs.declared.fault.DecodeFault.TheVariants as decoding
 use Rattle.lynx_codec.specs.declared.item.Item.{Item}
-use Rattle.lynx_codec.specs.Form.{form}
+use Rattle.lynx_codec.specs.Encoding.{encoding}
 use Rattle.lynx_codec.specs.Ranges.{IsItem}
 use Rattle.lynx_port.specs.declared.fault.PortFault.{PortFault}
 use Rattle.lynx_port.specs.declared.fault.PortFault.TheVariants as faults
@@ -88,7 +88,7 @@ stopped_unread begins looks desk wrote left fault none =
     stopped_first begins looks desk desk wrote wrote left [] ⊥ fault (Appends-nil wrote) (no_frame_stops begins looks desk left fault none)
 
 refused_stops : {D : Type 0} (begins : Begins D) (looks : Looks D) (first last : D) (frame : Item) (more : List ℕ) (fault : PortFault)
-    → IsItem frame → Refuses looks first last frame fault → Stops begins looks first last (form frame ++ more) [] ⊥ fault
+    → IsItem frame → Refuses looks first last frame fault → Stops begins looks first last (encoding frame ++ more) [] ⊥ fault
 refused_stops begins looks first last frame more faults.Read is_item a = absurd a
 refused_stops begins looks first last frame more faults.Write is_item a = absurd a
 refused_stops begins looks first last frame more (faults.Bad fault) is_item a = absurd a
@@ -99,9 +99,9 @@ refused_stops begins looks first last frame more faults.NotAsked is_item a = ((a
 
 -- the frame was not answered
 pub stopped_refused : {D : Type 0} (begins : Begins D) (looks : Looks D) (first last : D) (wrote : Option (List ℕ)) (frame : Item) (fault : PortFault)
-    → IsItem frame → Refuses looks first last frame fault → (more : List ℕ) → Stopped begins looks first last wrote wrote (form frame ++ more) ⊥ fault
+    → IsItem frame → Refuses looks first last frame fault → (more : List ℕ) → Stopped begins looks first last wrote wrote (encoding frame ++ more) ⊥ fault
 stopped_refused begins looks first last wrote frame fault is_item refuses more =
-    stopped_first begins looks first last wrote wrote (form frame ++ more) [] ⊥ fault (Appends-nil wrote) (refused_stops begins looks first last frame more fault is_item refuses)
+    stopped_first begins looks first last wrote wrote (encoding frame ++ more) [] ⊥ fault (Appends-nil wrote) (refused_stops begins looks first last frame more fault is_item refuses)
 
 -- nothing more was asked
 unwritten_none : {D : Type 0} (replies : Answering D) (desk : D) (left : List ℕ) → Unwritten replies desk desk left
@@ -110,9 +110,9 @@ unwritten_none replies desk left = record { requests = []; given = []; more = le
 -- the frame's answer was not written whole
 pub stopped_cut : {D : Type 0} (begins : Begins D) (looks : Looks D) (first last : D) (unwritten wrote : Option (List ℕ)) (frame : Item) (bytes : List ℕ) (fault : PortFault)
     → IsItem frame → IsReply (Replies begins looks) first last frame bytes → CutsShort unwritten wrote bytes fault
-    → (more : List ℕ) → Stopped begins looks first last unwritten wrote (form frame ++ more) ⊥ fault
+    → (more : List ℕ) → Stopped begins looks first last unwritten wrote (encoding frame ++ more) ⊥ fault
 stopped_cut begins looks first last unwritten wrote frame bytes fault is_item reply cut more =
-    let broke : BrokeOff (Replies begins looks) first last (form frame ++ more) cut.1.2.part = record {
+    let broke : BrokeOff (Replies begins looks) first last (encoding frame ++ more) cut.1.2.part = record {
       frame = frame;
       reply = reply.reply;
       stands = (more, is_item, refl);
@@ -124,24 +124,24 @@ stopped_cut begins looks first last unwritten wrote frame bytes fault is_item re
       missing = cut.1.1;
       behind = unwritten_none (Replies begins looks) last more;
     } in
-    let at : PortFault → Type 0 = λ fault. Stopped begins looks first last unwritten wrote (form frame ++ more) ⊥ fault in
+    let at : PortFault → Type 0 = λ fault. Stopped begins looks first last unwritten wrote (encoding frame ++ more) ⊥ fault in
     elim cut.0 [
-      | inl write ↦ subst at (sym write) (stopped_first begins looks first last unwritten wrote (form frame ++ more) cut.1.2.part ⊥ faults.Write cut.1.2.appended broke)
-      | inr turns ↦ subst at (sym turns) (stopped_first begins looks first last unwritten wrote (form frame ++ more) cut.1.2.part ⊥ faults.Turns cut.1.2.appended (inr broke))
+      | inl write ↦ subst at (sym write) (stopped_first begins looks first last unwritten wrote (encoding frame ++ more) cut.1.2.part ⊥ faults.Write cut.1.2.appended broke)
+      | inr turns ↦ subst at (sym turns) (stopped_first begins looks first last unwritten wrote (encoding frame ++ more) cut.1.2.part ⊥ faults.Turns cut.1.2.appended (inr broke))
     ]
 
 pub if_cut : {D : Type 0} (begins : Begins D) (looks : Looks D) (first last : D) (unwritten wrote : Option (List ℕ)) (frame : Item) (bytes : List ℕ) {T : Type 0} (r : Result T PortFault)
     → IsItem frame → IsReply (Replies begins looks) first last frame bytes → IfErr r (CutsShort unwritten wrote bytes)
-    → IfErr r (λ fault. (more : List ℕ) → Stopped begins looks first last unwritten wrote (form frame ++ more) ⊥ fault)
+    → IfErr r (λ fault. (more : List ℕ) → Stopped begins looks first last unwritten wrote (encoding frame ++ more) ⊥ fault)
 if_cut begins looks first last unwritten wrote frame bytes (Ok x) is_item reply cut = tt
 if_cut begins looks first last unwritten wrote frame bytes (Err fault) is_item reply cut =
     stopped_cut begins looks first last unwritten wrote frame bytes fault is_item reply cut
 
 -- the frame that stood next stopped the talk
 pub stopped_next : {D : Type 0} (begins : Begins D) (looks : Looks D) (first middle last : D) (unwritten wrote longer : Option (List ℕ)) (bytes feed left : List ℕ) (before count : ℕ) (frame : Item) (fault : PortFault)
-    → Answered (Replies begins looks) first middle unwritten wrote bytes feed before count None → feed ≡ form frame ++ left
-    → ((more : List ℕ) → Stopped begins looks middle last wrote longer (form frame ++ more) ⊥ fault)
+    → Answered (Replies begins looks) first middle unwritten wrote bytes feed before count None → feed ≡ encoding frame ++ left
+    → ((more : List ℕ) → Stopped begins looks middle last wrote longer (encoding frame ++ more) ⊥ fault)
     → Stopped begins looks first last unwritten longer bytes ⊥ fault
 stopped_next begins looks first middle last unwritten wrote longer bytes feed left before count frame fault a stood stopped =
-    stopped_join begins looks first middle last unwritten wrote longer bytes (form frame ++ left) before count ⊥ fault
+    stopped_join begins looks first middle last unwritten wrote longer bytes (encoding frame ++ left) before count ⊥ fault
     (subst (λ feed. Answered (Replies begins looks) first middle unwritten wrote bytes feed before count None) stood a) (stopped left)

@@ -6,7 +6,7 @@ use Rattle.std.proofs.lemmas.Grind.{flat_map-append}
 use Rattle.std.specs.Io.KnownBytes.{Appends}
 use Rattle.std.proofs.KnownBytes.{Appends-nil, Appends-trans}
 use Rattle.lynx_codec.specs.declared.item.Item.{Item}
-use Rattle.lynx_codec.specs.Form.{form}
+use Rattle.lynx_codec.specs.Encoding.{encoding}
 use Rattle.lynx_codec.specs.Ranges.{IsItem}
 use Rattle.lynx_port.specs.Desks.{Answering}
 use Rattle.lynx_port.specs.Talks.{Talks, Talked, Answered, AreAt, GoOn, ended_by}
@@ -24,9 +24,9 @@ talks_join replies first middle last (frame ∷ frames) more [] others a b = abs
 talks_join replies first middle last (frame ∷ frames) more (reply ∷ given) others a b =
     (a.0, a.1, talks_join replies a.0 middle last frames more given others a.2 b)
 
-pub forms_join : (frames more : List Item) (rest : List ℕ) → flat_map form frames ++ (flat_map form more ++ rest) ≡ flat_map form (frames ++ more) ++ rest
-forms_join frames more rest =
-    sym (append_assoc (flat_map form frames) (flat_map form more) rest) ∙ ap (λ forms. forms ++ rest) (sym (flat_map-append form frames more))
+pub encodings_join : (frames more : List Item) (rest : List ℕ) → flat_map encoding frames ++ (flat_map encoding more ++ rest) ≡ flat_map encoding (frames ++ more) ++ rest
+encodings_join frames more rest =
+    sym (append_assoc (flat_map encoding frames) (flat_map encoding more) rest) ∙ ap (λ encodings. encodings ++ rest) (sym (flat_map-append encoding frames more))
 
 pub talked_join : {D : Type 0} (replies : Answering D) (first middle last : D) (unwritten wrote longer : Option (List ℕ)) (bytes feed left part : List ℕ) (frames more : List Item)
     → Talked replies first middle unwritten wrote bytes frames feed [] → Talked replies middle last wrote longer feed more left part
@@ -36,10 +36,10 @@ talked_join replies first middle last unwritten wrote longer bytes feed left par
   talks = talks_join replies first middle last frames more a.given b.given a.talks b.talks;
   are_frames = all_join IsItem frames more a.are_frames b.are_frames;
   are_replies = all_join IsItem a.given b.given a.are_replies b.are_replies;
-  taken = a.taken ∙ ap (λ end. flat_map form frames ++ end) b.taken ∙ forms_join frames more left;
+  taken = a.taken ∙ ap (λ end. flat_map encoding frames ++ end) b.taken ∙ encodings_join frames more left;
   appended = subst (Appends unwritten longer)
-      (ap (λ start. start ++ (flat_map form b.given ++ part)) (append-nil (flat_map form a.given)) ∙ forms_join a.given b.given part)
-      (Appends-trans unwritten wrote longer (flat_map form a.given ++ []) (flat_map form b.given ++ part) a.appended b.appended);
+      (ap (λ start. start ++ (flat_map encoding b.given ++ part)) (append-nil (flat_map encoding a.given)) ∙ encodings_join a.given b.given part)
+      (Appends-trans unwritten wrote longer (flat_map encoding a.given ++ []) (flat_map encoding b.given ++ part) a.appended b.appended);
 }
 
 pub talked_none : {D : Type 0} (replies : Answering D) (desk : D) (unwritten wrote : Option (List ℕ)) (bytes part : List ℕ)
@@ -81,7 +81,7 @@ answered_join replies first middle last unwritten wrote longer bytes feed left b
 -- one frame, whose answer was written
 pub answered_one : {D : Type 0} (replies : Answering D) (first last : D) (unwritten wrote : Option (List ℕ)) (left : List ℕ) (count : ℕ) (frame : Item)
     → IsItem frame → WritesReply replies first last unwritten wrote frame
-    → Answered replies first last unwritten wrote (form frame ++ left) left count (count + 1) (ended_by frame)
+    → Answered replies first last unwritten wrote (encoding frame ++ left) left count (count + 1) (ended_by frame)
 answered_one replies first last unwritten wrote left count frame is_item w = record {
   frames = frame ∷ [];
   talked = record {
@@ -89,8 +89,8 @@ answered_one replies first last unwritten wrote left count frame is_item w = rec
     talks = (last, w.1.replied, refl);
     are_frames = (is_item, tt);
     are_replies = (w.1.is_reply, tt);
-    taken = ap (λ bytes. bytes ++ left) (sym (append-nil (form frame)));
-    appended = subst (Appends unwritten wrote) (w.1.bytes_are ∙ sym (append-nil (form w.1.reply)) ∙ sym (append-nil (form w.1.reply ++ []))) w.2;
+    taken = ap (λ bytes. bytes ++ left) (sym (append-nil (encoding frame)));
+    appended = subst (Appends unwritten wrote) (w.1.bytes_are ∙ sym (append-nil (encoding w.1.reply)) ∙ sym (append-nil (encoding w.1.reply ++ []))) w.2;
   };
   counted = refl;
   are_at = are_at_one frame (ended_by frame) refl;
@@ -98,11 +98,11 @@ answered_one replies first last unwritten wrote left count frame is_item w = rec
 
 -- one frame more, which stood next
 pub answered_more : {D : Type 0} (replies : Answering D) (first middle last : D) (unwritten wrote longer : Option (List ℕ)) (bytes feed left : List ℕ) (before count : ℕ) (frame : Item)
-    → Answered replies first middle unwritten wrote bytes feed before count None → feed ≡ form frame ++ left → IsItem frame
+    → Answered replies first middle unwritten wrote bytes feed before count None → feed ≡ encoding frame ++ left → IsItem frame
     → WritesReply replies middle last wrote longer frame
     → Answered replies first last unwritten longer bytes left before (count + 1) (ended_by frame)
 answered_more replies first middle last unwritten wrote longer bytes feed left before count frame a stood is_item w =
-    answered_join replies first middle last unwritten wrote longer bytes (form frame ++ left) left before count (count + 1) (ended_by frame)
+    answered_join replies first middle last unwritten wrote longer bytes (encoding frame ++ left) left before count (count + 1) (ended_by frame)
     (subst (λ feed. Answered replies first middle unwritten wrote bytes feed before count None) stood a)
     (answered_one replies middle last wrote longer left count frame is_item w)
 
@@ -111,11 +111,11 @@ pub none_of : {T : Type 0} (found : Option T) → is_some found ≡ false → fo
 none_of None same = refl
 none_of (Some x) same = absurd cc
 
-pub form_some : (item : Item) → 1 ≤ length (form item)
-unfolding form
-form_some item = omega arith
+pub encoding_some : (item : Item) → 1 ≤ length (encoding item)
+unfolding encoding
+encoding_some item = omega arith
 
 -- a frame takes at least one byte of the feed
-pub frame_left : (feed left : List ℕ) (frame : Item) → feed ≡ form frame ++ left → length left + 1 ≤ length feed
+pub frame_left : (feed left : List ℕ) (frame : Item) → feed ≡ encoding frame ++ left → length left + 1 ≤ length feed
 frame_left feed left frame stood =
-    omega (arith, form_some frame, length-append (form frame) left, ap length stood)
+    omega (arith, encoding_some frame, length-append (encoding frame) left, ap length stood)

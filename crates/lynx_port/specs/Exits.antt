@@ -7,7 +7,7 @@ use Rattle.lynx_codec.specs.declared.fault.DecodeFault.{DecodeFault}
 use Rattle.lynx_codec.specs.declared.fault.DecodeFault.TheVariants as decoding
 use Rattle.lynx_codec.specs.declared.item.Item.{Item}
 use Rattle.lynx_codec.specs.declared.item.Item.TheVariants as items
-use Rattle.lynx_codec.specs.Form.{form}
+use Rattle.lynx_codec.specs.Encoding.{encoding}
 use Rattle.lynx_codec.specs.Front.{front}
 use Rattle.lynx_codec.specs.Ranges.{IsItem}
 use Rattle.lynx_port.specs.declared.limits.TheConstants.{MAX_TOGETHER}
@@ -17,9 +17,9 @@ use Rattle.lynx_port.specs.declared.serving.Served.{Served}
 use Rattle.lynx_port.specs.Desks.{Begins, Looks, Answering, Replies}
 use Rattle.lynx_port.specs.Talks.{Talks, Talked, Answered, GoOn}
 
--- the form of that frame stands next
+-- the encoding of that frame stands next
 abbrev pub StandsNext : List ℕ → Item → Type 0
-StandsNext left frame = (more : List ℕ) × IsItem frame × (left ≡ form frame ++ more)
+StandsNext left frame = (more : List ℕ) × IsItem frame × (left ≡ encoding frame ++ more)
 
 -- no client sends it
 abbrev pub IsUnasked : Item → Type 0
@@ -49,7 +49,7 @@ pub record Unwritten {D : Type 0} (replies : Answering D) (first last : D)
   pub more : List ℕ
   pub talks : Talks replies first (map items.Request requests) given last
   pub are_items : AllByRecursion IsItem (map items.Request requests)
-  pub stand : left ≡ flat_map form (map items.Request requests) ++ more
+  pub stand : left ≡ flat_map encoding (map items.Request requests) ++ more
   pub few : length requests < MAX_TOGETHER
 
 -- The frame that stands next was answered, and its answer was not written whole. Requests behind
@@ -63,7 +63,7 @@ pub record BrokeOff {D : Type 0} (replies : Answering D) (first last : D)
   pub replied : replies first frame reply next
   pub is_reply : IsItem reply
   pub rest : List ℕ
-  pub cut : form reply ≡ part ++ rest
+  pub cut : encoding reply ≡ part ++ rest
   pub missing : rest ≢ []
   pub behind : Unwritten replies next last stands.0
 

@@ -4,7 +4,7 @@ use Rattle.std.specs.List.{flat_map, AllByRecursion}
 use Rattle.std.specs.Io.KnownBytes.{Appends}
 use Rattle.lynx_codec.specs.declared.item.Item.{Item}
 use Rattle.lynx_codec.specs.declared.item.Item.TheVariants as items
-use Rattle.lynx_codec.specs.Form.{form}
+use Rattle.lynx_codec.specs.Encoding.{encoding}
 use Rattle.lynx_codec.specs.Ranges.{IsItem}
 use Rattle.lynx_port.specs.Desks.{Answering}
 
@@ -37,8 +37,8 @@ abbrev pub AreAt : List Item → Option Bool → Type 0
 AreAt frames None = GoOn frames
 AreAt frames (Some shut) = Closes frames shut
 
--- A stretch of a talk: the bytes are the forms of the frames and then what is left, and what was
--- written is the forms of the replies to them and then a part of one more.
+-- A stretch of a talk: the bytes are the encodings of the frames and then what is left, and what
+-- was written is the encodings of the replies to them and then a part of one more.
 pub record Talked {D : Type 0} (replies : Answering D) (first last : D)
     (unwritten wrote : Option (List ℕ)) (bytes : List ℕ) (frames : List Item)
     (left part : List ℕ) : Type 0 where
@@ -46,8 +46,8 @@ pub record Talked {D : Type 0} (replies : Answering D) (first last : D)
   pub talks : Talks replies first frames given last
   pub are_frames : AllByRecursion IsItem frames
   pub are_replies : AllByRecursion IsItem given
-  pub taken : bytes ≡ flat_map form frames ++ left
-  pub appended : Appends unwritten wrote (flat_map form given ++ part)
+  pub taken : bytes ≡ flat_map encoding frames ++ left
+  pub appended : Appends unwritten wrote (flat_map encoding given ++ part)
 
 -- All frames so far were answered whole, and counted on from the count before.
 pub record Answered {D : Type 0} (replies : Answering D) (first last : D)

@@ -1,7 +1,7 @@
 //! Answers the frames of a feed in order.
 ghost use Rattle.std.specs.Prelude.{◌≡◌, ◌≤◌, ◌<◌, ◌+◌, ◌^◌, ◌++◌, ℕ, List, [], ◌∷◌, length, Some, None, Ok, IfOk, IfErr, OnOk, IfSome, IfNone};
 ghost use Rattle.std.specs.List.{flat_map, AllByRecursion};
-ghost use Rattle.lynx_codec.specs.Form.{form};
+ghost use Rattle.lynx_codec.specs.Encoding.{encoding};
 ghost use Rattle.lynx_codec.specs.Front.{front};
 ghost use Rattle.lynx_codec.specs.Ranges.{IsItem};
 ghost use Rattle.lynx_codec.specs.Feeding.{Gives, Waits};
@@ -13,9 +13,9 @@ ghost use Rattle.lynx_port.specs.inner.Steps.{NoFrame, WritesReply, WritesReplie
 use crate::desk::Desk;
 use crate::fault::PortFault;
 use crate::limits::MAX_TOGETHER;
-use crate::replying::form_for;
+use crate::replying::encoding_for;
 use crate::together::{answer_together, take_requests};
-use crate::writing::write_form;
+use crate::writing::write_encoding;
 use lynx_codec::{Feed, Item};
 use lynx_entry::Request;
 use std::alloc::Global;
@@ -55,10 +55,10 @@ fn answer_frame<W: Write, D: Desk>(
         (W.contents writer.old) (W.contents writer.new) frame) }
     ensures fault { IfErr result (λ fault. (more : List ℕ) →
         Stopped D.begins D.looks desk.old desk.new (W.contents writer.old) (W.contents writer.new)
-        (form frame ++ more) ⊥ fault) }
+        (encoding frame ++ more) ⊥ fault) }
 {
-    let form = form_for(alloc, frame, desk)?;
-    write_form(writer, form.as_slice(), turns)
+    let encoding = encoding_for(alloc, frame, desk)?;
+    write_encoding(writer, encoding.as_slice(), turns)
 }
 
 /// Asks the desk of a request and those behind it, and writes the answers. One that is alone goes
@@ -78,7 +78,7 @@ fn answer_requests<W: Write, D: Desk>(
         (W.contents writer.old) (W.contents writer.new) (as_frames (first ∷ others.items))) }
     ensures fault { IfErr result (λ fault. (more : List ℕ) →
         Stopped D.begins D.looks desk.old desk.new (W.contents writer.old) (W.contents writer.new)
-        (flat_map form (as_frames (first ∷ others.items)) ++ more) ⊥ fault) }
+        (flat_map encoding (as_frames (first ∷ others.items)) ++ more) ⊥ fault) }
 {
     if others.is_empty() {
         return answer_frame(alloc, Item::Request(first), writer, desk, turns);
@@ -102,12 +102,12 @@ fn answer_leading<W: Write, D: Desk>(
     ensures turns { turns.new ≤ turns.old }
     ensures answered { IfOk result (λ other. GoesOn (Replies D.begins D.looks) desk.old desk.new
         (W.contents writer.old) (W.contents writer.new)
-        (form (Item.Request first) ++ feed.old.rest) other feed.new.rest answers.old
+        (encoding (Item.Request first) ++ feed.old.rest) other feed.new.rest answers.old
         answers.new) }
     ensures taken { OnOk result (length feed.new.rest ≤ length feed.old.rest) }
     ensures fault { IfErr result (Stopped D.begins D.looks desk.old desk.new
         (W.contents writer.old) (W.contents writer.new)
-        (form (Item.Request first) ++ feed.old.rest) ⊥) }
+        (encoding (Item.Request first) ++ feed.old.rest) ⊥) }
 {
     let mut others = Vec::new(alloc);
     let other = take_requests(alloc, feed, &mut others)?;

@@ -2,7 +2,7 @@ use lynx_codec::Looked;
 use lynx_entry::{Answer, Request};
 use lynx_names::{ChainId, Memory};
 
-/// Who answers a client: a session with a cluster, say. Whatever it answers has a byte form.
+/// Who answers a client: a session with a cluster, say. Whatever it answers has an encoding.
 pub trait Desk {
     ghost use Rattle.std.specs.Prelude.{◌≡◌, ◌≤◌, [], length, All, IfOk, vec_capacity};
     ghost use Rattle.lynx_codec.specs.Ranges.{IsAnswerInRange, IsLookedInRange};
@@ -33,7 +33,7 @@ pub trait Desk {
         }
     }
 
-    /// Looks for the entry of that hop of the chain. Want of memory has no form: it ends the
+    /// Looks for the entry of that hop of the chain. Want of memory has no encoding: it ends the
     /// connection.
     fn look(&mut self, chain: ChainId, hop: u8) -> Result<Looked, Memory>
         ensures looks { looks self.old chain hop result self.new }

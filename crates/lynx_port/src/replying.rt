@@ -6,7 +6,7 @@ ghost use Rattle.lynx_port.specs.inner.Steps.{Refuses, IsReply};
 
 use crate::desk::Desk;
 use crate::fault::PortFault;
-use lynx_codec::limits::MAX_FORM_BYTES;
+use lynx_codec::limits::MAX_ENCODING_BYTES;
 use lynx_codec::{Item, append};
 use std::alloc::Global;
 
@@ -30,13 +30,13 @@ fn reply_to<D: Desk>(frame: Item, desk: &mut D) -> Result<Item, PortFault>
     }
 }
 
-/// The form of what the frame is answered. The room for it is made before the desk is asked.
-pub fn form_for<D: Desk>(alloc: Global, frame: Item, desk: &mut D) -> Result<Vec<u8>, PortFault>
-    ensures form { IfOk result (λ bytes.
+/// The encoding of what the frame is answered. The room for it is made before the desk is asked.
+pub fn encoding_for<D: Desk>(alloc: Global, frame: Item, desk: &mut D) -> Result<Vec<u8>, PortFault>
+    ensures encoding { IfOk result (λ bytes.
         IsReply (Replies D.begins D.looks) desk.old desk.new frame bytes.items) }
     ensures fault { IfErr result (Refuses D.looks desk.old desk.new frame) }
 {
-    let mut bytes = Vec::with_capacity(alloc, MAX_FORM_BYTES)?;
+    let mut bytes = Vec::with_capacity(alloc, MAX_ENCODING_BYTES)?;
     let reply = reply_to(frame, desk)?;
     append(&reply, &mut bytes);
     Ok(bytes)

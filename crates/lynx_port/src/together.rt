@@ -2,7 +2,7 @@
 ghost use Rattle.std.specs.Prelude.{◌≡◌, ◌≤◌, ◌<◌, ◌+◌, ◌*◌, ◌++◌, ℕ, List, [], ◌∷◌, length, map, All, IfOk, IfErr, OnOk, OnErr};
 ghost use Rattle.std.specs.List.{flat_map, AllByRecursion};
 ghost use Rattle.lynx_codec.specs.Adding.{HasRoom};
-ghost use Rattle.lynx_codec.specs.Form.{form};
+ghost use Rattle.lynx_codec.specs.Encoding.{encoding};
 ghost use Rattle.lynx_codec.specs.Ranges.{IsItem, IsAnswerInRange};
 ghost use Rattle.lynx_port.specs.Desks.{Replies};
 ghost use Rattle.lynx_port.specs.Exits.{Stopped};
@@ -11,8 +11,8 @@ ghost use Rattle.lynx_port.specs.inner.Steps.{as_frames, Takes, AreReplies, Writ
 use crate::desk::Desk;
 use crate::fault::PortFault;
 use crate::limits::MAX_TOGETHER;
-use crate::writing::write_form;
-use lynx_codec::limits::MAX_FORM_BYTES;
+use crate::writing::write_encoding;
+use lynx_codec::limits::MAX_ENCODING_BYTES;
 use lynx_codec::{Feed, Item, append};
 use lynx_entry::{Answer, Request};
 use lynx_names::Memory;
@@ -42,12 +42,12 @@ pub fn take_requests(
     Ok(None)
 }
 
-/// Adds the forms of the answers at the end. There is room for the longest forms.
+/// Adds the encodings of the answers at the end. There is room for the longest encodings.
 fn append_answers(answers: Vec<Answer>, bytes: &mut Vec<u8>)
     requires range { All IsAnswerInRange answers.items }
-    requires room { HasRoom bytes.old (MAX_FORM_BYTES * length answers.items) }
-    ensures forms { bytes.new.items ≡
-        bytes.old.items ++ flat_map form (map Item.Answer answers.items) }
+    requires room { HasRoom bytes.old (MAX_ENCODING_BYTES * length answers.items) }
+    ensures encodings { bytes.new.items ≡
+        bytes.old.items ++ flat_map encoding (map Item.Answer answers.items) }
     ensures items { AllByRecursion IsItem (map Item.Answer answers.items) }
 {
     for answer in answers {
@@ -55,24 +55,24 @@ fn append_answers(answers: Vec<Answer>, bytes: &mut Vec<u8>)
     }
 }
 
-/// The forms of the answers to a request and to those behind it. The room for them is made before
-/// the desk is asked.
-fn forms_for_all<D: Desk>(
+/// The encodings of the answers to a request and to those behind it. The room for them is made
+/// before the desk is asked.
+fn encodings_for_all<D: Desk>(
     alloc: Global,
     first: Request,
     others: Vec<Request>,
     desk: &mut D,
 ) -> Result<Vec<u8>, Memory>
     requires few { length others.items < MAX_TOGETHER }
-    ensures forms { IfOk result (λ bytes. AreReplies (Replies D.begins D.looks) desk.old desk.new
-        (as_frames (first ∷ others.items)) bytes.items) }
+    ensures encodings { IfOk result (λ bytes. AreReplies (Replies D.begins D.looks) desk.old
+        desk.new (as_frames (first ∷ others.items)) bytes.items) }
     ensures unasked { OnErr result (desk.new ≡ desk.old) }
 {
     let mut requests = others;
     requests.insert(0, first)?;
     let count = requests.len();
     let mut answers = Vec::with_capacity(alloc, count)?;
-    let mut bytes = Vec::with_capacity(alloc, count * MAX_FORM_BYTES)?;
+    let mut bytes = Vec::with_capacity(alloc, count * MAX_ENCODING_BYTES)?;
     desk.begin_all(requests, &mut answers);
     append_answers(answers, &mut bytes);
     Ok(bytes)
@@ -94,8 +94,8 @@ pub fn answer_together<W: Write, D: Desk>(
         (W.contents writer.old) (W.contents writer.new) (as_frames (first ∷ others.items))) }
     ensures fault { IfErr result (λ fault. (more : List ℕ) →
         Stopped D.begins D.looks desk.old desk.new (W.contents writer.old) (W.contents writer.new)
-        (flat_map form (as_frames (first ∷ others.items)) ++ more) ⊥ fault) }
+        (flat_map encoding (as_frames (first ∷ others.items)) ++ more) ⊥ fault) }
 {
-    let forms = forms_for_all(alloc, first, others, desk)?;
-    write_form(writer, forms.as_slice(), turns)
+    let encodings = encodings_for_all(alloc, first, others, desk)?;
+    write_encoding(writer, encodings.as_slice(), turns)
 }

@@ -11,7 +11,7 @@ use crate::resting::Resting;
 use lynx_cells::Cells;
 use lynx_entry::{Entry, Message, Request};
 use lynx_keep::{BatchKeeper, Cause, Keeper};
-use lynx_names::{ChainId, ServerId, Stamp};
+use lynx_names::{ChainId, ServerId, Stamp, learn};
 use lynx_set::ChainSet;
 
 impl<K: BatchKeeper> Resting<K> {
@@ -80,7 +80,7 @@ impl<K: BatchKeeper> Resting<K> {
             (act_of chain hop (settled_front self.now)) }
     {
         // By its type the history is lawful, so no entry stands in it twice.
-        let _ = self.server.history();
+        learn(self.server.history());
         let place = self.server.place_of(chain, hop)?;
         if place < self.settled {
             Some(place)
@@ -117,7 +117,7 @@ impl<K: BatchKeeper> Resting<K> {
             (record_of request.now (settled_front self.now)) }
     {
         // By its type the history is lawful, so no request is recorded in it twice.
-        let _ = self.server.history();
+        learn(self.server.history());
         let place = self.server.record_place(request)?;
         if self.settled <= place {
             return None;

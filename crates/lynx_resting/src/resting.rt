@@ -12,7 +12,7 @@ ghost use Rattle.lynx_resting.specs.Resting.{mark_of, settled_front};
 use crate::mark::Mark;
 use lynx_entry::{Answer, Delivered, Entry, Message, Request};
 use lynx_keep::{BatchKeeper, HeldBack};
-use lynx_names::{ChainId, Stamp};
+use lynx_names::{ChainId, Stamp, learn};
 use lynx_server::{Server, Woken};
 use std::alloc::Global;
 use std::marker::Model;
@@ -52,7 +52,7 @@ impl<K: BatchKeeper> Resting<K> {
     {
         let settled = server.history().len();
         // By its type its keeper keeps the history.
-        let _ = server.keeper();
+        learn(server.keeper());
         Resting {
             server: server.hold_back(alloc),
             settled,
@@ -162,7 +162,7 @@ impl<K: BatchKeeper> Resting<K> {
     {
         let mut server = self.server;
         // By its type the history is lawful.
-        let _ = server.history();
+        learn(server.history());
         if !server.settle(alloc) {
             return None;
         }

@@ -1,4 +1,4 @@
--- A lawful entry, and the message that it sends, are in the range of their byte forms.
+-- A lawful entry, and the message that it sends, are in the range of their encodings.
 use Rattle.std.proofs.Common.{All, ◌≡◌, ℕ, zero, suc, ◌+◌, ◌<◌, ◌≤◌, ◌==◌, ◌||◌, ◌&&◌, not, Bool, true, false, cond, List, [], ◌∷◌, ◌++◌, map, take, length, Option, Some, None, IsTrue, IsNone, slice_get, nat_eq, nat_lt, refl, sym, ap, ◌∙◌, subst, arith}
 use Rattle.std.proofs.lemmas.List.Elements.{All-cons, All-nil}
 use Rattle.lynx_server.specs.History.{IsLawfulAfter}
@@ -170,7 +170,7 @@ well_formed set server history message is =
     is_true true e = refl
     is_true false e = cc
 
--- An entry that is lawful at a server is in the range of its form.
+-- An entry that is lawful at a server is in the range of its encoding.
 pub lawful-in_range : (set : Set) (server : ℕ) (history : History) (entry : Entry) → server < MAX_SERVERS →
     IsLawful set server history entry → IsEntryInRange entry
 lawful-in_range set server history (Begun begun) within lawful =

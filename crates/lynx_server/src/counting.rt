@@ -4,7 +4,7 @@ ghost use Rattle.lynx_names.specs.declared.limits.TheConstants.{MAX_ENTRIES, MAX
 ghost use Rattle.lynx_rules.specs.Turns.{ends_visit};
 
 use lynx_entry::Entry;
-use lynx_names::ServerId;
+use lynx_names::{ServerId, learn};
 use lynx_rules::visits::is_last_at;
 use lynx_set::ChainSet;
 use lynx_turn::Turns;
@@ -20,7 +20,7 @@ pub(crate) fn count_turn(set: &ChainSet, server: ServerId, turns: &mut Turns, en
         Entry::Begun(begun) => {
             let origin = begun.chain.origin;
             if is_last_at(set, server, begun.request.program, 0) {
-                let _ = origin.index();
+                learn(origin.index());
                 turns.done(origin);
             }
         }
@@ -33,7 +33,7 @@ pub(crate) fn count_turn(set: &ChainSet, server: ServerId, turns: &mut Turns, en
                 ran.message.program,
                 usize::from(ran.message.hop),
             ) {
-                let _ = origin.index();
+                learn(origin.index());
                 turns.done(origin);
             }
         }

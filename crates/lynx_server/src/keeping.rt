@@ -12,7 +12,7 @@ use crate::counting::count_turn;
 use lynx_cells::{Cells, Changes};
 use lynx_entry::{BegunEntry, Entry};
 use lynx_keep::{KeepFault, Keeper};
-use lynx_names::Memory;
+use lynx_names::{Memory, learn};
 use lynx_seq::Draw;
 use std::alloc::Global;
 
@@ -73,7 +73,7 @@ impl Books {
             (kept_of self.old.set (self.old.history ++ Begun begun ∷ [])) result }
     {
         // A lawful entry is in range where the server's number is.
-        let _ = self.server().number();
+        learn(self.server().number());
         let entry = Entry::Begun(begun);
         if make_room(
             &mut self.history,
@@ -122,7 +122,7 @@ impl Books {
             (kept_of self.old.set (self.old.history ++ entry ∷ [])) result }
     {
         // A lawful entry is in range where the server's number is.
-        let _ = self.server().number();
+        learn(self.server().number());
         if make_room(
             &mut self.history,
             &mut self.chains,

@@ -6,7 +6,7 @@ use crate::replay::{Replayed, replay};
 use crate::server::Server;
 use lynx_entry::Entry;
 use lynx_keep::MemoryKeeper;
-use lynx_names::ServerId;
+use lynx_names::{ServerId, learn};
 use lynx_set::ChainSet;
 use std::alloc::Global;
 
@@ -22,7 +22,7 @@ pub fn rebuild(
     ensures { Rebuilds set.now server entries.items result }
 {
     // A lawful entry is in range where the server's number is.
-    let _ = server.number();
+    learn(server.number());
     let replayed = match replay(alloc, set, server, entries.as_slice())? {
         Replayed::Done(replayed) => replayed,
         Replayed::Differs(place) => {

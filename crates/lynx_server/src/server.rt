@@ -19,7 +19,7 @@ use crate::sorting::Sorted;
 use lynx_cells::Cells;
 use lynx_entry::{Answer, Delivered, Entry, Message, Request};
 use lynx_keep::{KeepFault, Keeper};
-use lynx_names::{ChainId, Memory, ServerId, Stamp, TryCopy};
+use lynx_names::{ChainId, Memory, ServerId, Stamp, TryCopy, learn};
 use lynx_rules::answers::recorded_answer;
 use lynx_rules::checks::request_fault;
 use lynx_set::ChainSet;
@@ -313,7 +313,7 @@ impl<K: Keeper> Server<K> {
             return Answer::Stopped;
         }
         // Its history is lawful, so what it tells of it has few results.
-        let _ = self.history();
+        learn(self.history());
         match self.try_begin(alloc, request, seen) {
             Ok(answer) => answer,
             Err(KeepFault::Memory) => Answer::Memory,

@@ -5,6 +5,7 @@ ghost use Rattle.lynx_server.specs.Settling.{Settles};
 
 use crate::server::Server;
 use lynx_keep::{BatchKeeper, HeldBack};
+use lynx_names::learn;
 use std::alloc::Global;
 
 impl<K: BatchKeeper> Server<K> {
@@ -28,7 +29,7 @@ impl<K: BatchKeeper> Server<K> {
         } }
     {
         // Its count of faults is a u64.
-        let _ = self.keeper.faults();
+        learn(self.keeper.faults());
         Server {
             register: self.register,
             held: self.held,

@@ -10,7 +10,7 @@ use lynx_cells::Changes;
 use lynx_entry::{Answer, BegunEntry, Entry, NumberAt, Numbers, RefusedEntry, Request};
 use lynx_hops::{HopFault, Ran, run_hop};
 use lynx_keep::{KeepFault, Keeper};
-use lynx_names::{ChainId, Memory, Stamp, TryCopy, Values};
+use lynx_names::{ChainId, Memory, Stamp, TryCopy, Values, learn};
 use lynx_rules::visits::visited;
 use lynx_seq::Draw;
 use std::alloc::Global;
@@ -248,7 +248,7 @@ impl RefusedStep {
             need,
             stamp,
         });
-        let _ = books.set();
+        learn(books.set());
         books.keep_other(alloc, keeper, entry, Changes::new(alloc))?;
         let answer = Answer::Refused {
             need,

@@ -1,4 +1,4 @@
-//! A message for a hop past the last of eight, by its form.
+//! A message for a hop past the last of eight, by its encoding.
 use crate::rebuilt::rebuilt;
 use lynx_codec::{DecodeFault, Feed, Item, encode};
 use lynx_entry::Delivered;
@@ -29,15 +29,15 @@ const FAR: EntryParts = EntryParts::Begun(BegunParts {
     results: &[],
 });
 
-/// The form of a message of that chain for hop 8, which would be the ninth: the origin, the index,
-/// the program, the hop, the stamp 8, no arguments, the number 0 for server 0, and eight lists
-/// without results.
+/// The encoding of a message of that chain for hop 8, which would be the ninth: the origin, the
+/// index, the program, the hop, the stamp 8, no arguments, the number 0 for server 0, and eight
+/// lists without results.
 const PAST_THE_LAST: [u8; 44] = [
     0x21, 0, 0, 0, 39, 0, 0, 0, 0, 0, 0, 0, 0, 0, 0, 8, 0, 0, 0, 0, 0, 0, 0, 8, 0, 1, 0, 0, 0, 0,
     0, 0, 0, 0, 0, 8, 0, 0, 0, 0, 0, 0, 0, 0,
 ];
 
-/// The item that a feed gives of that form, in a box, if it is written as it stands there.
+/// The item that a feed gives of that encoding, in a box, if it is written as it stands there.
 fn read(alloc: Global) -> Result<Option<Box<Item>>, DecodeFault> {
     let mut feed = Feed::new(alloc);
     feed.push(&PAST_THE_LAST)?;
@@ -45,8 +45,8 @@ fn read(alloc: Global) -> Result<Option<Box<Item>>, DecodeFault> {
         None => Ok(None),
         Some(item) => {
             let item = Box::new(alloc, item)?;
-            let form = encode(alloc, &item)?;
-            let is_written = form.as_slice() == PAST_THE_LAST.as_slice();
+            let encoding = encode(alloc, &item)?;
+            let is_written = encoding.as_slice() == PAST_THE_LAST.as_slice();
             Ok(if is_written { Some(item) } else { None })
         }
     }

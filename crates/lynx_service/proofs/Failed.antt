@@ -1,9 +1,14 @@
--- Why servers aren't opened.
-use Rattle.std.proofs.Common.{◌≡◌, ℕ, List, Option, Some, Ok, Err, subst, sym}
+-- Why a service fails.
+use Rattle.std.proofs.Common.{◌≡◌, ◌∙◌, ℕ, List, Option, None, Some, Ok, Err, ap, subst, sym, inl, inr}
 use Rattle.std.specs.Prelude.{IfErr, IsErrAnd, Result}
+use Rattle.lynx_cluster.specs.declared.fault.CloseFault.{CloseFault}
 use Rattle.lynx_cluster.specs.declared.fault.StartFault.{StartFault}
 use Rattle.lynx_cluster.specs.declared.fault.StartFault.TheVariants as start
-use Rattle.lynx_cluster.specs.Starting.{AreOpened, IsUnstarted}
+use Rattle.lynx_cluster.specs.Closing.{IsUnclosed}
+use Rattle.lynx_cluster.specs.Clusters.{ClusterState}
+use Rattle.lynx_cluster.specs.inner.Opening.{IsLate}
+use Rattle.lynx_cluster.specs.Sessions.{SessionState}
+use Rattle.lynx_cluster.specs.Starting.{AreOpened, IsUnstarted, Starts}
 use Rattle.lynx_keep.specs.Kept.{Terms}
 use Rattle.lynx_server.specs.declared.fault.OpenFault.TheVariants as opening
 use Rattle.lynx_server.specs.Serving.{Serving}
@@ -16,15 +21,18 @@ use Rattle.lynx_store_files.specs.Folders.{AreFound, StandIn, TellsLost, lost_st
 use Rattle.lynx_store_files.specs.Terms.{StoreTerms}
 use Rattle.lynx_weave.specs.declared.fault.WeaveFault.{WeaveFault}
 use Rattle.lynx_weave.specs.declared.fault.WeaveFault.TheVariants as weave
-use Rattle.lynx_weave.specs.Senders.{FindsSenders}
+use Rattle.lynx_weave.specs.Senders.{AreAllSent, FindsSenders}
 use Rattle.lynx_weave.specs.Servers.{histories_of}
 use Rattle.lynx_weave.specs.Weaving.{IsUnsentAt}
+use Rattle.lynx_service.specs.declared.fault.CloseWord.{CloseWord}
+use Rattle.lynx_service.specs.declared.fault.CopyWord.{CopyWord}
 use Rattle.lynx_service.specs.declared.fault.Damage.TheVariants.{At, Missing, Somewhere}
 use Rattle.lynx_service.specs.declared.fault.ServeFault.{ServeFault}
 use Rattle.lynx_service.specs.declared.fault.ServeFault.TheVariants as serve
 use Rattle.lynx_service.specs.declared.fault.StoreWord.TheVariants as words
-use Rattle.lynx_service.specs.Failures.{FailsToOpen, IsPlain}
-use Rattle.lynx_service.specs.Faults.{apart_fault, folder_fault, missing_fault, start_fault, store_fault}
+use Rattle.lynx_service.specs.Failures.{FailsToOpen, FailsToServe, IsPlain}
+use Rattle.lynx_service.specs.Faults.{apart_fault, close_fault, folder_fault, missing_fault, start_fault, store_fault}
+use Rattle.lynx_service.specs.Services.{AppendsListening}
 
 -- what holds of a fault that is passed on holds of the result
 pub passed_on : {A E : Type 0} (P : E → Type 0) (result : Result A E) (fault : E) → IsErrAnd result (λ told. told ≡ fault) → P fault → IfErr result P
@@ -45,7 +53,7 @@ plain_fails terms stores folder set (serve.Copy server word) is = tt
 plain_fails terms stores folder set serve.SameFolder is = tt
 plain_fails terms stores folder set serve.Listen is = tt
 plain_fails terms stores folder set serve.ListenStatus is = tt
-plain_fails terms stores folder set serve.Board is = tt
+plain_fails terms stores folder set serve.Notice is = tt
 plain_fails terms stores folder set serve.NoThread is = tt
 plain_fails terms stores folder set serve.Write is = tt
 plain_fails terms stores folder set serve.Memory is = tt
@@ -94,3 +102,36 @@ apart_fails terms stores folder set opened_set keepers servers (weave.Mismatch s
 }
 apart_fails terms stores folder set opened_set keepers servers (weave.Told session place) same stand opened never = absurd never
 apart_fails terms stores folder set opened_set keepers servers weave.Memory same stand opened none = tt
+
+-- what holds of an error holds of the fault in it
+pub of_err : {A E : Type 0} (P : E → Type 0) (result : Result A E) (fault : E) → result ≡ Err fault → IfErr result P → P fault
+of_err P result fault is holds = subst (λ r. IfErr r P) is holds
+
+-- a fault that comes once all servers were opened is plain
+pub late_plain : (why : StartFault) → IsLate why → IsPlain (start_fault why)
+late_plain (start.Open server fault) never = absurd never
+late_plain start.OtherCount never = absurd never
+late_plain start.NoThread late = tt
+late_plain start.Memory late = tt
+
+-- a cluster of opened servers that was halted as it was, and didn't close well behind what was written first
+pub closes_ill : {K : Type 0} (terms : Terms K) (stores : StoreTerms K) (folder : List ℕ) (set opened_set : Set) (before : List K) (servers : List (Serving K)) (cluster halted : ClusterState) (sessions : List SessionState)
+    (why : CloseFault) (old new : Option (List ℕ)) (fault : ServeFault) →
+    opened_set ≡ set → AreOpened terms set before servers → StandIn stores folder set before → AreAllSent opened_set (histories_of servers) → Starts opened_set servers cluster → halted ≡ cluster →
+    IsUnclosed terms halted sessions why → fault ≡ close_fault why → AppendsListening old new → FailsToServe terms stores folder set old new fault
+closes_ill terms stores folder set opened_set before servers cluster halted sessions why old new fault same opened stood sent began still unclosed fault_is first = inr (inl (
+  record {
+    before = before;
+    stood = stood;
+    servers = servers;
+    opened = opened;
+    sent = subst (λ s. AreAllSent s (histories_of servers)) same sent;
+    cluster = cluster;
+    started = subst (λ s. Starts s servers cluster) same began;
+    sessions = sessions;
+    why = why;
+    unclosed = subst (λ state. IsUnclosed terms state sessions why) still unclosed;
+    fault_is = fault_is;
+  },
+  first,
+))

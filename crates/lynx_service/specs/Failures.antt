@@ -1,12 +1,17 @@
--- Why the servers of a set aren't opened over the stores of a folder.
-use Rattle.std.specs.Prelude.{◌≡◌, ℕ, List, Option, Some}
-use Rattle.lynx_cluster.specs.Starting.{AreOpened, IsUnopenedAt}
+-- Why a service doesn't begin, or doesn't end well.
+use Rattle.std.specs.Prelude.{◌≡◌, ◌⊎◌, ℕ, List, Option, None, Some}
+use Rattle.lynx_cluster.specs.declared.fault.CloseFault.{CloseFault}
+use Rattle.lynx_cluster.specs.Closing.{IsUnclosed}
+use Rattle.lynx_cluster.specs.Clusters.{ClusterState}
+use Rattle.lynx_cluster.specs.Sessions.{SessionState}
+use Rattle.lynx_cluster.specs.Starting.{AreOpened, IsUnopenedAt, Starts}
 use Rattle.lynx_keep.specs.Kept.{Terms}
 use Rattle.lynx_server.specs.declared.fault.OpenFault.TheVariants as opening
 use Rattle.lynx_server.specs.Serving.{Serving}
 use Rattle.lynx_set.specs.Set.{Set}
 use Rattle.lynx_store_files.specs.Folders.{AreFound, StandIn, lost_store}
 use Rattle.lynx_store_files.specs.Terms.{StoreTerms}
+use Rattle.lynx_weave.specs.Senders.{AreAllSent}
 use Rattle.lynx_weave.specs.Servers.{histories_of}
 use Rattle.lynx_weave.specs.Weaving.{IsUnsentAt}
 use Rattle.lynx_service.specs.declared.fault.CloseWord.{CloseWord}
@@ -17,6 +22,8 @@ use Rattle.lynx_service.specs.declared.fault.ServeFault.{ServeFault}
 use Rattle.lynx_service.specs.declared.fault.ServeFault.TheVariants.{Close, Store}
 use Rattle.lynx_service.specs.declared.fault.StoreWord.{StoreWord}
 use Rattle.lynx_service.specs.declared.fault.StoreWord.TheVariants.{Damaged}
+use Rattle.lynx_service.specs.Faults.{close_fault}
+use Rattle.lynx_service.specs.Services.{AppendsListening}
 
 -- The stores of the folder were looked for, and that of this server is the first that was lost.
 abbrev pub IsMissing : {K : Type 0} → StoreTerms K → List ℕ → Set → ℕ → Type 0
@@ -78,3 +85,27 @@ abbrev pub IsPlain : ServeFault → Type 0
 IsPlain (Store server word) = IsPlainWord word
 IsPlain (Close word) = ⊥
 IsPlain fault = Unit {0}
+
+-- A cluster of servers that were opened over the stores of that folder doesn't close well, behind
+-- what clients were told first.
+pub record FailsToClose {K : Type 0} (terms : Terms K) (stores : StoreTerms K) (folder : List ℕ)
+    (set : Set) (fault : ServeFault) : Type 0 where
+  pub before : List K
+  pub stood : StandIn stores folder set before
+  pub servers : List (Serving K)
+  pub opened : AreOpened terms set before servers
+  pub sent : AreAllSent set (histories_of servers)
+  pub cluster : ClusterState
+  pub started : Starts set servers cluster
+  pub sessions : List SessionState
+  pub why : CloseFault
+  pub unclosed : IsUnclosed terms cluster sessions why
+  pub fault_is : fault ≡ close_fault why
+
+-- Why a service didn't begin, and then nothing is written; or didn't end well behind that it is
+-- listened to; or a fault that tells nothing of what stores keep, nor of what servers did.
+abbrev pub FailsToServe : {K : Type 0} → Terms K → StoreTerms K → List ℕ → Set → Option (List ℕ)
+    → Option (List ℕ) → ServeFault → Type 0
+FailsToServe terms stores folder set old new fault =
+    (FailsToOpen terms stores folder set fault × (new ≡ old))
+    ⊎ ((FailsToClose terms stores folder set fault × AppendsListening old new) ⊎ IsPlain fault)

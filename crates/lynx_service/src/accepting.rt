@@ -12,9 +12,9 @@ use crate::status::Status;
 use crate::store_files::StoreFiles;
 use crate::talking::talk;
 use crate::watching::{WatchPort, watch_all};
-use lynx_cluster::{Front, Session};
+use lynx_cluster::{Frontend, Session};
 use lynx_keep::BatchKeeper;
-use lynx_notice::Board;
+use lynx_notice::NoticeFile;
 use lynx_store_files::Stores;
 use std::alloc::Global;
 use std::io::ErrorKind;
@@ -105,8 +105,8 @@ fn tell_uncopied(log: &Log, copies: Option<&CopyRoom>) {
 }
 
 /// Nobody is let in any more, nor told that there is a service.
-fn stop_accepting(connections: &Connections, board: &Board<'_>, address: SocketAddr) {
-    board.take_down(address);
+fn stop_accepting(connections: &Connections, notice: &NoticeFile<'_>, address: SocketAddr) {
+    notice.remove(address);
     connections.close();
 }
 
@@ -114,7 +114,7 @@ fn stop_accepting(connections: &Connections, board: &Board<'_>, address: SocketA
 /// sessions back. Each has a thread of its own. One for which there is no thread is hung up on, and
 /// so is each beyond [`MAX_CLIENTS`](crate::limits::MAX_CLIENTS). Beside them those are answered
 /// that watch, the folder that follows gets what servers did, and it is looked whether the files of
-/// the stores are there. Once the end is asked for, the board's notice is taken down.
+/// the stores are there. Once the end is asked for, the notice is taken away.
 pub(crate) fn serve_clients<
     'x,
     R: Threads + Wait + Clock + Copy + Sync + Net<Listener = TcpListener, Stream = TcpStream>,
@@ -123,9 +123,9 @@ pub(crate) fn serve_clients<
 >(
     rt: &'x R,
     alloc: Global,
-    front: &'x Front<K, Metrics<R>>,
+    frontend: &'x Frontend<K, Metrics<R>>,
     ports: &Ports,
-    board: &Board<'x>,
+    notice: &NoticeFile<'x>,
     log: &'x Log,
     files: &'x StoreFiles,
     copier: Option<&'x Copier<'x, K, S>>,
@@ -136,7 +136,7 @@ where
     let shared = Connections::new(alloc);
     let open = &shared;
     let copies = copier.map(|copier| copier.folder.room);
-    let status = Status::new(rt, alloc, front, open, files, log, copies, board.set);
+    let status = Status::new(rt, alloc, frontend, open, files, log, copies, notice.set);
     thread::scope(
         thread::scope_env(),
         rt,
@@ -144,7 +144,7 @@ where
             requires { IsSync R.row × IsSend R.row × IsSend K.row × IsSync S.row }
         {
             if let Some(copier) = copier
-                && scope.spawn(move || copier.run(rt, front, open)).is_err()
+                && scope.spawn(move || copier.run(rt, frontend, open)).is_err()
             {
                 tell_uncopied(log, copies);
             }
@@ -157,19 +157,19 @@ where
             }
             for _ in rt.forever() {
                 let came = next_to_come(&ports.listener);
-                if open.ending().is_asked() {
+                if open.end_request().is_asked() {
                     break;
                 }
                 let Some(stream) = let_in(rt, open, log, came) else {
                     continue;
                 };
-                let started = scope.spawn(move || talk(rt, alloc, front, stream, open, files, log));
-                if started.is_err() {
+                let made = scope.spawn(move || talk(rt, alloc, frontend, stream, open, files, log));
+                if made.is_err() {
                     open.release(rt, None);
                     turn_away(open, log, Want::Thread);
                 }
             }
-            stop_accepting(open, board, ports.address);
+            stop_accepting(open, notice, ports.address);
         },
     );
     shared.into_sessions()

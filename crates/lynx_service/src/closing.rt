@@ -1,6 +1,7 @@
 //! The end of a service.
-ghost use Rattle.std.specs.Prelude.{◌≡◌, ◌++◌, IfOk, OnOk, codes, string_bytes};
+ghost use Rattle.std.specs.Prelude.{◌≡◌, ◌++◌, IfErr, IfOk, OnOk, codes, string_bytes};
 ghost use Rattle.lynx_store_files.specs.Closed.{AreClosed};
+ghost use Rattle.lynx_service.specs.Failures.{IsPlain};
 ghost use Rattle.lynx_service.specs.Services.{IsEnded, IsExplainedBy, closing_lines, last_lines};
 
 use crate::fault::ServeFault;
@@ -18,7 +19,8 @@ fn close_keepers<K: BatchKeeper + Drop, S: Stores<K>>(
     stores: &S,
     keepers: Vec<K>,
 ) -> Result<(), ServeFault>
-    ensures { OnOk result (AreClosed S.store_terms.closed keepers.items) }
+    ensures closed { OnOk result (AreClosed S.store_terms.closed keepers.items) }
+    ensures plain { IfErr result IsPlain }
 {
     match close_all(stores, keepers) {
         Ok(()) => Ok(()),
@@ -28,7 +30,8 @@ fn close_keepers<K: BatchKeeper + Drop, S: Stores<K>>(
 
 /// What explains the world.
 fn explained_by(alloc: Global, world: &World) -> Result<Explained, ServeFault>
-    ensures { IfOk result (IsExplainedBy world.now) }
+    ensures explained { IfOk result (IsExplainedBy world.now) }
+    ensures plain { IfErr result IsPlain }
 {
     Ok(explain(alloc, world)?)
 }
@@ -46,7 +49,8 @@ pub fn order_line(alloc: Global, explained: &Explained) -> Result<String, AllocE
 
 /// The last lines: `closed`, and that of the order or of the cycle.
 fn last_lines(alloc: Global, explained: &Explained) -> Result<Vec<u8>, ServeFault>
-    ensures { IfOk result (λ lines. lines.items ≡ last_lines explained.now) }
+    ensures lines { IfOk result (λ lines. lines.items ≡ last_lines explained.now) }
+    ensures plain { IfErr result IsPlain }
 {
     let mut lines = Vec::from_slice(alloc, b"closed\n")?;
     let line = order_line(alloc, explained)?;
@@ -56,8 +60,9 @@ fn last_lines(alloc: Global, explained: &Explained) -> Result<Vec<u8>, ServeFaul
 
 /// What explains the world, and the last lines of a service that tell it. Nothing is written.
 pub fn last_words(alloc: Global, world: &World) -> Result<(Explained, Vec<u8>), ServeFault>
-    ensures { IfOk result (λ words. IsExplainedBy world.now words.0
+    ensures words { IfOk result (λ words. IsExplainedBy world.now words.0
         × (words.1.items ≡ last_lines words.0)) }
+    ensures plain { IfErr result IsPlain }
 {
     let explained = explained_by(alloc, world)?;
     let lines = last_lines(alloc, &explained)?;
@@ -95,6 +100,7 @@ pub(crate) fn end<K: BatchKeeper + Drop, S: Stores<K>, W: Write>(
     ensures ended { IfOk result
         (IsEnded closed.world is_apart (W.contents writer.old) (W.contents writer.new)) }
     ensures let_go { OnOk result (AreClosed S.store_terms.closed closed.keepers.items) }
+    ensures plain { IfErr result IsPlain }
 {
     let Closed {
         made: _,

@@ -1,11 +1,11 @@
 //! The open connections of a service: clients, the sessions that wait for the next client, and
 //! those that watch.
-use crate::ending::Ending;
+use crate::end_request::EndRequest;
 use crate::limits::{
     BRIEF_MILLIS, MAX_BRIEF_WATCHERS, MAX_CLIENTS, MAX_WATCH_SECONDS, MAX_WATCHERS,
     MAX_WRITE_SECONDS,
 };
-use lynx_cluster::{Front, Gate, Session};
+use lynx_cluster::{Frontend, Gate, Session};
 use lynx_keep::BatchKeeper;
 use std::alloc::{AllocFailed, Global};
 use std::sync::atomic::{AtomicBool, AtomicU64, Ordering};
@@ -63,7 +63,7 @@ impl WatchTime {
 /// it has clients at a time. It must be spent, by [`Connections::into_sessions`].
 pub(crate) struct Connections {
     clients: Mutex<Clients>,
-    ending: Ending,
+    end_request: EndRequest,
     are_closed: AtomicBool,
     /// Whether the last client that came couldn't be taken.
     turned_away: AtomicBool,
@@ -85,7 +85,7 @@ impl Connections {
                 count: 0,
                 sessions: Vec::new(alloc),
             }),
-            ending: Ending::new(),
+            end_request: EndRequest::new(),
             are_closed: AtomicBool::new(false),
             turned_away: AtomicBool::new(false),
             made: AtomicU64::new(0),
@@ -96,8 +96,8 @@ impl Connections {
     }
 
     /// Whether the service is to end.
-    pub(crate) fn ending(&self) -> &Ending {
-        &self.ending
+    pub(crate) fn end_request(&self) -> &EndRequest {
+        &self.end_request
     }
 
     /// No client is let in any more.
@@ -139,13 +139,13 @@ impl Connections {
         &self,
         rt: &R,
         alloc: Global,
-        front: &Front<K, G>,
+        frontend: &Frontend<K, G>,
     ) -> Option<Session> {
         let left = self.clients.lock(rt).sessions.pop();
         match left {
             Some(session) => Some(session),
             None => {
-                let made = front.session(rt, alloc);
+                let made = frontend.session(rt, alloc);
                 if made.is_some() {
                     self.made.fetch_add(1, Ordering::SeqCst);
                 }
@@ -213,7 +213,7 @@ impl Connections {
     pub(crate) fn into_sessions(self) -> Vec<Session> {
         let Connections {
             clients,
-            ending: _,
+            end_request: _,
             are_closed: _,
             turned_away: _,
             made: _,

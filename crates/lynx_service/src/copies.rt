@@ -1,10 +1,11 @@
 //! The stores of the folder that follows: opened, compared with what the servers did, gone on with,
 //! and closed.
-ghost use Rattle.std.specs.Prelude.{◌≡◌, All, IfOk, IfSome, IsTrue, Some, true};
+ghost use Rattle.std.specs.Prelude.{◌≡◌, All, IfErr, IfOk, IfSome, IsTrue, Some, true};
 ghost use Rattle.lynx_codec.specs.Entries.{IsEntryInRange};
 ghost use Rattle.lynx_entry.specs.Entry.{History};
 ghost use Rattle.lynx_follow.specs.Following.{Follows, IsOpened};
 ghost use Rattle.lynx_follow.specs.Fronts.{IsFront};
+ghost use Rattle.lynx_service.specs.Failures.{IsPlain};
 
 use crate::copy_room::CopyRoom;
 use crate::fault::{CopyWord, ServeFault};
@@ -12,7 +13,7 @@ use crate::limits::{COPY_RETRY_SECONDS, MOST_COPIED};
 use crate::log::Log;
 use crate::metrics::Metrics;
 use crate::store_files::StoreFile;
-use lynx_cluster::Front;
+use lynx_cluster::Frontend;
 use lynx_entry::Entry;
 use lynx_follow::{Follower, Opened, Unfollowed};
 use lynx_keep::{BatchKeeper, KeepFault};
@@ -110,7 +111,7 @@ fn open_beside<K: BatchKeeper + Drop, S: Stores<K>>(
 /// did: its history is asked for in parts, so that nobody who begins there waits for all of it.
 fn open_behind<R: Wait + Clock, K: BatchKeeper + Drop, S: Stores<K>>(
     rt: &R,
-    front: &Front<K, Metrics<R>>,
+    frontend: &Frontend<K, Metrics<R>>,
     folder: &CopyFolder<'_, S>,
     server: ServerId,
 ) -> Result<Follower<K>, CopyWord> {
@@ -119,7 +120,7 @@ fn open_behind<R: Wait + Clock, K: BatchKeeper + Drop, S: Stores<K>>(
     for _ in 0..=all / MOST_COPIED {
         let from = all.saturating_sub(opened.left());
         let count = opened.left().min(MOST_COPIED);
-        let did = front.entries_from(rt, folder.alloc, server, from, count)?;
+        let did = frontend.entries_from(rt, folder.alloc, server, from, count)?;
         let Some(same) = opened.compare(did.as_slice()) else {
             return Err(CopyWord::OtherHistory);
         };
@@ -134,7 +135,9 @@ impl<K: BatchKeeper + Drop> Copy<K> {
     pub(crate) fn open<S: Stores<K>>(
         folder: &CopyFolder<'_, S>,
         server: &Server<K>,
-    ) -> Result<Copy<K>, ServeFault> {
+    ) -> Result<Copy<K>, ServeFault>
+        ensures { IfErr result IsPlain }
+    {
         let number = server.server();
         let follower = match open_beside(folder, server) {
             Ok(follower) => follower,
@@ -167,13 +170,13 @@ impl<K: BatchKeeper + Drop> Copy<K> {
     pub(crate) fn open_again<R: Wait + Clock, S: Stores<K>>(
         &mut self,
         rt: &R,
-        front: &Front<K, Metrics<R>>,
+        frontend: &Frontend<K, Metrics<R>>,
         folder: &CopyFolder<'_, S>,
     ) {
         if self.follower.is_some() || self.is_gone || is_too_soon(rt, self.failed) {
             return;
         }
-        match open_behind(rt, front, folder, self.server) {
+        match open_behind(rt, frontend, folder, self.server) {
             Ok(follower) => self.begin(folder, follower),
             Err(word) => {
                 folder.log.copy_failed(self.server, word, None);
@@ -188,13 +191,13 @@ impl<K: BatchKeeper + Drop> Copy<K> {
     pub(crate) fn catch_up<R: Wait + Clock, S: Stores<K>>(
         &mut self,
         rt: &R,
-        front: &Front<K, Metrics<R>>,
+        frontend: &Frontend<K, Metrics<R>>,
         folder: &CopyFolder<'_, S>,
     ) {
         self.failed = None;
-        self.open_again(rt, front, folder);
+        self.open_again(rt, frontend, folder);
         for _ in rt.forever() {
-            if !self.follow(rt, front, folder) {
+            if !self.follow(rt, frontend, folder) {
                 break;
             }
         }
@@ -205,9 +208,9 @@ impl<K: BatchKeeper + Drop> Copy<K> {
     pub(crate) fn lacking<R: Wait + Clock>(
         &self,
         rt: &R,
-        front: &Front<K, Metrics<R>>,
+        frontend: &Frontend<K, Metrics<R>>,
     ) -> Option<(ServerId, CopyWord)> {
-        let has_all = match (&self.follower, front.glance(rt, self.server)) {
+        let has_all = match (&self.follower, frontend.glance(rt, self.server)) {
             (Some(follower), Some(glance)) => follower.count() >= glance.entries,
             _ => false,
         };
@@ -242,7 +245,7 @@ impl<K: BatchKeeper + Drop> Copy<K> {
     pub(crate) fn follow<R: Wait + Clock, S>(
         &mut self,
         rt: &R,
-        front: &Front<K, Metrics<R>>,
+        frontend: &Frontend<K, Metrics<R>>,
         folder: &CopyFolder<'_, S>,
     ) -> bool {
         let server = self.server;
@@ -250,7 +253,7 @@ impl<K: BatchKeeper + Drop> Copy<K> {
             return false;
         };
         let from = follower.count() as usize;
-        let Ok(did) = front.entries_from(rt, folder.alloc, server, from, MOST_COPIED) else {
+        let Ok(did) = frontend.entries_from(rt, folder.alloc, server, from, MOST_COPIED) else {
             return false;
         };
         !did.is_empty() && self.append(rt, folder, did.as_slice()) && did.len() == MOST_COPIED

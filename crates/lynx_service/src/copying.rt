@@ -1,10 +1,13 @@
 //! The thread that copies: what servers add is appended to stores of their own in another folder.
+ghost use Rattle.std.specs.Prelude.{IfErr};
+ghost use Rattle.lynx_service.specs.Failures.{IsPlain};
+
 use crate::connections::Connections;
 use crate::copies::{Copy, CopyFolder};
 use crate::fault::{CopyWord, ServeFault};
 use crate::limits::{COPY_LOOK_MILLIS, COPY_MILLIS};
 use crate::metrics::Metrics;
-use lynx_cluster::Front;
+use lynx_cluster::Frontend;
 use lynx_keep::BatchKeeper;
 use lynx_names::ServerId;
 use lynx_server::Server;
@@ -38,7 +41,9 @@ impl<'a, K: BatchKeeper + Drop, S: Stores<K>> Copier<'a, K, S> {
     pub(crate) fn open(
         folder: CopyFolder<'a, S>,
         servers: &[Server<K>],
-    ) -> Result<Copier<'a, K, S>, ServeFault> {
+    ) -> Result<Copier<'a, K, S>, ServeFault>
+        ensures { IfErr result IsPlain }
+    {
         let mut copies = Vec::new(folder.alloc);
         for server in servers {
             copies.push(Copy::open(&folder, server)?)?;
@@ -47,12 +52,12 @@ impl<'a, K: BatchKeeper + Drop, S: Stores<K>> Copier<'a, K, S> {
         Ok(Copier { folder, copies })
     }
 
-    /// Copies until nobody is served any more: a turn each tenth of a second, and at once after one
+    /// Copies until nobody is served any more: a pass each tenth of a second, and at once after one
     /// that had more to do.
     pub(crate) fn run<R: Wait + Clock>(
         &self,
         rt: &R,
-        front: &Front<K, Metrics<R>>,
+        frontend: &Frontend<K, Metrics<R>>,
         connections: &Connections,
     ) {
         let mut looked = None;
@@ -64,7 +69,7 @@ impl<'a, K: BatchKeeper + Drop, S: Stores<K>> Copier<'a, K, S> {
                 self.look(rt);
                 looked = Instant::now(rt).ok();
             }
-            if !self.turn(rt, front) {
+            if !self.pass(rt, frontend) {
                 thread::sleep(rt, Duration::from_millis(COPY_MILLIS));
             }
         }
@@ -80,9 +85,9 @@ impl<'a, K: BatchKeeper + Drop, S: Stores<K>> Copier<'a, K, S> {
         gone
     }
 
-    /// One turn: the stores are closed where they are to be, or those that don't follow are opened
+    /// One pass: the stores are closed where they are to be, or those that don't follow are opened
     /// again, and all get what their servers did meanwhile. Whether some may have more.
-    fn turn<R: Wait + Clock>(&self, rt: &R, front: &Front<K, Metrics<R>>) -> bool {
+    fn pass<R: Wait + Clock>(&self, rt: &R, frontend: &Frontend<K, Metrics<R>>) -> bool {
         if let Some(number) = self.folder.room.pause() {
             self.pause(rt, number);
             return false;
@@ -90,8 +95,8 @@ impl<'a, K: BatchKeeper + Drop, S: Stores<K>> Copier<'a, K, S> {
         let mut is_more = false;
         let mut copies = self.copies.lock(rt);
         for copy in copies.iter_mut() {
-            copy.open_again(rt, front, &self.folder);
-            is_more |= copy.follow(rt, front, &self.folder);
+            copy.open_again(rt, frontend, &self.folder);
+            is_more |= copy.follow(rt, frontend, &self.folder);
         }
         is_more
     }
@@ -124,7 +129,7 @@ impl<'a, K: BatchKeeper + Drop, S: Stores<K>> Copier<'a, K, S> {
     fn catch_up<R: Wait + Clock>(
         &self,
         rt: &R,
-        front: &Front<K, Metrics<R>>,
+        frontend: &Frontend<K, Metrics<R>>,
     ) -> Option<(ServerId, CopyWord)> {
         if self.folder.room.pause().is_some() {
             return None;
@@ -132,8 +137,8 @@ impl<'a, K: BatchKeeper + Drop, S: Stores<K>> Copier<'a, K, S> {
         let mut lacking = None;
         let mut copies = self.copies.lock(rt);
         for copy in copies.iter_mut() {
-            copy.catch_up(rt, front, &self.folder);
-            lacking = lacking.or(copy.lacking(rt, front));
+            copy.catch_up(rt, frontend, &self.folder);
+            lacking = lacking.or(copy.lacking(rt, frontend));
         }
         lacking
     }
@@ -144,10 +149,12 @@ impl<'a, K: BatchKeeper + Drop, S: Stores<K>> Copier<'a, K, S> {
     pub(crate) fn finish<R: Wait + Clock>(
         &self,
         rt: &R,
-        front: &Front<K, Metrics<R>>,
-    ) -> Result<(), ServeFault> {
+        frontend: &Frontend<K, Metrics<R>>,
+    ) -> Result<(), ServeFault>
+        ensures { IfErr result IsPlain }
+    {
         self.look(rt);
-        let lacking = self.catch_up(rt, front);
+        let lacking = self.catch_up(rt, frontend);
         self.close(rt);
         match self.look(rt).or(lacking) {
             Some((server, word)) => Err(ServeFault::of_copy(server, word)),

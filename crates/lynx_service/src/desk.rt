@@ -2,9 +2,9 @@
 ghost use Rattle.std.specs.Prelude.{◌≡◌, ◌≤◌, [], length, map, vec_capacity};
 ghost use Rattle.lynx_service.specs.Desks.{stopped};
 
-use crate::ending::Ending;
+use crate::end_request::EndRequest;
 use crate::store_files::StoreFiles;
-use lynx_cluster::{Front, Gate, Session};
+use lynx_cluster::{Frontend, Gate, Session};
 use lynx_codec::Looked;
 use lynx_entry::{Answer, Request};
 use lynx_keep::BatchKeeper;
@@ -32,14 +32,14 @@ fn stop_all(requests: Vec<Request>, answers: &mut Vec<Answer>)
     }
 }
 
-/// A client's session, the cluster that it asks, the ending that it may ask for, and the files of
+/// A client's session, the cluster that it asks, the end that it may ask for, and the files of
 /// the stores. It must be taken apart, since the session must be spent.
 pub struct ClientDesk<'a, R: Wait + Clock, K: BatchKeeper, G: Gate> {
     pub rt: &'a R,
     pub alloc: Global,
-    pub front: &'a Front<K, G>,
+    pub frontend: &'a Frontend<K, G>,
     pub session: Session,
-    pub ending: &'a Ending,
+    pub end_request: &'a EndRequest,
     pub files: &'a StoreFiles,
 }
 
@@ -47,17 +47,17 @@ impl<'a, R: Wait + Clock, K: BatchKeeper, G: Gate> Desk for ClientDesk<'a, R, K,
     ghost use Rattle.lynx_cluster.specs.Calls.{AnswersBegin};
     ghost use Rattle.lynx_service.specs.Desks.{AnswersLook};
 
-    ghost begins = { λ old request answer new. AnswersBegin old.front.now.set old.session request
+    ghost begins = { λ old request answer new. AnswersBegin old.frontend.now.set old.session request
         answer new.session };
 
-    ghost looks = { λ old chain hop found new. AnswersLook old.front.now.set old.session chain hop
-        found new.session };
+    ghost looks = { λ old chain hop found new. AnswersLook old.frontend.now.set old.session chain
+        hop found new.session };
 
     fn begin(&mut self, request: Request) -> Answer {
         if self.files.are_gone() {
             return Answer::Stopped;
         }
-        self.front
+        self.frontend
             .begin(self.rt, self.alloc, &mut self.session, request)
     }
 
@@ -66,16 +66,16 @@ impl<'a, R: Wait + Clock, K: BatchKeeper, G: Gate> Desk for ClientDesk<'a, R, K,
             stop_all(requests, answers);
             return;
         }
-        self.front
+        self.frontend
             .begin_all(self.rt, self.alloc, &mut self.session, requests, answers);
     }
 
     fn look(&mut self, chain: ChainId, hop: u8) -> Result<Looked, Memory> {
-        self.front
+        self.frontend
             .look(self.rt, self.alloc, &mut self.session, chain, hop)
     }
 
     fn shut(&mut self) {
-        self.ending.ask(self.rt);
+        self.end_request.ask(self.rt);
     }
 }

@@ -1,5 +1,6 @@
 //! Why a service didn't begin, or didn't end well.
 ghost use Rattle.std.specs.Prelude.{◌≡◌};
+ghost use Rattle.lynx_service.specs.Failures.{IsPlain};
 ghost use Rattle.lynx_service.specs.Faults.{contents_fault, copy_fault, folder_fault, missing_fault, store_fault};
 
 use lynx_cluster::{CloseFault, StartFault};
@@ -147,7 +148,7 @@ pub enum ServeFault {
     ListenStatus,
     /// The file by which clients find the service can't be made in its folder.
     #[error("cannot write the file service")]
-    Board,
+    Notice,
     /// No thread could be made for a server.
     #[error("no thread")]
     NoThread,
@@ -178,7 +179,8 @@ impl ServeFault {
 
     /// Why the store that is to follow that server can't.
     pub(crate) fn of_copy(server: ServerId, word: CopyWord) -> ServeFault
-        ensures { result ≡ copy_fault server word }
+        ensures value { result ≡ copy_fault server word }
+        ensures plain { IsPlain result }
     {
         let server = server.number();
         match word {

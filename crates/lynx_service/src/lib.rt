@@ -5,7 +5,7 @@
 
 pub use closing::{last_words, order_line};
 pub use desk::ClientDesk;
-pub use ending::Ending;
+pub use end_request::EndRequest;
 pub use fault::{CloseWord, CopyWord, Damage, ServeFault, StoreWord};
 pub use limits::{
     BRIEF_MILLIS, COPY_RETRY_SECONDS, MAX_BRIEF_WATCHERS, MAX_CLIENTS, MAX_CLOSING_SECONDS,
@@ -24,7 +24,7 @@ mod copies;
 mod copy_room;
 mod copying;
 pub mod desk;
-pub mod ending;
+pub mod end_request;
 pub mod fault;
 mod file_limit;
 mod identity;

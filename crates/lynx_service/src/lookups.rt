@@ -100,9 +100,9 @@ fn record_figures(recorded: Recorded, program: Name) -> Option<RecordFigures> {
 impl<R: Wait + Clock, K: BatchKeeper> Status<'_, R, K> {
     /// The cells of a table from one key to another, of the one server that has the first.
     pub(crate) fn cells_found(&self, name: Name, range: CellRange) -> Result<CellsFound, Memory>
-        ensures { IfOk result (FindsCells self.now.front.now.set name range) }
+        ensures { IfOk result (FindsCells self.now.frontend.now.set name range) }
     {
-        let set = self.front.set();
+        let set = self.frontend.set();
         let Some(table) = set.find_table(&name) else {
             return Ok(CellsFound::NoTable);
         };
@@ -111,7 +111,7 @@ impl<R: Wait + Clock, K: BatchKeeper> Status<'_, R, K> {
         let last = range.to.min(end_of_shard(set, table, from)).max(from);
         let most = range.limit as usize;
         let read = self
-            .front
+            .frontend
             .read(self.rt, self.alloc, server, table, from, last, most)?;
         match read {
             Some(read) => Ok(CellsFound::Found(figures_of(read, server, range, last))),
@@ -127,8 +127,8 @@ impl<R: Wait + Clock, K: BatchKeeper> Status<'_, R, K> {
 
     /// Whether some server has stopped.
     fn has_stopped(&self) -> bool {
-        for number in 0..self.front.set().servers() {
-            if let Some(glance) = self.front.glance(self.rt, ServerId::at(number))
+        for number in 0..self.frontend.set().servers() {
+            if let Some(glance) = self.frontend.glance(self.rt, ServerId::at(number))
                 && !glance.is_running
             {
                 return true;
@@ -145,7 +145,7 @@ impl<R: Wait + Clock, K: BatchKeeper> Status<'_, R, K> {
         number: u64,
     ) -> Result<RecordsFound, Memory> {
         let mut records = Vec::new(self.alloc);
-        for recorded in self.front.find(self.rt, self.alloc, client, number)? {
+        for recorded in self.frontend.find(self.rt, self.alloc, client, number)? {
             if let Some(figures) = self.record_figures(recorded) {
                 records.push(figures)?;
             }
@@ -158,7 +158,7 @@ impl<R: Wait + Clock, K: BatchKeeper> Status<'_, R, K> {
 
     /// What a chain did, and for whom.
     pub(crate) fn chain_found(&self, chain: ChainId) -> Result<Option<ChainRecord>, Memory> {
-        let found = self.front.beginning(self.rt, self.alloc, chain)?;
+        let found = self.frontend.beginning(self.rt, self.alloc, chain)?;
         let Some(Entry::Begun(begun)) = found else {
             return Ok(None);
         };

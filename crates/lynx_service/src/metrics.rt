@@ -1,7 +1,7 @@
 //! What is counted of a running service, by server: what begins were answered, what deliveries came
 //! to, how long steps took that kept an entry, and what is needed to tell how many hops are owed.
 use crate::log::Log;
-use lynx_cluster::{Gate, Passage};
+use lynx_cluster::{Gate, StepKind};
 use lynx_entry::{Answer, Delivered, Entry};
 use lynx_keep::{Cause, Keeper};
 use lynx_names::limits::MAX_PROGRAMS;
@@ -178,9 +178,9 @@ impl<R: Wait + Clock> Metrics<R> {
 }
 
 impl<R: Wait + Clock> Gate for Metrics<R> {
-    fn enter(&self, _server: ServerId, _passage: Passage) {}
+    fn enter(&self, _server: ServerId, _step: StepKind) {}
 
-    fn leave(&self, _server: ServerId, _passage: Passage) {}
+    fn leave(&self, _server: ServerId, _step: StepKind) {}
 
     fn now(&self) -> Option<Instant> {
         Instant::now(&self.rt).ok()

@@ -1,7 +1,7 @@
 //! Reading what a client sends and writing what it is answered, with patience that ends.
 ghost use Rattle.std.specs.Prelude.{◌≡◌};
 
-use crate::ending::Ending;
+use crate::end_request::EndRequest;
 use crate::limits::{
     MAX_IDLE_SECONDS, MAX_SHUT_SECONDS, MAX_WATCH_SECONDS, MAX_WRITE_SECONDS, TICK_MILLIS,
 };
@@ -34,17 +34,21 @@ fn is_tick(error: &io::Error) -> bool {
 pub(crate) struct PatientReader<'a, R, I> {
     rt: &'a R,
     stream: I,
-    ending: &'a Ending,
+    end_request: &'a EndRequest,
     is_over: bool,
 }
 
 impl<'a, R, I> PatientReader<'a, R, I> {
-    /// Of this stream, in a service of that ending.
-    pub(crate) fn new(rt: &'a R, stream: I, ending: &'a Ending) -> PatientReader<'a, R, I> {
+    /// Of this stream, in a service with that end request.
+    pub(crate) fn new(
+        rt: &'a R,
+        stream: I,
+        end_request: &'a EndRequest,
+    ) -> PatientReader<'a, R, I> {
         PatientReader {
             rt,
             stream,
-            ending,
+            end_request,
             is_over: false,
         }
     }
@@ -58,12 +62,12 @@ impl<'a, R, I> PatientReader<'a, R, I> {
 impl<R: Wait + Clock, I: Read> Read for PatientReader<'_, R, I> {
     fn read(&mut self, buf: &mut [u8]) -> io::Result<usize> {
         for tick in 0..IDLE_TICKS {
-            if self.ending.is_over(self.rt) {
+            if self.end_request.is_over(self.rt) {
                 break;
             }
             match self.stream.read(buf) {
                 Err(error) if is_tick(&error) => {
-                    if tick >= SHUT_TICKS && self.ending.is_asked() {
+                    if tick >= SHUT_TICKS && self.end_request.is_asked() {
                         break;
                     }
                 }
@@ -81,24 +85,24 @@ impl<R: Wait + Clock, I: Read> Read for PatientReader<'_, R, I> {
 pub(crate) struct BriefReader<'a, R> {
     rt: &'a R,
     stream: &'a TcpStream,
-    ending: &'a Ending,
+    end_request: &'a EndRequest,
     since: Option<Instant>,
     /// For how long it is read.
     most: Duration,
 }
 
 impl<'a, R: Clock> BriefReader<'a, R> {
-    /// Of this stream, in a service of that ending, for so long from now on.
+    /// Of this stream, in a service with that end request, for so long from now on.
     pub(crate) fn new(
         rt: &'a R,
         stream: &'a TcpStream,
-        ending: &'a Ending,
+        end_request: &'a EndRequest,
         most: Duration,
     ) -> BriefReader<'a, R> {
         BriefReader {
             rt,
             stream,
-            ending,
+            end_request,
             since: Instant::now(rt).ok(),
             most,
         }
@@ -119,7 +123,7 @@ impl<'a, R: Clock> BriefReader<'a, R> {
 impl<R: Clock> Read for BriefReader<'_, R> {
     fn read(&mut self, buf: &mut [u8]) -> io::Result<usize> {
         for _ in 0..WATCH_TICKS {
-            if self.ending.is_asked() || self.is_over() {
+            if self.end_request.is_asked() || self.is_over() {
                 break;
             }
             let mut stream = self.stream;
@@ -138,7 +142,7 @@ impl<R: Clock> Read for BriefReader<'_, R> {
 pub(crate) struct PatientWriter<'a, R, W> {
     rt: &'a R,
     stream: W,
-    ending: &'a Ending,
+    end_request: &'a EndRequest,
     /// Bytes that went, of all who write.
     told: &'a AtomicU64,
     /// When the first byte didn't go, where some still don't.
@@ -148,11 +152,11 @@ pub(crate) struct PatientWriter<'a, R, W> {
 }
 
 impl<'a, R: Wait + Clock, W: Write> PatientWriter<'a, R, W> {
-    /// Of this stream, in a service of that ending. Bytes may not go for so long at most.
+    /// Of this stream, in a service with that end request. Bytes may not go for so long at most.
     pub(crate) fn new(
         rt: &'a R,
         stream: W,
-        ending: &'a Ending,
+        end_request: &'a EndRequest,
         told: &'a AtomicU64,
         most: Duration,
     ) -> PatientWriter<'a, R, W>
@@ -161,7 +165,7 @@ impl<'a, R: Wait + Clock, W: Write> PatientWriter<'a, R, W> {
         PatientWriter {
             rt,
             stream,
-            ending,
+            end_request,
             told,
             since: None,
             most,
@@ -194,7 +198,7 @@ impl<'a, R: Wait + Clock, W: Write> PatientWriter<'a, R, W> {
                     Ok(elapsed) => elapsed >= self.most,
                     Err(_) => true,
                 };
-                is_long || self.ending.is_over(self.rt)
+                is_long || self.end_request.is_over(self.rt)
             }
             None => false,
         }

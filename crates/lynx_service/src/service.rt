@@ -4,7 +4,7 @@ ghost use Rattle.lynx_cluster.specs.Starting.{AreOpened};
 ghost use Rattle.lynx_store_files.specs.Folders.{StandIn};
 ghost use Rattle.lynx_weave.specs.Senders.{AreAllSent};
 ghost use Rattle.lynx_weave.specs.Servers.{AreServersOf, histories_of};
-ghost use Rattle.lynx_service.specs.Failures.{FailsToOpen};
+ghost use Rattle.lynx_service.specs.Failures.{FailsToOpen, FailsToServe, IsPlain};
 ghost use Rattle.lynx_service.specs.Services.{AppendsListening, HasServed};
 
 use crate::accepting::{Ports, serve_clients};
@@ -22,7 +22,7 @@ use crate::store_files::StoreFiles;
 use lynx_cluster::{Cluster, Host, Opened, Pace, Session};
 use lynx_keep::BatchKeeper;
 use lynx_lines::write_bytes;
-use lynx_notice::Board;
+use lynx_notice::NoticeFile;
 use lynx_order::Explained;
 use lynx_server::Server;
 use lynx_set::ChainSet;
@@ -71,21 +71,23 @@ fn places(alloc: Global, ports: &Ports) -> Result<String, AllocError> {
     }
 }
 
-/// Tells clients that they are listened to, and where: by the board, and by a line; and by another
+/// Tells clients that they are listened to, and where: by the notice, and by a line; and by another
 /// where the status is told.
 fn write_listening<W: Write>(
     alloc: Global,
     ports: &Ports,
-    board: &Board<'_>,
+    notice: &NoticeFile<'_>,
     writer: &mut W,
 ) -> Result<(), ServeFault>
-    ensures { OnOk result (AppendsListening (W.contents writer.old) (W.contents writer.new)) }
+    ensures written { OnOk result (AppendsListening (W.contents writer.old)
+        (W.contents writer.new)) }
+    ensures plain { IfErr result IsPlain }
 {
     let status = ports.watch_address();
-    match board.put_up(ports.address, status) {
+    match notice.write(ports.address, status) {
         Ok(()) => {}
         Err(error) if error.kind() == ErrorKind::OutOfMemory => return Err(ServeFault::Memory),
-        Err(_) => return Err(ServeFault::Board),
+        Err(_) => return Err(ServeFault::Notice),
     }
     let mut lines = String::from_str(alloc, "listening ")?;
     lines.push_str(places(alloc, ports)?.as_str())?;
@@ -97,7 +99,7 @@ fn write_listening<W: Write>(
 }
 
 /// Serves clients once it is told that they are listened to, and gives their sessions back. In the
-/// end nothing is told on the board.
+/// end the notice is gone.
 fn serve_when_told<
     R: Host + Net<Listener = TcpListener, Stream = TcpStream>,
     K: BatchKeeper + Send + Drop,
@@ -108,25 +110,27 @@ fn serve_when_told<
     alloc: Global,
     cluster: &Cluster<K, Metrics<R>>,
     ports: &Ports,
-    board: &Board<'_>,
+    notice: &NoticeFile<'_>,
     log: &Log,
     files: &StoreFiles,
     copier: Option<&Copier<'_, K, S>>,
     writer: &mut W,
 ) -> (Vec<Session>, Result<(), ServeFault>)
-    ensures { OnOk result.1 (AppendsListening (W.contents writer.old) (W.contents writer.new)) }
+    ensures written { OnOk result.1 (AppendsListening (W.contents writer.old)
+        (W.contents writer.new)) }
+    ensures plain { IfErr result.1 IsPlain }
 {
-    let written = write_listening(alloc, ports, board, writer);
+    let written = write_listening(alloc, ports, notice, writer);
     let sessions = match written {
         Ok(()) => {
             log.listening(ports.address, ports.watch_address());
-            let front = cluster.front();
-            let sessions = serve_clients(rt, alloc, front, ports, board, log, files, copier);
-            log.closing(front.gate().all_owed(front.set()));
+            let frontend = cluster.frontend();
+            let sessions = serve_clients(rt, alloc, frontend, ports, notice, log, files, copier);
+            log.closing(frontend.gate().all_owed(frontend.set()));
             sessions
         }
         Err(_) => {
-            board.take_down(ports.address);
+            notice.remove(ports.address);
             Vec::new(alloc)
         }
     };
@@ -192,7 +196,9 @@ fn open_copier<'a, K: BatchKeeper + Drop, S: Stores<K>>(
     servers: &[Server<K>],
     room: &'a CopyRoom,
     log: &'a Log,
-) -> Result<Option<Copier<'a, K, S>>, ServeFault> {
+) -> Result<Option<Copier<'a, K, S>>, ServeFault>
+    ensures { IfErr result IsPlain }
+{
     let Some(folder) = service.copy else {
         return Ok(None);
     };
@@ -216,11 +222,12 @@ fn finish<R: Host, K: BatchKeeper + Send + Drop, S: Stores<K>>(
     cluster: &mut Cluster<K, Metrics<R>>,
     copier: Option<Copier<'_, K, S>>,
 ) -> Result<(), ServeFault>
-    ensures { cluster.new ≡ cluster.old }
+    ensures same { cluster.new ≡ cluster.old }
+    ensures plain { IfErr result IsPlain }
 {
     cluster.halt(rt, alloc);
     match copier {
-        Some(copier) => copier.finish(rt, cluster.front()),
+        Some(copier) => copier.finish(rt, cluster.frontend()),
         None => Ok(()),
     }
 }
@@ -232,16 +239,19 @@ fn check_kept<R: Host>(
     files: &StoreFiles,
     log: &Log,
     copied: Result<(), ServeFault>,
-) -> Result<(), ServeFault> {
+) -> Result<(), ServeFault>
+    requires { IfErr copied IsPlain }
+    ensures { IfErr result IsPlain }
+{
     files.check(rt, log)?;
     copied
 }
 
 /// Serves clients over the stores of a folder, until one of them asks for the end: opens the stores
 /// that are there, side by side; listens at the port; makes the stores of a new folder; looks
-/// whether all stores fit together; tells on the board where it listens and what it serves, and
+/// whether all stores fit together; tells in a notice where it listens and what it serves, and
 /// writes `listening 127.0.0.1:PORT`, and where its status is told `status 127.0.0.1:PORT`; takes
-/// the board's notice down as soon as a shut was read; and writes in the end `closed` and the line
+/// the notice away as soon as a shut was read; and writes in the end `closed` and the line
 /// of the order that explains all that the stores hold, or of a cycle, unless that goes apart. It
 /// gives that order or cycle. docs/FORMATS.md has what clients send and are sent,
 /// [`limits`](crate::limits) what a client may cost. The set is not judged.
@@ -277,11 +287,13 @@ pub fn serve_stores<
     service: Service<'_>,
     writer: &mut W,
     progress: &Progress<'_>,
-    board: &Board<'_>,
+    notice: &NoticeFile<'_>,
     log: &Log,
 ) -> Result<Explained, ServeFault>
-    ensures { IfOk result (HasServed K.terms S.store_terms service.entry.folder.now
+    ensures served { IfOk result (HasServed K.terms S.store_terms service.entry.folder.now
         service.entry.is_order_apart set.now (W.contents writer.old) (W.contents writer.new)) }
+    ensures fails { IfErr result (FailsToServe K.terms S.store_terms service.entry.folder.now
+        set.now (W.contents writer.old) (W.contents writer.new)) }
 {
     tell_file_limit(log);
     let opened = open_all(&rt, alloc, set, stores, service, progress);
@@ -290,13 +302,13 @@ pub fn serve_stores<
     tell_opened(log, opened.servers());
     let room = CopyRoom::new(alloc, set.servers())?;
     let servers = opened.servers();
-    let copier = open_copier(board.rt, alloc, set, stores, service, servers, &room, log)?;
-    let files = StoreFiles::of(board.rt, alloc, service.folder, set)?;
+    let copier = open_copier(notice.rt, alloc, set, stores, service, servers, &room, log)?;
+    let files = StoreFiles::of(notice.rt, alloc, service.folder, set)?;
     let metrics = Metrics::of(rt, alloc, log, opened.servers())?;
     let mut cluster = opened.start(rt, alloc, metrics, service.pace)?;
     let copying = copier.as_ref();
     let (sessions, written) = serve_when_told(
-        &rt, alloc, &cluster, &ports, board, log, &files, copying, writer,
+        &rt, alloc, &cluster, &ports, notice, log, &files, copying, writer,
     );
     drop(ports);
     progress.closes();

@@ -6,7 +6,7 @@ use crate::copy_room::CopyRoom;
 use crate::log::Log;
 use crate::metrics::Metrics;
 use crate::store_files::StoreFiles;
-use lynx_cluster::Front;
+use lynx_cluster::Frontend;
 use lynx_codec::Looked;
 use lynx_entry::Entry;
 use lynx_keep::BatchKeeper;
@@ -28,7 +28,7 @@ const MOST_RECENT: usize = 100;
 pub(crate) struct Status<'a, R: Wait + Clock, K: BatchKeeper> {
     pub(crate) rt: &'a R,
     pub(crate) alloc: Global,
-    pub(crate) front: &'a Front<K, Metrics<R>>,
+    pub(crate) frontend: &'a Frontend<K, Metrics<R>>,
     pub(crate) connections: &'a Connections,
     pub(crate) files: &'a StoreFiles,
     pub(crate) log: &'a Log,
@@ -45,7 +45,7 @@ impl<'a, R: Wait + Clock, K: BatchKeeper> Status<'a, R, K> {
     pub(crate) fn new(
         rt: &'a R,
         alloc: Global,
-        front: &'a Front<K, Metrics<R>>,
+        frontend: &'a Frontend<K, Metrics<R>>,
         connections: &'a Connections,
         files: &'a StoreFiles,
         log: &'a Log,
@@ -55,7 +55,7 @@ impl<'a, R: Wait + Clock, K: BatchKeeper> Status<'a, R, K> {
         Status {
             rt,
             alloc,
-            front,
+            frontend,
             connections,
             files,
             log,
@@ -70,7 +70,7 @@ impl<'a, R: Wait + Clock, K: BatchKeeper> Status<'a, R, K> {
         Status {
             rt: self.rt,
             alloc: self.alloc,
-            front: self.front,
+            frontend: self.frontend,
             connections: self.connections,
             files: self.files,
             log: self.log,
@@ -93,14 +93,14 @@ impl<'a, R: Wait + Clock, K: BatchKeeper> Status<'a, R, K> {
 
     /// The name of a program of the set.
     pub(crate) fn name_of(&self, program: ProgramId) -> Option<Name> {
-        let (name, _) = self.front.set().programs().get_index(program.index())?;
+        let (name, _) = self.frontend.set().programs().get_index(program.index())?;
         Some(*name)
     }
 
     /// The figures of one server. None where the cluster has no such server.
     fn server_figures(&self, server: ServerId) -> Option<ServerFigures> {
-        let metrics = self.front.gate();
-        let glance = self.front.glance(self.rt, server)?;
+        let metrics = self.frontend.gate();
+        let glance = self.frontend.glance(self.rt, server)?;
         let counts = metrics.counts(server)?;
         Some(ServerFigures {
             server,
@@ -108,7 +108,7 @@ impl<'a, R: Wait + Clock, K: BatchKeeper> Status<'a, R, K> {
             entries: glance.entries,
             clock: glance.clock,
             held: glance.held,
-            owed: metrics.owed(self.front.set(), server),
+            owed: metrics.owed(self.frontend.set(), server),
             begins: counts.begins,
             deliveries: counts.deliveries,
             commits: counts.commits,
@@ -136,11 +136,13 @@ impl<'a, R: Wait + Clock, K: BatchKeeper> Status<'a, R, K> {
         chain: ChainId,
         hop: u8,
     ) -> Result<Option<HopFigures>, Memory> {
-        let Some(asked) = self.front.set().hop(program, usize::from(hop)) else {
+        let Some(asked) = self.frontend.set().hop(program, usize::from(hop)) else {
             return Ok(None);
         };
         let server = asked.server;
-        let looked = self.front.recall(self.rt, self.alloc, server, chain, hop)?;
+        let looked = self
+            .frontend
+            .recall(self.rt, self.alloc, server, chain, hop)?;
         let ran = match looked {
             Looked::Found { stamp, results } => Some(RanHop { stamp, results }),
             Looked::Absent => None,
@@ -188,7 +190,7 @@ impl<'a, R: Wait + Clock, K: BatchKeeper> Status<'a, R, K> {
     /// Adds what is shown of the last entries of a server.
     fn put_recent(&self, server: ServerId, recent: &mut Vec<RecentEntry>) -> Result<(), Memory> {
         let entries = self
-            .front
+            .frontend
             .last_entries(self.rt, self.alloc, server, MOST_RECENT)?;
         for entry in entries.as_slice() {
             if let Some(shown) = self.recent_entry(server, entry) {
@@ -207,7 +209,8 @@ impl<R: Wait + Clock, K: BatchKeeper> Watched for Status<'_, R, K> {
 
     ghost finds = { λ old chain found new. Unit {0} };
 
-    ghost reads = { λ old table range found new. FindsCells old.front.now.set table range found };
+    ghost reads = { λ old table range found new. FindsCells old.frontend.now.set table range
+        found };
 
     ghost records = { λ old client number found new. Unit {0} };
 
@@ -219,7 +222,7 @@ impl<R: Wait + Clock, K: BatchKeeper> Watched for Status<'_, R, K> {
 
     fn figures(&mut self) -> Result<Figures, Memory> {
         let mut servers = Vec::new(self.alloc);
-        for number in 0..self.front.set().servers() {
+        for number in 0..self.frontend.set().servers() {
             if let Some(figures) = self.server_figures(ServerId::at(number)) {
                 servers.push(figures)?;
             }
@@ -237,7 +240,7 @@ impl<R: Wait + Clock, K: BatchKeeper> Watched for Status<'_, R, K> {
     }
 
     fn chain(&mut self, chain: ChainId) -> Result<Option<ChainFigures>, Memory> {
-        let Some(program) = self.front.program_of(self.rt, &chain) else {
+        let Some(program) = self.frontend.program_of(self.rt, &chain) else {
             return Ok(None);
         };
         let Some(name) = self.name_of(program) else {
@@ -264,7 +267,7 @@ impl<R: Wait + Clock, K: BatchKeeper> Watched for Status<'_, R, K> {
 
     fn recent(&mut self) -> Result<Vec<RecentEntry>, Memory> {
         let mut recent = Vec::new(self.alloc);
-        for number in 0..self.front.set().servers() {
+        for number in 0..self.frontend.set().servers() {
             self.put_recent(ServerId::at(number), &mut recent)?;
         }
         recent.sort_by_key(|entry| entry.stamp.time())?;
@@ -285,6 +288,6 @@ impl<R: Wait + Clock, K: BatchKeeper> Watched for Status<'_, R, K> {
     }
 
     fn is_ending(&self) -> bool {
-        self.connections.ending().is_asked()
+        self.connections.end_request().is_asked()
     }
 }

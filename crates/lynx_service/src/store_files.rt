@@ -1,4 +1,7 @@
 //! The files of the stores, as long as their names lead to them.
+ghost use Rattle.std.specs.Prelude.{IfErr};
+ghost use Rattle.lynx_service.specs.Failures.{IsPlain};
+
 use crate::connections::Connections;
 use crate::fault::{ServeFault, StoreWord};
 use crate::identity::{Identity, identity_of};
@@ -135,7 +138,9 @@ impl StoreFiles {
 
     /// Looks once more, behind the end of all that is stored. Tells the first server whose file was
     /// found gone, then or before.
-    pub(crate) fn check<R: Wait>(&self, rt: &R, log: &Log) -> Result<(), ServeFault> {
+    pub(crate) fn check<R: Wait>(&self, rt: &R, log: &Log) -> Result<(), ServeFault>
+        ensures { IfErr result IsPlain }
+    {
         self.look(rt, log);
         match *self.gone.lock(rt) {
             Some(server) => Err(ServeFault::Store {

@@ -1,5 +1,7 @@
 //! One client's connection, from its first byte to its end.
-ghost use Rattle.lynx_service.specs.Talks.{HasTalked};
+ghost use Rattle.std.specs.Prelude.{◌≡◌};
+ghost use Rattle.lynx_service.specs.declared.desk.ClientDesk.{ClientDesk};
+ghost use Rattle.lynx_service.specs.Talks.{HasTalked, HasTalkedOver};
 
 use crate::accepting::turn_away;
 use crate::connections::Connections;
@@ -8,7 +10,7 @@ use crate::limits::{MAX_WRITE_SECONDS, TICK_MILLIS};
 use crate::log::{Leave, Log, Want};
 use crate::patience::{PatientReader, PatientWriter};
 use crate::store_files::StoreFiles;
-use lynx_cluster::{Front, Gate, Session};
+use lynx_cluster::{Frontend, Gate, Session};
 use lynx_keep::BatchKeeper;
 use lynx_port::{Desk, PortFault, Served, serve};
 use std::alloc::Global;
@@ -71,9 +73,15 @@ where
     ensures { HasTalked D.begins D.looks desk.old desk.new (O.contents output)
         (O.contents result.0) }
 {
-    let mut reader = PatientReader::new(rt, input, connections.ending());
+    let mut reader = PatientReader::new(rt, input, connections.end_request());
     let most = Duration::from_secs(MAX_WRITE_SECONDS);
-    let mut writer = PatientWriter::new(rt, output, connections.ending(), connections.told(), most);
+    let mut writer = PatientWriter::new(
+        rt,
+        output,
+        connections.end_request(),
+        connections.told(),
+        most,
+    );
     let done = serve(alloc, &mut reader, &mut writer, desk);
     let leave = leave_of(done, reader.is_over());
     (writer.into_stream(), leave)
@@ -86,7 +94,9 @@ fn serve_connection<R: Wait + Clock, D: Desk>(
     stream: &TcpStream,
     connections: &Connections,
     desk: &mut D,
-) -> Leave {
+) -> Leave
+    ensures { HasTalkedOver D.begins D.looks desk.old desk.new }
+{
     if !set_limits(stream) {
         return Leave::Limit;
     }
@@ -96,31 +106,36 @@ fn serve_connection<R: Wait + Clock, D: Desk>(
 }
 
 /// Serves one client by that session, which is given back, and tells why that ended.
-fn serve_by<R: Wait + Clock, K: BatchKeeper + Drop, G: Gate + Drop>(
-    rt: &R,
+fn serve_by<'a, R: Wait + Clock, K: BatchKeeper + Drop, G: Gate + Drop>(
+    rt: &'a R,
     alloc: Global,
-    front: &Front<K, G>,
+    frontend: &'a Frontend<K, G>,
     session: Session,
     stream: &TcpStream,
-    connections: &Connections,
-    files: &StoreFiles,
-) -> (Session, Leave) {
-    let ending = connections.ending();
+    connections: &'a Connections,
+    files: &'a StoreFiles,
+) -> (Session, Leave)
+    ensures { (first : ClientDesk R K G) × (last : ClientDesk R K G)
+        × (first.session ≡ session) × (first.frontend ≡ frontend.entry) × (last.session ≡ result.0)
+        × HasTalkedOver ⟦<ClientDesk<'a, R, K, G> as Desk>⟧.begins
+        ⟦<ClientDesk<'a, R, K, G> as Desk>⟧.looks first last }
+{
+    let end_request = connections.end_request();
     let mut desk = ClientDesk {
         rt,
         alloc,
-        front,
+        frontend,
         session,
-        ending,
+        end_request,
         files,
     };
     let leave = serve_connection(rt, alloc, stream, connections, &mut desk);
     let ClientDesk {
         rt: _,
         alloc: _,
-        front: _,
+        frontend: _,
         session,
-        ending: _,
+        end_request: _,
         files: _,
     } = desk;
     (session, leave)
@@ -130,20 +145,20 @@ fn serve_by<R: Wait + Clock, K: BatchKeeper + Drop, G: Gate + Drop>(
 pub(crate) fn talk<R: Wait + Clock, K: BatchKeeper + Drop, G: Gate + Drop>(
     rt: &R,
     alloc: Global,
-    front: &Front<K, G>,
+    frontend: &Frontend<K, G>,
     stream: TcpStream,
     connections: &Connections,
     files: &StoreFiles,
     log: &Log,
 ) {
-    let Some(session) = connections.session(rt, alloc, front) else {
+    let Some(session) = connections.session(rt, alloc, frontend) else {
         connections.release(rt, None);
         turn_away(connections, log, Want::Memory);
         return;
     };
     connections.note_taken();
     log.taken(connections.clients(rt));
-    let (session, leave) = serve_by(rt, alloc, front, session, &stream, connections, files);
+    let (session, leave) = serve_by(rt, alloc, frontend, session, &stream, connections, files);
     drop(stream);
     connections.release(rt, Some(session));
     log.gone(leave, connections.clients(rt));

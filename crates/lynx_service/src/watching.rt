@@ -42,11 +42,11 @@ fn answer<R: Wait + Clock, K: BatchKeeper>(
         return;
     }
     let connections = status.connections;
-    let mut reader = BriefReader::new(rt, stream, connections.ending(), time.reading());
+    let mut reader = BriefReader::new(rt, stream, connections.end_request(), time.reading());
     let mut writer = PatientWriter::new(
         rt,
         stream,
-        connections.ending(),
+        connections.end_request(),
         connections.shown(),
         time.writing(),
     );

@@ -6,7 +6,7 @@ use Rattle.sqlite_trees.specs.Tree.{IsAscending}
 use Rattle.lynx_entry.specs.declared.entry.Entry.{Entry}
 use Rattle.lynx_entry.specs.declared.entry.Entry.TheVariants.{Begun, Refused, Hop}
 use Rattle.lynx_entry.specs.Entry.{History}
-use Rattle.lynx_keep.specs.Stored.{HasForm}
+use Rattle.lynx_keep.specs.Stored.{HasEncoding}
 use Rattle.lynx_sql.specs.declared.acts.Acted.{Acted}
 use Rattle.lynx_sql.specs.declared.version.StoreVersion.{StoreVersion}
 use Rattle.lynx_sql.specs.declared.version.StoreVersion.TheVariants.{One, Two}
@@ -78,7 +78,7 @@ one_before place places act acts is low fits lie =
 none_before : (place places : ℕ) (acts : List Acted) → Lie (place + 1) places acts → Lie place places acts
 none_before place places acts lie = (earlier place places acts lie.0, lie.1)
 
-before : (place places : ℕ) (entry : Entry) (acts : List Acted) → place < places → HasForm entry → Lie (place + 1) places acts
+before : (place places : ℕ) (entry : Entry) (acts : List Acted) → place < places → HasEncoding entry → Lie (place + 1) places acts
     → Lie place places (with_act (act_at place entry) acts)
 before place places (Begun begun) acts low formed lie =
     let act : Acted = record { origin = begun.chain.origin; index = begun.chain.index; hop = 0; place = place } in
@@ -88,7 +88,7 @@ before place places (Hop ran) acts low formed lie =
     let act : Acted = record { origin = ran.message.chain.origin; index = ran.message.chain.index; hop = ran.message.hop; place = place } in
     one_before place places act acts refl low formed.0.0.1 lie
 
-pub lie_from : (place places : ℕ) (entries : History) → place + length entries ≤ places → AllByRecursion HasForm entries
+pub lie_from : (place places : ℕ) (entries : History) → place + length entries ≤ places → AllByRecursion HasEncoding entries
     → Lie place places (acts_from place entries)
 lie_from place places [] room formed = (tt, tt)
 lie_from place places (entry ∷ entries) room formed =
@@ -107,7 +107,7 @@ no_places : (places : ℕ) → ArePlaced [] places
 no_places places = record { rise = tt; low = tt; fit = tt }
 
 -- the hops of entries are placed
-pub acts_placed : (version : StoreVersion) (entries : History) (places : ℕ) → places ≡ length entries → AllByRecursion HasForm entries
+pub acts_placed : (version : StoreVersion) (entries : History) (places : ℕ) → places ≡ length entries → AllByRecursion HasEncoding entries
     → ArePlaced (acts_in (acted_of version entries)) places
 acts_placed One entries places counted formed = no_places places
 acts_placed Two entries places counted formed =

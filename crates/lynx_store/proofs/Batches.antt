@@ -10,7 +10,7 @@ use Rattle.lynx_cells.specs.Database.{ChangeSet, applied}
 use Rattle.lynx_entry.specs.declared.entry.Entry.{Entry}
 use Rattle.lynx_entry.specs.Entry.{History}
 use Rattle.lynx_keep.specs.Kept.{KeptState, with_entries}
-use Rattle.lynx_keep.specs.Stored.{form_of, HasForm}
+use Rattle.lynx_keep.specs.Stored.{encoding_of, HasEncoding}
 use Rattle.lynx_sql.specs.declared.acts.Acted.{Acted}
 use Rattle.lynx_sql.specs.declared.version.StoreVersion.{StoreVersion}
 use Rattle.lynx_sql.specs.declared.version.StoreVersion.TheVariants.{One, Two}
@@ -32,12 +32,12 @@ acts_more place entries i entry at from low is =
     let counted : length (take i entries) ≡ i = length-take-le i entries (omega (arith, low)) in
     sym (ap (acts_from place) (take_next entries i entry low is) ∙ acts-append place (take i entries) entry at (omega (arith, from, counted)))
 
--- the forms of one more of them
-pub forms_more : (entries : History) (i : ℕ) (entry : Entry) (vectors more : List (Vec ℕ)) (body : Vec ℕ) → i < length entries → entry ≡ get_or entries i entry
-    → more ≡ vectors ++ body ∷ [] → body.items ≡ form_of entry → bodies_in vectors ≡ bodies_of (take i entries) → bodies_in more ≡ bodies_of (take (i + 1) entries)
-forms_more entries i entry vectors more body low is pushed form so_far =
+-- the encodings of one more of them
+pub encodings_more : (entries : History) (i : ℕ) (entry : Entry) (vectors more : List (Vec ℕ)) (body : Vec ℕ) → i < length entries → entry ≡ get_or entries i entry
+    → more ≡ vectors ++ body ∷ [] → body.items ≡ encoding_of entry → bodies_in vectors ≡ bodies_of (take i entries) → bodies_in more ≡ bodies_of (take (i + 1) entries)
+encodings_more entries i entry vectors more body low is pushed encoding so_far =
     ap bodies_in pushed ∙ map-append (λ (b : Vec ℕ). b.items) vectors (body ∷ [])
-    ∙ ap (λ bodies. bodies ++ body.items ∷ []) so_far ∙ ap (λ b. bodies_of (take i entries) ++ b ∷ []) form
+    ∙ ap (λ bodies. bodies ++ body.items ∷ []) so_far ∙ ap (λ b. bodies_of (take i entries) ++ b ∷ []) encoding
     ∙ bodies-append (take i entries) entry ∙ ap bodies_of (sym (take_next entries i entry low is))
 
 -- ---- hops
@@ -64,29 +64,29 @@ highs : (from places : ℕ) (acts : List Acted) → AllByRecursion (Lies from pl
 highs from places [] all = tt
 highs from places (act ∷ acts) all = (all.0.0, highs from places acts all.1)
 
--- ---- a commit of entries, whose bodies are their forms, and of their hops
+-- ---- a commit of entries, whose bodies are their encodings, and of their hops
 
 all_counted : (entries : History) (vectors : List (Vec ℕ)) → bodies_in vectors ≡ bodies_of entries → length vectors ≡ length entries
-all_counted entries vectors forms = sym (length-map vectors (λ (body : Vec ℕ). body.items)) ∙ ap length forms ∙ length-bodies entries
+all_counted entries vectors encodings = sym (length-map vectors (λ (body : Vec ℕ). body.items)) ∙ ap length encodings ∙ length-bodies entries
 
 are_next : (count : ℕ) (entries : History) (vectors : List (Vec ℕ)) (acts : List Acted) → bodies_in vectors ≡ bodies_of entries
-    → AllByRecursion HasForm entries → acts ≡ acts_from count entries → AreNext acts count (length vectors)
-are_next count entries vectors acts forms formed hops =
+    → AllByRecursion HasEncoding entries → acts ≡ acts_from count entries → AreNext acts count (length vectors)
+are_next count entries vectors acts encodings formed hops =
     let places : ℕ = count + length vectors in
-    let lie = lie_from count places entries (omega (arith, all_counted entries vectors forms)) formed in
+    let lie = lie_from count places entries (omega (arith, all_counted entries vectors encodings)) formed in
     subst (λ some. AreNext some count (length vectors)) (sym hops)
     (record { rise = lie.1; high = highs count places (acts_from count entries) lie.0; low = lows count places (acts_from count entries) lie.0 })
 
 module _ (old new : State) (owner : Owner) (count : ℕ) (entries : History) (vectors : List (Vec ℕ)) (changes : ChangeSet) (acts : List Acted)
-    (forms : bodies_in vectors ≡ bodies_of entries) (formed : AllByRecursion HasForm entries) (hops : acts ≡ acts_from count entries) where
+    (encodings : bodies_in vectors ≡ bodies_of entries) (formed : AllByRecursion HasEncoding entries) (hops : acts ≡ acts_from count entries) where
   own_next : AreNext acts count (length vectors)
-  own_next = are_next count entries vectors acts forms formed hops
+  own_next = are_next count entries vectors acts encodings formed hops
 
   same_contents : (before : KeptState) → count ≡ length before.entries
       → with_bodies (contents_of owner before) (bodies_in vectors) changes acts ≡ contents_of owner (with_entries before entries changes)
   same_contents before counted =
       let all : bodies_of before.entries ++ bodies_in vectors ≡ bodies_of (before.entries ++ entries) =
-      ap (λ bodies. bodies_of before.entries ++ bodies) forms ∙ sym (map-append form_of before.entries entries) in
+      ap (λ bodies. bodies_of before.entries ++ bodies) encodings ∙ sym (map-append encoding_of before.entries entries) in
       let own : with_acts (acted_of owner.version before.entries) acts ≡ acted_of owner.version (before.entries ++ entries) =
       ap (with_acts (acted_of owner.version before.entries)) hops ∙ acted-append_all owner.version before.entries entries count counted in
       λ i. record { title = title_for owner; bodies = all i; cells = applied changes before.cells; acted = own i }
@@ -99,7 +99,7 @@ module _ (old new : State) (owner : Owner) (count : ℕ) (entries : History) (ve
     tables = subst (Keeps new) (same_contents before kept.counted)
         (wrote own_next (contents_of owner before) kept.tables (version_kept owner.version before.entries) (kept.counted ∙ sym (length-bodies before.entries)));
     counted = omega (arith, total, kept.counted, length-append before.entries entries);
-    formed = all-append HasForm before.entries entries kept.formed formed;
+    formed = all-append HasEncoding before.entries entries kept.formed formed;
   }
 
   pub left_with_all : (AreNext acts count (length vectors) → (contents : Contents) → Keeps old contents → version_of contents.acted ≡ owner.version → count ≡ length contents.bodies

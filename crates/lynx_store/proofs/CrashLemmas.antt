@@ -14,7 +14,7 @@ use Rattle.sqlite.specs.Start.{FindsIn}
 use Rattle.sqlite.specs.State.{State}
 use Rattle.sqlite.proofs.Theorems.{opens_again}
 use Rattle.lynx_keep.specs.Kept.{KeptState}
-use Rattle.lynx_keep.specs.Stored.{HasForm}
+use Rattle.lynx_keep.specs.Stored.{HasEncoding}
 use Rattle.sqlite.specs.Schema.{Schema}
 use Rattle.lynx_sql.specs.Acts.{version_of}
 use Rattle.lynx_sql.specs.Tables.{no_schema, store_schema}
@@ -33,7 +33,7 @@ left_in it numbered sound owner one other image leaves may =
     let r : (db : Trees) × HoldsDatabase image db × (Holds db (contents_of owner one) ⊎ Holds db (contents_of owner other)) =
     (found.0, found.2, leaves found.0 found.1) in r)
 
-found_one : {D : Type 0} {g : Ghosts D} (next : Held (FileStore D g)) (owner : Owner) (kept : KeptState) → IsOpened next → AllByRecursion HasForm kept.entries
+found_one : {D : Type 0} {g : Ghosts D} (next : Held (FileStore D g)) (owner : Owner) (kept : KeptState) → IsOpened next → AllByRecursion HasEncoding kept.entries
     → Holds (file_state next).committed.trees (contents_of owner kept) → IsKept (file_state next) owner (length kept.entries) kept
 found_one next owner kept opened formed holds = record {
   tables = keeps_found (file_state next) (contents_of owner kept) opened.0.is_open opened.1 opened.0.clean holds;
@@ -42,7 +42,7 @@ found_one next owner kept opened formed holds = record {
 }
 
 pub found_in_next : {D : Type 0} {g : Ghosts D} (next : Held (FileStore D g)) (owner : Owner) (one other : KeptState) (image : Image)
-    → IsOpened next → FindsIn image (file_state next) → AllByRecursion HasForm one.entries → AllByRecursion HasForm other.entries
+    → IsOpened next → FindsIn image (file_state next) → AllByRecursion HasEncoding one.entries → AllByRecursion HasEncoding other.entries
     → HoldsEither image owner one other → FindsEither (file_state next) owner one other
 found_in_next next owner one other image opened finds formed others holds =
     ∥∥₁_map holds (λ found.

@@ -8,7 +8,7 @@ use Rattle.lynx_cells.specs.Database.{ChangeSet, applied}
 use Rattle.lynx_entry.specs.declared.entry.Entry.{Entry}
 use Rattle.lynx_entry.specs.Entry.{History}
 use Rattle.lynx_keep.specs.Kept.{KeptState, nothing_kept, with_entry}
-use Rattle.lynx_keep.specs.Stored.{form_of, HasForm}
+use Rattle.lynx_keep.specs.Stored.{encoding_of, HasEncoding}
 use Rattle.lynx_sql.specs.declared.acts.Acted.{Acted}
 use Rattle.lynx_sql.specs.declared.version.StoreVersion.{StoreVersion}
 use Rattle.lynx_sql.specs.declared.version.StoreVersion.TheVariants.{One, Two}
@@ -19,15 +19,15 @@ use Rattle.lynx_store.specs.Acts.{act_at, acted_of}
 use Rattle.lynx_store.specs.Stored.{bodies_of, contents_of, version_text, title_for, Owner, IsKept}
 use Rattle.lynx_store.proofs.ActLemmas.{acted-append, acts_placed}
 
-pub bodies-append : (entries : History) (entry : Entry) → bodies_of entries ++ form_of entry ∷ [] ≡ bodies_of (entries ++ entry ∷ [])
+pub bodies-append : (entries : History) (entry : Entry) → bodies_of entries ++ encoding_of entry ∷ [] ≡ bodies_of (entries ++ entry ∷ [])
 bodies-append [] entry = refl
-bodies-append (e ∷ es) entry = ap (λ bodies. form_of e ∷ bodies) (bodies-append es entry)
+bodies-append (e ∷ es) entry = ap (λ bodies. encoding_of e ∷ bodies) (bodies-append es entry)
 
 pub length-bodies : (entries : History) → length (bodies_of entries) ≡ length entries
 length-bodies [] = refl
 length-bodies (e ∷ es) = ap suc (length-bodies es)
 
-pub formed-append : (entries : History) (entry : Entry) → AllByRecursion HasForm entries → HasForm entry → AllByRecursion HasForm (entries ++ entry ∷ [])
+pub formed-append : (entries : History) (entry : Entry) → AllByRecursion HasEncoding entries → HasEncoding entry → AllByRecursion HasEncoding (entries ++ entry ∷ [])
 formed-append [] entry all formed = (formed, tt)
 formed-append (e ∷ es) entry all formed = (all.0, formed-append es entry all.1 formed)
 
@@ -36,9 +36,9 @@ pub version_kept : (version : StoreVersion) (entries : History) → version_of (
 version_kept One entries = refl
 version_kept Two entries = refl
 
--- a commit of one entry, whose body is its form, and of its hop
+-- a commit of one entry, whose body is its encoding, and of its hop
 module _ (old new : State) (owner : Owner) (count : ℕ) (entry : Entry) (body : List ℕ) (changes : ChangeSet) (acted : Option Acted)
-    (is : body ≡ form_of entry) (hop : acted ≡ act_at count entry) where
+    (is : body ≡ encoding_of entry) (hop : acted ≡ act_at count entry) where
   same_contents : (before : KeptState) → count ≡ length before.entries
       → with_body (contents_of owner before) body changes acted ≡ contents_of owner (with_entry before entry changes)
   same_contents before counted =
@@ -49,7 +49,7 @@ module _ (old new : State) (owner : Owner) (count : ℕ) (entry : Entry) (body :
       λ i. record { title = title_for owner; bodies = all i; cells = applied changes before.cells; acted = acts i }
 
   pub kept_with : ((contents : Contents) → Keeps old contents → version_of contents.acted ≡ owner.version → count ≡ length contents.bodies → Keeps new (with_body contents body changes acted))
-      → HasForm entry → (before : KeptState) → IsKept old owner count before → IsKept new owner (count + 1) (with_entry before entry changes)
+      → HasEncoding entry → (before : KeptState) → IsKept old owner count before → IsKept new owner (count + 1) (with_entry before entry changes)
   kept_with wrote formed before kept = record {
     tables = subst (Keeps new) (same_contents before kept.counted)
         (wrote (contents_of owner before) kept.tables (version_kept owner.version before.entries) (kept.counted ∙ sym (length-bodies before.entries)));
@@ -73,8 +73,8 @@ new_contents : (version : StoreVersion) (server set : List ℕ) → titled versi
 new_contents One server set = refl
 new_contents Two server set = refl
 
--- hops of entries that have forms are placed among their bodies
-pub placed : (version : StoreVersion) (entries : History) → AllByRecursion HasForm entries
+-- hops of entries that have encodings are placed among their bodies
+pub placed : (version : StoreVersion) (entries : History) → AllByRecursion HasEncoding entries
     → ArePlaced (acts_in (acted_of version entries)) (length (bodies_of entries))
 placed version entries formed = acts_placed version entries (length (bodies_of entries)) (length-bodies entries) formed
 

@@ -10,9 +10,9 @@ use Rattle.sqlite.specs.Order.{Row}
 use Rattle.lynx_entry.specs.declared.entry.Entry.{Entry}
 use Rattle.lynx_entry.specs.Entry.{History}
 use Rattle.lynx_codec.specs.declared.item.Item.TheVariants as items
-use Rattle.lynx_codec.proofs.Feeds.{no_form_begins_another}
+use Rattle.lynx_codec.proofs.Feeds.{no_encoding_begins_another}
 use Rattle.lynx_keep.specs.Kept.{KeptState}
-use Rattle.lynx_keep.specs.Stored.{form_of, HasForm}
+use Rattle.lynx_keep.specs.Stored.{encoding_of, HasEncoding}
 use Rattle.lynx_keep.proofs.Keeping.{same_kept}
 use Rattle.lynx_sql.specs.declared.reading.StoredRows.{StoredRows}
 use Rattle.lynx_sql.specs.Rows.{shown_entries, shown_meta}
@@ -42,11 +42,11 @@ shown-append place [] body at is = ap (λ n. (Int (pos n) ∷ Blob body ∷ []) 
 shown-append place (b ∷ bodies) body at is = ap (λ rows. (Int (pos place) ∷ Blob b ∷ []) ∷ rows) (shown-append (place + 1) bodies body at (omega arith))
 
 -- one more entry
-pub shown_more : (entries : History) (entry : Entry) (row : Row) (at : ℕ) → at ≡ length entries → row ≡ Int (pos at) ∷ Blob (form_of entry) ∷ []
+pub shown_more : (entries : History) (entry : Entry) (row : Row) (at : ℕ) → at ≡ length entries → row ≡ Int (pos at) ∷ Blob (encoding_of entry) ∷ []
     → shown_entries 0 (bodies_of entries) ++ row ∷ [] ≡ shown_entries 0 (bodies_of (entries ++ entry ∷ []))
 shown_more entries entry row at is same =
     ap (λ r. shown_entries 0 (bodies_of entries) ++ r ∷ []) same
-    ∙ shown-append 0 (bodies_of entries) (form_of entry) at (omega (arith, is, length-bodies entries))
+    ∙ shown-append 0 (bodies_of entries) (encoding_of entry) at (omega (arith, is, length-bodies entries))
     ∙ ap (shown_entries 0) (bodies-append entries entry)
 
 -- the rows that the entries so far show
@@ -91,26 +91,26 @@ same_bodies place (a ∷ more) (b ∷ others) same =
     let rest : shown_entries (place + 1) more ≡ shown_entries (place + 1) others = cc in
     ap (λ x. x ∷ more) here ∙ ap (λ xs. b ∷ xs) (same_bodies (place + 1) more others rest)
 
-same_entry : (a b : Entry) → HasForm a → HasForm b → form_of a ≡ form_of b → a ≡ b
+same_entry : (a b : Entry) → HasEncoding a → HasEncoding b → encoding_of a ≡ encoding_of b → a ≡ b
 same_entry a b formed other same =
-    let both = (no_form_begins_another (items.Entry a) (items.Entry b) [] [] formed other (ap (λ bytes. bytes ++ []) same)).0 in cc
+    let both = (no_encoding_begins_another (items.Entry a) (items.Entry b) [] [] formed other (ap (λ bytes. bytes ++ []) same)).0 in cc
 
-same_entries : (ours theirs : History) → AllByRecursion HasForm ours → AllByRecursion HasForm theirs → bodies_of ours ≡ bodies_of theirs → ours ≡ theirs
+same_entries : (ours theirs : History) → AllByRecursion HasEncoding ours → AllByRecursion HasEncoding theirs → bodies_of ours ≡ bodies_of theirs → ours ≡ theirs
 same_entries [] [] formed others same = refl
 same_entries [] (b ∷ theirs) formed others same = absurd (let e = same in cc)
 same_entries (a ∷ ours) [] formed others same = absurd (let e = same in cc)
 same_entries (a ∷ ours) (b ∷ theirs) formed others same =
-    let here : form_of a ≡ form_of b = cc in
+    let here : encoding_of a ≡ encoding_of b = cc in
     let rest : bodies_of ours ≡ bodies_of theirs = cc in
     ap (λ x. x ∷ ours) (same_entry a b formed.0 others.0 here) ∙ ap (λ xs. b ∷ xs) (same_entries ours theirs formed.1 others.1 rest)
 
--- rows of entries that have forms are those of one list
-pub same_shown : (rows : List Row) (ours theirs : History) → AllByRecursion HasForm ours → AllByRecursion HasForm theirs
+-- rows of entries that have encodings are those of one list
+pub same_shown : (rows : List Row) (ours theirs : History) → AllByRecursion HasEncoding ours → AllByRecursion HasEncoding theirs
     → rows ≡ shown_entries 0 (bodies_of ours) → rows ≡ shown_entries 0 (bodies_of theirs) → ours ≡ theirs
 same_shown rows ours theirs formed others shown other = same_entries ours theirs formed others (same_bodies 0 _ _ (sym shown ∙ other))
 
 -- rows tell one state
-pub one_state : (rows : StoredRows) (owner : Owner) (ours theirs : KeptState) → AllByRecursion HasForm ours.entries → ShowRows rows (contents_of owner ours)
+pub one_state : (rows : StoredRows) (owner : Owner) (ours theirs : KeptState) → AllByRecursion HasEncoding ours.entries → ShowRows rows (contents_of owner ours)
     → Tells rows owner theirs → ours ≡ theirs
 one_state rows owner ours theirs formed shown tells =
     let entries : ours.entries ≡ theirs.entries =
@@ -118,16 +118,16 @@ one_state rows owner ours theirs formed shown tells =
     same_kept ours.entries theirs.entries ours.cells theirs.cells entries (sym shown.cells ∙ tells.shown.cells)
 
 -- rows that show entries go on with one behind any fewer
-more_at : (place : ℕ) (entries : History) (count : ℕ) → AllByRecursion HasForm entries → count < length entries
-    → (entry : Entry) × HasForm entry × (slice_get (shown_entries place (bodies_of entries)) count ≡ Some (Int (pos (place + count)) ∷ Blob (form_of entry) ∷ []))
+more_at : (place : ℕ) (entries : History) (count : ℕ) → AllByRecursion HasEncoding entries → count < length entries
+    → (entry : Entry) × HasEncoding entry × (slice_get (shown_entries place (bodies_of entries)) count ≡ Some (Int (pos (place + count)) ∷ Blob (encoding_of entry) ∷ []))
 more_at place [] count formed low = absurd (omega (arith, low))
-more_at place (e ∷ entries) zero formed low = (e, formed.0, ap (λ n. Some (Int (pos n) ∷ Blob (form_of e) ∷ [])) (let n : place ≡ place + 0 = omega arith in n))
+more_at place (e ∷ entries) zero formed low = (e, formed.0, ap (λ n. Some (Int (pos n) ∷ Blob (encoding_of e) ∷ [])) (let n : place ≡ place + 0 = omega arith in n))
 more_at place (e ∷ entries) (suc count) formed low =
     let more = more_at (place + 1) entries count formed.1 (omega (arith, low)) in
-    (more.0, more.1, more.2 ∙ ap (λ n. Some (Int (pos n) ∷ Blob (form_of more.0) ∷ [])) (let n : (place + 1) + count ≡ place + suc count = omega arith in n))
+    (more.0, more.1, more.2 ∙ ap (λ n. Some (Int (pos n) ∷ Blob (encoding_of more.0) ∷ [])) (let n : (place + 1) + count ≡ place + suc count = omega arith in n))
 
 -- of rows that show these entries, all of them are the longest front
-pub all_shown : (rows : List Row) (entries found : History) → AllByRecursion HasForm entries → length entries < 2 ^ 32
+pub all_shown : (rows : List Row) (entries found : History) → AllByRecursion HasEncoding entries → length entries < 2 ^ 32
     → rows ≡ shown_entries 0 (bodies_of entries) → IsLongestShown rows found → entries ≡ found
 all_shown rows entries found formed few shown longest =
     let many : length rows ≡ length entries = ap length shown ∙ as_many 0 entries in
@@ -138,7 +138,7 @@ all_shown rows entries found formed few shown longest =
           let on : HasEntryAt rows (length found) = record {
             entry = more.0;
             formed = more.1;
-            there = ap (λ all. slice_get all (length found)) shown ∙ more.2 ∙ ap (λ n. Some (Int (pos n) ∷ Blob (form_of more.0) ∷ [])) same;
+            there = ap (λ all. slice_get all (length found)) shown ∙ more.2 ∙ ap (λ n. Some (Int (pos n) ∷ Blob (encoding_of more.0) ∷ [])) same;
           } in
           absurd (omega (arith, longest.longest on, few, fewer))
       | inr past ↦

@@ -10,7 +10,7 @@ use Rattle.sqlite.specs.Tree.{Trees}
 use Rattle.sqlite.specs.State.{State}
 use Rattle.lynx_entry.specs.Entry.{History}
 use Rattle.lynx_keep.specs.Kept.{KeptState, nothing_kept}
-use Rattle.lynx_keep.specs.Stored.{form_of, HasForm}
+use Rattle.lynx_keep.specs.Stored.{encoding_of, HasEncoding}
 use Rattle.lynx_store.specs.declared.fault.StoreFault.{StoreFault}
 use Rattle.lynx_store.specs.declared.fault.StoreFault.TheVariants.{OtherSet, OtherVersion}
 use Rattle.lynx_set.specs.Rules.{IsSet}
@@ -59,9 +59,9 @@ pub record IsServerOf (server : ℕ) (chains : Set) : Type 0 where
   pub set : IsSet chains
   pub server_is : server < chains.servers
 
--- the forms of entries, a body each
+-- the encodings of entries, a body each
 abbrev pub bodies_of : History → List (List ℕ)
-bodies_of entries = map form_of entries
+bodies_of entries = map encoding_of entries
 
 -- what the tables of an owner hold of what is kept
 abbrev pub contents_of : Owner → KeptState → Contents
@@ -76,8 +76,8 @@ contents_of owner kept = record {
 pub record IsKept (s : State) (owner : Owner) (count : ℕ) (kept : KeptState) : Type 0 where
   pub tables : Keeps s (contents_of owner kept)
   pub counted : count ≡ length kept.entries
-  -- without that two entries might have one form
-  pub formed : AllByRecursion HasForm kept.entries
+  -- without that two entries might have one encoding
+  pub formed : AllByRecursion HasEncoding kept.entries
 
 -- whatever a stop leaves stands for one or the other
 abbrev pub LeavesOneOf : (Trees → Type 0) → Owner → KeptState → KeptState → Type 0
@@ -127,7 +127,7 @@ LeavesOpened old new owner = (db : Trees) → new.may_leave db
 pub record Tells (rows : StoredRows) (owner : Owner) (kept : KeptState) : Type 0 where
   pub cells : AreCells rows.cells.items
   pub shown : ShowRows rows (contents_of owner kept)
-  pub formed : AllByRecursion HasForm kept.entries
+  pub formed : AllByRecursion HasEncoding kept.entries
 
 -- each cell is of a table that the set has
 abbrev pub AreInTables : Set → Database → Type 0

@@ -2,7 +2,7 @@
 ghost use Rattle.std.specs.Prelude.{◌≡◌, ◌+◌, ◌≤◌, ◌^◌, All, IfNone, IfOk, IfSome, OnOk};
 ghost use Rattle.std.specs.List.{AllByRecursion};
 ghost use Rattle.lynx_codec.specs.Entries.{IsEntryInRange};
-ghost use Rattle.lynx_keep.specs.Stored.{HasForm};
+ghost use Rattle.lynx_keep.specs.Stored.{HasEncoding};
 ghost use Rattle.lynx_sql.specs.Contents.{bodies_in};
 ghost use Rattle.lynx_store.specs.Stored.{bodies_of};
 
@@ -27,11 +27,11 @@ fn count_with(count: u32, more: usize) -> Option<u32>
     count.checked_add(more)
 }
 
-/// The forms of entries, a body each.
+/// The encodings of entries, a body each.
 fn bodies_of(alloc: Global, entries: &[Entry]) -> Result<Vec<Vec<u8>>, Memory>
     requires { All IsEntryInRange entries.now }
-    ensures forms { IfOk result (λ bodies. bodies_in bodies.items ≡ bodies_of entries.now) }
-    ensures formed { OnOk result (AllByRecursion HasForm entries.now) }
+    ensures encodings { IfOk result (λ bodies. bodies_in bodies.items ≡ bodies_of entries.now) }
+    ensures formed { OnOk result (AllByRecursion HasEncoding entries.now) }
 {
     let mut bodies = Vec::with_capacity(alloc, entries.len())?;
     for entry in entries {

@@ -154,7 +154,7 @@ impl<S: Rising> Keeper for SqlKeeper<S> {
     ghost use Rattle.sqlite.specs.Held.{state};
     ghost use Rattle.lynx_store.specs.Heading.{owner_in};
     ghost use Rattle.lynx_store.specs.Premise.{IsUndisturbed};
-    ghost use Rattle.lynx_store.specs.Stored.{IsKept, LeavesOneOf};
+    ghost use Rattle.lynx_store.specs.Stored.{IsKept, LeavesOneOf, Owner};
     ghost use Rattle.lynx_store.specs.Laws.{leaves_kept, leaves_either};
 
     ghost terms = { record {
@@ -165,6 +165,8 @@ impl<S: Rising> Keeper for SqlKeeper<S> {
           (owner_in keeper.heading) one other;
       counted = λ keeper. keeper.faults;
       rests = λ keeper settled kept. Unit {0};
+      Owner = Owner;
+      owner = λ keeper. owner_in keeper.heading;
     } };
 
     fn commit(&mut self, alloc: Global, entry: &Entry, changes: &Changes) -> Result<(), KeepFault> {

@@ -9,7 +9,7 @@ ghost use Rattle.sqlite.specs.Held.{state};
 ghost use Rattle.sqlite.specs.Start.{FindsIn};
 ghost use Rattle.sqlite_store.specs.FileStore as files;
 ghost use Rattle.lynx_keep.specs.Kept.{KeptState};
-ghost use Rattle.lynx_keep.specs.Stored.{HasForm};
+ghost use Rattle.lynx_keep.specs.Stored.{HasEncoding};
 ghost use Rattle.lynx_store.specs.Crashes.{FindsEither, HoldsEither, IsEither, IsSoundConnection, KeepsEither};
 ghost use Rattle.lynx_store.specs.Heading.{owner_in};
 ghost use Rattle.lynx_store.specs.Premise.{IsUndisturbed};
@@ -47,7 +47,7 @@ pub fn stopped<D: Disk + Drop>(was: Connection<FileStore<D>>) -> FileStore<D>
 pub fn the_next_opening_finds_it<D: Disk>(next: &Connection<FileStore<D>>)
     ensures { (owner : Owner) (one other : KeptState) (image : Image)
         → IsOpened next.now → FindsIn image (file_state next.now)
-        → AllByRecursion HasForm one.entries → AllByRecursion HasForm other.entries
+        → AllByRecursion HasEncoding one.entries → AllByRecursion HasEncoding other.entries
         → HoldsEither image owner one other
         → FindsEither (file_state next.now) owner one other }
 {}

@@ -4,7 +4,7 @@ ghost use Rattle.std.specs.List.{AllByRecursion};
 ghost use Rattle.sqlite_value.specs.declared.value.Value.TheVariants.{Int, Blob};
 ghost use Rattle.lynx_entry.specs.declared.entry.Entry.{Entry};
 ghost use Rattle.lynx_entry.specs.Entry.{History};
-ghost use Rattle.lynx_keep.specs.Stored.{form_of, HasForm};
+ghost use Rattle.lynx_keep.specs.Stored.{encoding_of, HasEncoding};
 ghost use Rattle.lynx_sql.specs.Rows.{shown_entries};
 ghost use Rattle.lynx_sql.specs.Shown.{AreCells, FitsRow, cells_in, row_of, with_rows};
 ghost use Rattle.std.specs.FinMap as finite;
@@ -22,9 +22,9 @@ use std::alloc::Global;
 /// The entry of a row, None where the row isn't that of an entry at the place.
 pub fn entry_at(alloc: Global, row: &Row, place: u32) -> Result<Option<Entry>, Memory>
     ensures some { IfOk result (λ found. IfSome found (λ entry.
-        (row.now ≡ Int (pos place) ∷ Blob (form_of entry) ∷ []) × HasForm entry)) }
-    ensures none { IfOk result (λ found. IfNone found ((entry : Entry) → HasForm entry
-        → row.now ≢ Int (pos place) ∷ Blob (form_of entry) ∷ [])) }
+        (row.now ≡ Int (pos place) ∷ Blob (encoding_of entry) ∷ []) × HasEncoding entry)) }
+    ensures none { IfOk result (λ found. IfNone found ((entry : Entry) → HasEncoding entry
+        → row.now ≢ Int (pos place) ∷ Blob (encoding_of entry) ∷ [])) }
 {
     if row.column_count() != 2 || !is_number(row, 0, place) {
         return Ok(None);
@@ -40,10 +40,10 @@ pub fn entry_at(alloc: Global, row: &Row, place: u32) -> Result<Option<Entry>, M
 pub fn entries_of(alloc: Global, rows: &[Row]) -> Result<Option<Vec<Entry>>, Memory>
     ensures some { IfOk result (λ found. IfSome found (λ entries.
         (rows.now ≡ shown_entries 0 (bodies_of entries.items))
-        × AllByRecursion HasForm entries.items)) }
+        × AllByRecursion HasEncoding entries.items)) }
     ensures few { IfOk result (λ found. IfSome found (λ entries. length entries.items < 2 ^ 32)) }
     ensures none { IfOk result (λ found. IfNone found ((entries : History)
-        → length entries < 2 ^ 32 → AllByRecursion HasForm entries
+        → length entries < 2 ^ 32 → AllByRecursion HasEncoding entries
         → rows.now ≢ shown_entries 0 (bodies_of entries))) }
 {
     let mut entries = Vec::new(alloc);

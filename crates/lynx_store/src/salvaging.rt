@@ -1,7 +1,7 @@
 //! What is left of a store whose rows may be damaged.
 ghost use Rattle.std.specs.Prelude.{◌≡◌, ◌≢◌, ◌<◌, ◌≤◌, ◌^◌, ℕ, length, Err, IfErr, IfOk, IsErrOf};
 ghost use Rattle.std.specs.List.{AllByRecursion};
-ghost use Rattle.lynx_keep.specs.Stored.{HasForm};
+ghost use Rattle.lynx_keep.specs.Stored.{HasEncoding};
 ghost use Rattle.lynx_set.specs.Set.{Set};
 ghost use Rattle.sqlite_trees.specs.View.{doubt};
 ghost use Rattle.sqlite.specs.Tree.{Trees};
@@ -87,8 +87,8 @@ pub fn salvage<S: Rising>(alloc: Global, conn: &mut Connection<S>) -> Result<Sal
         → IfOk result (λ held. (owner : Owner) (count : ℕ) (kept : KeptState) → count < 2 ^ 32
         → IsKept (state S.Store conn.old) owner count kept
         → (owner ≡ owner_for held.server held.set) × (kept.entries ≡ held.entries.items)) }
-    // Each has its form, and there are no more than a store has places for.
-    ensures formed { IfOk result (λ held. AllByRecursion HasForm held.entries.items) }
+    // Each has its encoding, and there are no more than a store has places for.
+    ensures formed { IfOk result (λ held. AllByRecursion HasEncoding held.entries.items) }
     ensures few { IfOk result (λ held. length held.entries.items < 2 ^ 32) }
     // It stays kept, whatever comes out but a fault of the database.
     ensures same { IsUndisturbed (state S.Store conn.new) → result ≢ Err StoreFault.Store

@@ -27,16 +27,21 @@ pub type StoreCopy = Connection<FileStore<Memory>>;
 
 /// Where stores are copied from.
 pub trait Copies<C> {
-    ghost use Rattle.std.specs.Prelude.{ℕ, List, IfOk};
+    ghost use Rattle.std.specs.Prelude.{ℕ, List, IfOk, IsErrOf};
 
     // The copy is of the store at that path.
     ghost copied_from: { List ℕ → C → Type 0 };
+
+    // There is no store at that path of which a copy can be made.
+    ghost uncopied: { List ℕ → Type 0 };
 
     /// A copy in memory of the store at the path, and of the log beside it, neither of which is
     /// written or made. Nobody else may have the store open. Takes the memory of both, and of what
     /// they hold.
     fn copy(&self, path: &str) -> Result<C, CopyFault>
-        ensures copied { IfOk result (copied_from path.now) };
+        ensures copied { IfOk result (copied_from path.now) }
+        ensures unread { IsErrOf result CopyFault.Unread → uncopied path.now }
+        ensures damaged { IsErrOf result CopyFault.Damaged → uncopied path.now };
 }
 
 /// Why a store was not copied.
@@ -218,6 +223,8 @@ fn copy_store(rt: &HostRuntime, path: &str) -> Result<StoreCopy, CopyFault> {
 
 impl Copies<StoreCopy> for files::Files {
     ghost copied_from = { λ path copy. Unit {0} };
+
+    ghost uncopied = { λ path. Unit {0} };
 
     fn copy(&self, path: &str) -> Result<StoreCopy, CopyFault> {
         copy_store(&self.rt, path)

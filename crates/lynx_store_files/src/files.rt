@@ -4,7 +4,7 @@ ghost use Rattle.std.specs.String.{string_bytes};
 ghost use Rattle.sqlite.specs.Files.{file_state};
 ghost use Rattle.sqlite_wal.specs.Files.{image_at};
 ghost use Rattle.lynx_keep.specs.Kept.{KeptState};
-ghost use Rattle.lynx_keep.specs.Stored.{HasForm};
+ghost use Rattle.lynx_keep.specs.Stored.{HasEncoding};
 ghost use Rattle.lynx_store.specs.Crashes.{HoldsEither, KeepsEither};
 ghost use Rattle.lynx_store.specs.Heading.{owner_in};
 ghost use Rattle.lynx_store.specs.Premise.{IsUndisturbed};
@@ -52,8 +52,8 @@ pub fn open_store<S: Start>(
         keeper.keeper.count kept) }
     // Where a stop left one of two states in the files, it keeps one of the two.
     ensures either { IfOk result (λ keeper. IsUndisturbed (file_state keeper.keeper.conn)
-        → (one other : KeptState) → AllByRecursion HasForm one.entries
-        → AllByRecursion HasForm other.entries
+        → (one other : KeptState) → AllByRecursion HasEncoding one.entries
+        → AllByRecursion HasEncoding other.entries
         → HoldsEither (image_at S.Start) (owner_for server set.now) one other
         → KeepsEither (file_state keeper.keeper.conn) (owner_in keeper.keeper.heading)
         keeper.keeper.count one other) }
@@ -88,8 +88,8 @@ pub fn open_made<S: Start>(
     // Where a stop left one of two states in the files, it keeps one of the two.
     ensures either { IfOk result (λ found. IfSome found
         (λ keeper. IsUndisturbed (file_state keeper.keeper.conn)
-        → (one other : KeptState) → AllByRecursion HasForm one.entries
-        → AllByRecursion HasForm other.entries
+        → (one other : KeptState) → AllByRecursion HasEncoding one.entries
+        → AllByRecursion HasEncoding other.entries
         → HoldsEither (image_at S.Start) (owner_for server set.now) one other
         → KeepsEither (file_state keeper.keeper.conn) (owner_in keeper.keeper.heading)
         keeper.keeper.count one other)) }

@@ -1,7 +1,7 @@
 ghost use Rattle.lynx_store.specs.Heading.{owner_in};
 ghost use Rattle.lynx_store.specs.Laws.{leaves_either, leaves_kept};
 ghost use Rattle.lynx_store.specs.Premise.{IsUndisturbed};
-ghost use Rattle.lynx_store.specs.Stored.{IsKept, LeavesOneOf};
+ghost use Rattle.lynx_store.specs.Stored.{IsKept, LeavesOneOf, Owner};
 ghost use Rattle.lynx_store_files.specs.Closing.{StandsAlone};
 ghost use Rattle.sqlite.specs.Files.{file_state};
 ghost use Rattle.sqlite_store.specs.FileStore.{recovers, view};
@@ -78,6 +78,8 @@ impl<D: Disk> Keeper for FileKeeper<D> {
           (owner_in keeper.keeper.heading) one other;
       counted = λ keeper. keeper.keeper.faults;
       rests = λ keeper settled kept. Unit {0};
+      Owner = Owner;
+      owner = λ keeper. owner_in keeper.keeper.heading;
     } };
 
     fn commit(&mut self, alloc: Global, entry: &Entry, changes: &Changes) -> Result<(), KeepFault> {

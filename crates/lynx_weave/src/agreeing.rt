@@ -9,7 +9,7 @@ use crate::servers::server_at;
 use crate::told::ToldItem;
 use lynx_entry::{Answer, Entry, Request};
 use lynx_keep::MemoryKeeper;
-use lynx_names::{ChainId, Stamp};
+use lynx_names::{ChainId, Stamp, learn};
 use lynx_server::Server;
 
 /// The same request of one client.
@@ -161,7 +161,7 @@ fn borne_out_at(here: &Server<MemoryKeeper>, item: &ToldItem) -> Option<usize>
     ensures { IsSolePlace (bears item.now) here.now.history result }
 {
     // The history is lawful, so no two entries keep one record or are of one hop.
-    let _ = here.history();
+    learn(here.history());
     match sought_place(here, item) {
         Some(place) => bears_at(here, item, place).then_some(place),
         None => None,

@@ -2,19 +2,20 @@
 use Rattle.std.specs.Prelude.{◌≡◌, ◌⊎◌, ℕ, List, [], ◌∷◌, ◌++◌, take}
 use Rattle.lynx_link.specs.EndLists.{EndLists}
 use Rattle.lynx_link.specs.declared.parcel.Parcel.TheVariants.{Done}
-use Rattle.lynx_worker.specs.declared.steps.Receipt.{Receipt}
+use Rattle.lynx_worker.specs.declared.steps.Acknowledgement.{Acknowledgement}
 use Rattle.lynx_worker.specs.Sending.{SendsNothing, SendsTo}
 
--- The sender of each of these hops is told, behind what was sent to it before, or the receipt
--- stays, in order; and nothing else is sent.
-abbrev pub Tells : List Receipt → EndLists → List Receipt → EndLists → Type 0
+-- The sender of each of these hops is told, behind what was sent to it before, or the
+-- acknowledgement stays, in order; and nothing else is sent.
+abbrev pub Tells : List Acknowledgement → EndLists → List Acknowledgement → EndLists → Type 0
 Tells [] old stay new = (stay ≡ []) × SendsNothing old new
-Tells (receipt ∷ receipts) old stay new = (between : EndLists)
-    × ((SendsTo old receipt.to (Done receipt.chain receipt.hop) between
-    × Tells receipts between stay new)
+Tells (acknowledgement ∷ acknowledgements) old stay new = (between : EndLists)
+    × ((SendsTo old acknowledgement.to (Done acknowledgement.chain acknowledgement.hop) between
+    × Tells acknowledgements between stay new)
     ⊎ (SendsNothing old between
-    × ((more : List Receipt) × (stay ≡ receipt ∷ more) × Tells receipts between more new)))
+    × ((more : List Acknowledgement) × (stay ≡ acknowledgement ∷ more)
+    × Tells acknowledgements between more new)))
 
--- the first of these receipts, however many, were added behind those that waited
-abbrev pub AddsSome : List Receipt → List Receipt → List Receipt → Type 0
-AddsSome receipts old new = (many : ℕ) × (new ≡ old ++ take many receipts)
+-- the first of these acknowledgements, however many, were added behind those that waited
+abbrev pub AddsSome : List Acknowledgement → List Acknowledgement → List Acknowledgement → Type 0
+AddsSome acknowledgements old new = (many : ℕ) × (new ≡ old ++ take many acknowledgements)

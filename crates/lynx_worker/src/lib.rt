@@ -3,15 +3,15 @@
 #![tactic(auto)]
 
 pub use resending::{LONGEST_MILLIS, RESEND_MILLIS};
-pub use steps::{Arrived, Due, Heard, Owed, Receipt, Served, Steps};
+pub use steps::{Acknowledgement, Arrived, Due, Handled, Heard, Owed, Steps};
 pub use worker::Worker;
 
 mod resending;
 mod rest;
+mod round_trips;
 mod route;
 mod routes;
 pub mod steps;
 mod telling;
-mod trips;
 mod unheard;
 pub mod worker;

@@ -20,7 +20,7 @@ const FIRST_MESSAGES: usize = 64;
 
 /// How much of what is owed to a server a pass goes over.
 #[derive(Clone, Copy, PartialEq, Eq)]
-pub(crate) enum Reach {
+pub(crate) enum ResendScope {
     /// The first messages, and only where the very first is still owed that was so when the last
     /// pass began. Else they come and are acknowledged as they should, and what is sent again would
     /// come twice.
@@ -29,20 +29,20 @@ pub(crate) enum Reach {
     All,
 }
 
-impl Reach {
+impl ResendScope {
     /// Messages that a pass sends again, at most.
     fn messages(self) -> usize {
         match self {
-            Reach::First => FIRST_MESSAGES,
-            Reach::All => usize::MAX,
+            ResendScope::First => FIRST_MESSAGES,
+            ResendScope::All => usize::MAX,
         }
     }
 
     /// Milliseconds between two passes, at least.
     fn shortest(self) -> u64 {
         match self {
-            Reach::First => FIRST_MILLIS,
-            Reach::All => RESEND_MILLIS,
+            ResendScope::First => FIRST_MILLIS,
+            ResendScope::All => RESEND_MILLIS,
         }
     }
 }
@@ -52,7 +52,7 @@ impl Reach {
 /// before the last one began.
 #[derive(Drop)]
 pub(crate) struct Passes {
-    reach: Reach,
+    scope: ResendScope,
     /// The pass goes on from this place ..
     next: u64,
     /// .. up to this one ..
@@ -71,16 +71,16 @@ pub(crate) struct Passes {
 
 impl Passes {
     /// Nothing was sent yet.
-    pub(crate) fn new(reach: Reach) -> Passes {
+    pub(crate) fn new(scope: ResendScope) -> Passes {
         Passes {
-            reach,
+            scope,
             next: 0,
             end: 0,
             left: 0,
             first: None,
             sent: 0,
             since: None,
-            wait: reach.shortest(),
+            wait: scope.shortest(),
         }
     }
 
@@ -98,7 +98,7 @@ impl Passes {
     /// Milliseconds from one pass to the next, at least, where a message is likely lost after so
     /// many.
     fn shortest(&self, patience: u64) -> u64 {
-        self.reach.shortest().max(patience)
+        self.scope.shortest().max(patience)
     }
 
     /// Begins a pass, if the last one ended, something is owed and it is time. A message is likely
@@ -111,8 +111,8 @@ impl Passes {
             return;
         }
         let stays = self.first == Some(first);
-        let is_early = self.reach == Reach::First && !stays;
-        self.left = if is_early { 0 } else { self.reach.messages() };
+        let is_early = self.scope == ResendScope::First && !stays;
+        self.left = if is_early { 0 } else { self.scope.messages() };
         self.wait = if is_early {
             self.shortest(patience)
         } else {
@@ -128,7 +128,7 @@ impl Passes {
     /// Something was heard of the server, so the next pass over all need not wait long: a message
     /// is likely lost after so many milliseconds.
     pub(crate) fn hear(&mut self, patience: u64) {
-        if self.reach == Reach::All {
+        if self.scope == ResendScope::All {
             self.wait = self.shortest(patience);
         }
     }

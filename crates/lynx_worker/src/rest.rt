@@ -17,11 +17,11 @@ const MIDDLE_RESTS: u32 = 256;
 /// Milliseconds for which a worker rests, at most, that awaits nothing.
 const LONG_MILLIS: u64 = 250;
 
-/// Microseconds for which a worker rests after a turn in which it did something: what comes
+/// Microseconds for which a worker rests after a pass in which it did something: what comes
 /// meanwhile is then served, and told of, together.
 const PAUSE_MICROS: u64 = 50;
 
-/// Rests after a turn with work.
+/// Rests after a pass with work.
 pub(crate) fn pause<R: Clock>(rt: &R) {
     thread::sleep(rt, Duration::from_micros(PAUSE_MICROS));
 }
@@ -40,7 +40,7 @@ fn millis_of(idle: u32, awaits: bool) -> u64 {
     }
 }
 
-/// Rests after so many turns without work, until it is rung for: a chain began that goes on
+/// Rests after so many turns without work, until it is signalled: a chain began that goes on
 /// elsewhere, or a parcel came. So a cluster that has nothing to do takes next to no time, and what
 /// comes is served at once.
 pub(crate) fn rest<R: Wait + Clock, S: Steps>(rt: &R, steps: &S, idle: u32, awaits: bool) {

@@ -3,9 +3,9 @@ ghost use Rattle.std.specs.Prelude.{◌≡◌, IfSome, MatchBool, None, Some, ta
 ghost use Rattle.lynx_worker.specs.Sending.{CatchesUp, SendsAll, SendsNothing, SendsTo};
 ghost use Rattle.lynx_worker.specs.Unheard.{HearsAbsent, IsUnheard, StayUnheard, StayUnheardBut, has_place};
 
-use crate::resending::{Passes, Reach};
+use crate::resending::{Passes, ResendScope};
+use crate::round_trips::RoundTrips;
 use crate::steps::{Due, Owed, Steps};
-use crate::trips::Trips;
 use crate::unheard::Unheard;
 use lynx_link::{Ends, Parcel};
 use lynx_names::ServerId;
@@ -20,7 +20,7 @@ const BURST: usize = 64;
 #[derive(Drop)]
 struct Flight {
     unheard: Unheard,
-    trips: Trips,
+    round_trips: RoundTrips,
 }
 
 /// What a worker sends to one server: how far it has come, and what it hasn't heard of.
@@ -83,7 +83,7 @@ impl Flight {
         for place in places {
             if !has_place(dues, *place) {
                 self.unheard.hear(*place);
-                self.trips.forget(*place);
+                self.round_trips.forget(*place);
             }
         }
     }
@@ -100,7 +100,7 @@ impl Flight {
             if !send_due(ends, due) {
                 return (place, count);
             }
-            self.trips.forget(place);
+            self.round_trips.forget(place);
             count = count.saturating_add(1);
         }
         (end, count)
@@ -115,7 +115,7 @@ impl Flight {
         ends: &mut Ends,
         passes: &mut Passes,
     ) -> bool {
-        passes.begin(rt, &self.unheard, self.trips.patience());
+        passes.begin(rt, &self.unheard, self.round_trips.patience());
         let Some((from, end, left)) = passes.next() else {
             return false;
         };
@@ -147,10 +147,10 @@ impl Route {
             lags_at: None,
             flight: Flight {
                 unheard: Unheard::new(alloc),
-                trips: Trips::new(),
+                round_trips: RoundTrips::new(),
             },
-            first: Passes::new(Reach::First),
-            all: Passes::new(Reach::All),
+            first: Passes::new(ResendScope::First),
+            all: Passes::new(ResendScope::All),
         }
     }
 
@@ -204,7 +204,7 @@ impl Route {
             return false;
         }
         self.flight.unheard.went(place);
-        self.flight.trips.went(rt, place);
+        self.flight.round_trips.went(rt, place);
         true
     }
 
@@ -264,9 +264,9 @@ impl Route {
         ensures stay { StayUnheardBut place self.old.flight.unheard.sent.items
             self.new.flight.unheard.sent.items }
     {
-        self.flight.trips.hear(rt, place);
+        self.flight.round_trips.hear(rt, place);
         self.flight.unheard.hear(place);
-        self.all.hear(self.flight.trips.patience());
+        self.all.hear(self.flight.round_trips.patience());
     }
 
     /// Sends again what wasn't acknowledged for a while. Whether there was any.

@@ -13,7 +13,7 @@ use std::marker::Model;
 use std::sync::Wait;
 use std::time::Clock;
 
-/// Messages that one turn sends by each route that lags, at most.
+/// Messages that one pass sends by each route that lags, at most.
 const ROUTE_MESSAGES: usize = 256;
 
 /// A route to each server. Contracts see from where each lags.
@@ -89,7 +89,7 @@ fn catch_up_at<S: Steps, R: Wait + Clock>(
     if !route.catch_up(rt, ends, owed, reached) {
         return false;
     }
-    steps.ring(route.to());
+    steps.signal(route.to());
     true
 }
 
@@ -110,7 +110,7 @@ fn send_again_at<S: Steps, R: Wait + Clock>(
     if !route.send_again(rt, alloc, steps, ends) {
         return false;
     }
-    steps.ring(route.to());
+    steps.signal(route.to());
     true
 }
 

@@ -39,7 +39,7 @@ pub struct Arrived {
 
 /// That hop of the chain was done, of which that server sent the message.
 #[derive(Clone, Copy, Debug, PartialEq, Eq)]
-pub struct Receipt {
+pub struct Acknowledgement {
     pub to: ServerId,
     pub chain: ChainId,
     pub hop: u8,
@@ -54,20 +54,20 @@ pub struct Heard {
 
 /// What came of the parcels that were taken.
 #[derive(Debug, PartialEq, Eq, Drop)]
-pub struct Served {
+pub struct Handled {
     /// For the hops that were done, now or before, so that their messages need not be sent again.
-    pub receipts: Vec<Receipt>,
+    pub acknowledgements: Vec<Acknowledgement>,
     /// The messages of this server that were acknowledged.
     pub heard: Vec<Heard>,
     /// A parcel was taken, or a held message was delivered.
     pub is_busy: bool,
 }
 
-impl Served {
+impl Handled {
     /// Nothing came of anything yet. Takes no memory.
-    pub fn new(alloc: Global) -> Served {
-        Served {
-            receipts: Vec::new(alloc),
+    pub fn new(alloc: Global) -> Handled {
+        Handled {
+            acknowledgements: Vec::new(alloc),
             heard: Vec::new(alloc),
             is_busy: false,
         }
@@ -95,17 +95,17 @@ pub trait Steps {
         rt: &R,
         alloc: Global,
         inbox: &mut VecDeque<Arrived>,
-    ) -> Served;
+    ) -> Handled;
 
-    /// Rests for so long at most, less where the worker is rung for.
+    /// Rests for so long at most, less where the worker is signalled.
     fn rest<R: Wait + Clock>(&self, rt: &R, most: Duration) {
         thread::sleep(rt, most);
     }
 
-    /// Notes, once a turn, how far the server owes nothing: every message of an entry before that
+    /// Notes, once a pass, how far the server owes nothing: every message of an entry before that
     /// place was acknowledged.
     fn note_owed<R: Wait>(&self, _rt: &R, _from: u64) {}
 
-    /// Rings for the worker of that server, to which something was sent.
-    fn ring(&self, _to: ServerId) {}
+    /// Signals the worker of that server, to which something was sent.
+    fn signal(&self, _to: ServerId) {}
 }

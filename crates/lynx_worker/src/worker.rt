@@ -6,8 +6,8 @@ ghost use Rattle.lynx_worker.specs.Taking.{Takes, TakesOut};
 
 use crate::rest::{pause, rest};
 use crate::routes::Routes;
-use crate::steps::{Arrived, Owed, Receipt, Steps};
-use crate::telling::{add_receipts, tell};
+use crate::steps::{Acknowledgement, Arrived, Owed, Steps};
+use crate::telling::{add_acknowledgements, tell};
 use lynx_link::{Ends, Receiver};
 use lynx_names::{Memory, ServerId};
 use std::alloc::Global;
@@ -16,10 +16,10 @@ use std::sync::Wait;
 use std::sync::atomic::{AtomicBool, Ordering};
 use std::time::Clock;
 
-/// Messages that one turn sends, at most.
+/// Messages that one pass sends, at most.
 const TURN_MESSAGES: usize = 256;
 
-/// Rounds over all rings in which one turn takes parcels out of them, ..
+/// Rounds over all rings in which one pass takes parcels out of them, ..
 const TURN_ROUNDS: u32 = 16;
 
 /// .. and parcels that each round takes out of each ring, at most. Chains of one origin come by
@@ -37,7 +37,7 @@ pub struct Worker<S: Steps> {
     /// What was taken out of the rings and isn't served yet.
     inbox: VecDeque<Arrived>,
     /// What was done, of which the senders weren't told yet.
-    untold: VecDeque<Receipt>,
+    untold: VecDeque<Acknowledgement>,
 }
 
 /// Puts what comes out of a ring, which leads from that server, into the inbox. What there is no
@@ -87,7 +87,7 @@ impl<S: Steps> Worker<S> {
             self.reached = due.place.saturating_add(1);
             let to = due.to;
             if self.routes.send(rt, &mut self.ends, due) {
-                self.steps.ring(to);
+                self.steps.signal(to);
                 is_busy = true;
             }
         }
@@ -145,24 +145,24 @@ impl<S: Steps> Worker<S> {
     /// Wakes what is held, and does what the parcels of the inbox ask, for as long as the lock may
     /// be held. Whether there was any.
     fn serve<R: Wait + Clock>(&mut self, rt: &R, alloc: Global) -> bool {
-        let served = self.steps.serve(rt, alloc, &mut self.inbox);
-        add_receipts(&mut self.untold, served.receipts.as_slice());
+        let handled = self.steps.serve(rt, alloc, &mut self.inbox);
+        add_acknowledgements(&mut self.untold, handled.acknowledgements.as_slice());
         self.tell();
-        self.routes.hear(rt, served.heard);
-        served.is_busy
+        self.routes.hear(rt, handled.heard);
+        handled.is_busy
     }
 
-    /// One turn. It tells what wasn't told, sends what was not sent yet, delivers what came in and
+    /// One pass. It tells what wasn't told, sends what was not sent yet, delivers what came in and
     /// wakes what is held, and then sends again what is owed for a while. The first 64 messages
     /// that are owed to a server are sent again where the very first stays so for 8 milliseconds,
     /// and all of them each [`RESEND_MILLIS`](crate::RESEND_MILLIS); both later where the server
     /// takes longer until it acknowledges a message, and after a time that doubles while the very
     /// first stays owed, or nothing is heard of that server, up to
-    /// [`LONGEST_MILLIS`](crate::LONGEST_MILLIS). False where there was nothing to do. A turn has a
-    /// bound: 4,096 receipts told twice, 256 messages sent, and for each server 256 more where its
-    /// ring was full, 128 sent again and 256 parcels taken; and one taking of the lock for what
-    /// came in. Where there is nothing to do it takes the server's lock once.
-    pub fn turn<R: Wait + Clock>(&mut self, rt: &R, alloc: Global) -> bool {
+    /// [`LONGEST_MILLIS`](crate::LONGEST_MILLIS). False where there was nothing to do. A pass has a
+    /// bound: 4,096 acknowledgements told twice, 256 messages sent, and for each server 256 more
+    /// where its ring was full, 128 sent again and 256 parcels taken; and one taking of the lock
+    /// for what came in. Where there is nothing to do it takes the server's lock once.
+    pub fn pass<R: Wait + Clock>(&mut self, rt: &R, alloc: Global) -> bool {
         self.tell();
         let owed = self.steps.owed(rt, alloc, self.reached, TURN_MESSAGES);
         let holds = owed.holds;
@@ -182,7 +182,7 @@ impl<S: Steps> Worker<S> {
         !self.untold.is_empty() || self.routes.awaits()
     }
 
-    /// Turn after turn, with rests between them, until it is to stop.
+    /// Pass after pass, with rests between them, until it is to stop.
     pub fn run<R: Wait + Clock>(mut self, rt: &R, alloc: Global, stop: &AtomicBool)
     where
         S: Drop,
@@ -192,7 +192,7 @@ impl<S: Steps> Worker<S> {
             if stop.load(Ordering::SeqCst) {
                 break;
             }
-            if self.turn(rt, alloc) {
+            if self.pass(rt, alloc) {
                 idle = 0;
                 pause(rt);
             } else {

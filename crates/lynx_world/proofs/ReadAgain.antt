@@ -1,4 +1,4 @@
--- What is read of a message's form is that message, unless memory is wanted.
+-- What is read of a message's encoding is that message, unless memory is wanted.
 use Rattle.std.proofs.Common.{◌≡◌, ◌⊎◌, inl, inr, Option, Some, None, Result, Ok, Err}
 use Rattle.lynx_codec.specs.declared.fault.DecodeFault.{DecodeFault}
 use Rattle.lynx_codec.specs.declared.fault.DecodeFault.TheVariants as faults
@@ -6,7 +6,7 @@ use Rattle.lynx_codec.specs.declared.item.Item.{Item}
 use Rattle.lynx_codec.specs.declared.item.Item.TheVariants as items
 use Rattle.lynx_entry.specs.declared.message.Message.{Message}
 
--- what a read of an item's form comes to
+-- what a read of an item's encoding comes to
 abbrev pub ReadsItem : Item → Result (Option Item) DecodeFault → Type 0
 ReadsItem item result = (result ≡ Ok (Some item)) ⊎ (result ≡ Err faults.Memory)
 

@@ -1,4 +1,4 @@
--- A sent message is in the range of its byte form.
+-- A sent message is in the range of its encoding.
 use Rattle.std.proofs.Common.{◌≤◌, List, [], ◌∷◌, ◌++◌, inl, inr, arith}
 use Rattle.lynx_names.specs.declared.limits.TheConstants.{MAX_SERVERS}
 use Rattle.lynx_set.specs.Set.{Set}

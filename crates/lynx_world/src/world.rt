@@ -10,7 +10,7 @@ use crate::senders::find_act;
 use crate::serving::{begin_at, deliver_at, restart_at, wake_at, waking};
 use lynx_entry::{Entry, Event, Message, Outcome, Request};
 use lynx_keep::MemoryKeeper;
-use lynx_names::{ChainId, Memory, ServerId, Stamp, TableId};
+use lynx_names::{ChainId, Memory, ServerId, Stamp, TableId, learn};
 use lynx_rules::next_of;
 use lynx_server::Server;
 use lynx_set::ChainSet;
@@ -165,7 +165,7 @@ impl World {
         }
     }
 
-    /// That message, as its server reads it: from its byte form.
+    /// That message, as its server reads it: from its encoding.
     fn read_message(
         &self,
         alloc: Global,
@@ -176,7 +176,7 @@ impl World {
             ≡ sent_message self.now.set chain.now hop self.now.list) }
     {
         // The list is legal, and the set has few servers, so the message is in range.
-        let _ = self.set().servers();
+        learn(self.set().servers());
         match self.sent_message(alloc, chain, hop)? {
             Some(message) => Ok(Some(carried(alloc, message)?)),
             None => Ok(None),

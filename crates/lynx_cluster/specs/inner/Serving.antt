@@ -18,7 +18,7 @@ use Rattle.lynx_set.specs.Set.{Set}
 use Rattle.lynx_worker.specs.declared.steps.Due.{Due}
 use Rattle.lynx_worker.specs.declared.steps.Heard.{Heard}
 use Rattle.lynx_worker.specs.declared.steps.Owed.{Owed}
-use Rattle.lynx_worker.specs.declared.steps.Receipt.{Receipt}
+use Rattle.lynx_worker.specs.declared.steps.Acknowledgement.{Acknowledgement}
 
 -- the hop of the message was done, now or before
 abbrev pub was_done : Delivered → Bool
@@ -26,34 +26,38 @@ was_done (delivered.Done stamp results next) = true
 was_done (delivered.Repeat stamp results next) = true
 was_done given = false
 
--- the hop of each of these receipts has its entry in the history
-abbrev pub AreDone : History → List Receipt → Type 0
-AreDone history receipts =
-    AllByRecursion (λ receipt. IsSome (act_of receipt.chain receipt.hop history)) receipts
+-- the hop of each of these acknowledgements has its entry in the history
+abbrev pub AreDone : History → List Acknowledgement → Type 0
+AreDone history acknowledgements =
+    AllByRecursion (λ acknowledgement. IsSome (act_of acknowledgement.chain acknowledgement.hop
+    history)) acknowledgements
 
--- where all receipts before are of hops that were done, so are all receipts after
-abbrev pub TellsDone : History → List Receipt → History → List Receipt → Type 0
+-- where all acknowledgements before are of hops that were done, so are all acknowledgements after
+abbrev pub TellsDone : History → List Acknowledgement → History → List Acknowledgement → Type 0
 TellsDone before told after telling = AreDone before told → AreDone after telling
 
--- that receipt was added, or none
-abbrev pub IsNotedIn : Receipt → List Receipt → List Receipt → Type 0
-IsNotedIn receipt old new = (new ≡ old) ⊎ (new ≡ old ++ receipt ∷ [])
+-- that acknowledgement was added, or none
+abbrev pub IsNotedIn : Acknowledgement → List Acknowledgement → List Acknowledgement → Type 0
+IsNotedIn acknowledgement old new = (new ≡ old) ⊎ (new ≡ old ++ acknowledgement ∷ [])
 
--- a receipt of the hop for that server was added, or none; and none where it wasn't done
-abbrev pub NotesDone : Option ℕ → ChainId → ℕ → Delivered → List Receipt → List Receipt → Type 0
+-- an acknowledgement of the hop for that server was added, or none; and none where it wasn't done
+abbrev pub NotesDone : Option ℕ → ChainId → ℕ → Delivered → List Acknowledgement
+    → List Acknowledgement → Type 0
 NotesDone to chain hop given old new =
     (new ≡ old)
     ⊎ ((was_done given ≡ true) × ((server : ℕ) × (to ≡ Some server)
     × (new ≡ old ++ (record { to = server; chain = chain; hop = hop }) ∷ [])))
 
--- No receipt was added, or one that is for the server which sends the message of its hop, as the
--- hop's entry tells.
-abbrev pub NamesSender : {K : Type 0} → Serving K → List Receipt → List Receipt → Type 0
+-- No acknowledgement was added, or one that is for the server which sends the message of its hop,
+-- as the hop's entry tells.
+abbrev pub NamesSender : {K : Type 0} → Serving K → List Acknowledgement → List Acknowledgement
+    → Type 0
 NamesSender serving old new =
     (new ≡ old)
-    ⊎ ((receipt : Receipt) × (new ≡ old ++ receipt ∷ [])
-    × IsSender serving.set receipt.hop (act_of receipt.chain receipt.hop serving.history)
-    receipt.to)
+    ⊎ ((acknowledgement : Acknowledgement) × (new ≡ old ++ acknowledgement ∷ [])
+    × IsSender serving.set acknowledgement.hop (act_of acknowledgement.chain acknowledgement.hop
+    serving.history)
+    acknowledgement.to)
 
 -- that the sender of the hop was acknowledged is noted with the place of its entry, or isn't
 abbrev pub HearsOf : ℕ → ChainId → ℕ → History → List Heard → List Heard → Type 0

@@ -1,11 +1,11 @@
--- One step of a talk: a form that is written, a frame that is read, a frame that is answered.
+-- One step of a talk: an encoding that is written, a frame that is read, a frame that is answered.
 use Rattle.std.specs.Prelude.{◌≡◌, ◌≢◌, ℕ, ◌+◌, ◌≤◌, ◌++◌, List, [], map, length, Option, Some, None, IfSome, ◌⊎◌}
 use Rattle.std.specs.List.{flat_map, AllByRecursion}
 use Rattle.std.specs.Io.KnownBytes.{Appends, Consumes}
 use Rattle.lynx_entry.specs.declared.request.Request.{Request}
 use Rattle.lynx_codec.specs.declared.item.Item.{Item}
 use Rattle.lynx_codec.specs.declared.item.Item.TheVariants as items
-use Rattle.lynx_codec.specs.Form.{form}
+use Rattle.lynx_codec.specs.Encoding.{encoding}
 use Rattle.lynx_codec.specs.Ranges.{IsItem}
 use Rattle.lynx_port.specs.declared.fault.PortFault.{PortFault}
 use Rattle.lynx_port.specs.declared.fault.PortFault.TheVariants as faults
@@ -37,15 +37,15 @@ Refuses looks first last frame faults.Memory = (last ≡ first) ⊎ LooksInVain 
 Refuses looks first last frame faults.NotAsked = (last ≡ first) × IsUnasked frame
 Refuses looks first last frame fault = ⊥
 
--- The desk answered a frame, and these bytes are the form of its answer.
+-- The desk answered a frame, and these bytes are the encoding of its answer.
 pub record IsReply {D : Type 0} (replies : Answering D) (first last : D) (frame : Item)
     (bytes : List ℕ) : Type 0 where
   pub reply : Item
   pub replied : replies first frame reply last
   pub is_reply : IsItem reply
-  pub bytes_are : bytes ≡ form reply
+  pub bytes_are : bytes ≡ encoding reply
 
--- the form of a frame's answer was written
+-- the encoding of a frame's answer was written
 abbrev pub WritesReply : {D : Type 0} → Answering D → D → D → Option (List ℕ)
     → Option (List ℕ) → Item → Type 0
 WritesReply replies first last unwritten wrote frame =
@@ -55,17 +55,17 @@ WritesReply replies first last unwritten wrote frame =
 abbrev pub as_frames : List Request → List Item
 as_frames requests = map items.Request requests
 
--- the form of a frame, if there is one
-abbrev pub form_if : Option Item → List ℕ
-form_if None = []
-form_if (Some frame) = form frame
+-- the encoding of a frame, if there is one
+abbrev pub encoding_if : Option Item → List ℕ
+encoding_if None = []
+encoding_if (Some frame) = encoding frame
 
 -- From the front of the bytes requests were taken, and the frame behind them if there is one.
 pub record Takes (bytes : List ℕ) (requests : List Request) (other : Option Item)
     (left : List ℕ) : Type 0 where
   pub are_items : AllByRecursion IsItem (as_frames requests)
   pub is_item : IfSome other IsItem
-  pub stood : bytes ≡ flat_map form (as_frames requests) ++ (form_if other ++ left)
+  pub stood : bytes ≡ flat_map encoding (as_frames requests) ++ (encoding_if other ++ left)
 
 -- Frames were answered, none of which ends the talk, and the one behind them was taken if there is
 -- one. The count grew by no more than the bytes that were taken.
@@ -73,19 +73,20 @@ pub record GoesOn {D : Type 0} (replies : Answering D) (first last : D)
     (unwritten wrote : Option (List ℕ)) (bytes : List ℕ) (other : Option Item) (left : List ℕ)
     (before count : ℕ) : Type 0 where
   pub answered :
-      Answered replies first last unwritten wrote bytes (form_if other ++ left) before count None
+      Answered replies first last unwritten wrote bytes (encoding_if other ++ left) before count
+      None
   pub is_item : IfSome other IsItem
-  pub room : count + length (form_if other ++ left) ≤ before + length bytes
+  pub room : count + length (encoding_if other ++ left) ≤ before + length bytes
 
--- The desk answered frames in order, and these bytes are the forms of its answers.
+-- The desk answered frames in order, and these bytes are the encodings of its answers.
 pub record AreReplies {D : Type 0} (replies : Answering D) (first last : D) (frames : List Item)
     (bytes : List ℕ) : Type 0 where
   pub given : List Item
   pub talks : Talks replies first frames given last
   pub are_replies : AllByRecursion IsItem given
-  pub bytes_are : bytes ≡ flat_map form given
+  pub bytes_are : bytes ≡ flat_map encoding given
 
--- the forms of the frames' answers were written
+-- the encodings of the frames' answers were written
 abbrev pub WritesReplies : {D : Type 0} → Answering D → D → D → Option (List ℕ)
     → Option (List ℕ) → List Item → Type 0
 WritesReplies replies first last unwritten wrote frames =

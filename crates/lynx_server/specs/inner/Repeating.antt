@@ -22,6 +22,8 @@ unkept_terms = record {
   leaves = λ keeper one other. ⊥;
   counted = λ keeper. 0;
   rests = λ keeper settled kept. Unit {0};
+  Owner = Unit {0};
+  owner = λ keeper. tt;
 }
 
 -- what a server adds when it is asked for what the entry did

@@ -4,11 +4,11 @@ use Rattle.lynx_port.proofs.TogetherLemmas.{stopped_lacking}
 use Rattle.lynx_port.proofs.CutLemmas.{if_cut_together}
 use Rattle.lynx_port.proofs.together.answer_together.Goals as goal
 
-pub returns-in_err-forms-clause-fault : goal.returns-in_err-forms-clause-fault
-returns-in_err-forms-clause-fault g c =
+pub returns-in_err-encodings-clause-fault : goal.returns-in_err-encodings-clause-fault
+returns-in_err-encodings-clause-fault g c =
     let p = err_from_is_err_and c.from_residual.result c.from_residual.ensures.1 in
-    rw (p.1, p.2) (λ more. stopped_lacking g.D.Desk.begins g.D.Desk.looks _ _ _ _ c.in_err-forms.ensures.unasked)
+    rw (p.1, p.2) (λ more. stopped_lacking g.D.Desk.begins g.D.Desk.looks _ _ _ _ c.in_err-encodings.ensures.unasked)
 
 pub returns-clause-fault : goal.returns-clause-fault
 returns-clause-fault g c =
-    if_cut_together g.D.Desk.begins g.D.Desk.looks _ _ _ _ (c.args.first ∷ c.args.others.items) _ c.write_form.result c.requires.are_items c.requires.few (rw c.as_slice.ensures.value c.in_ok-forms.ensures.forms) c.write_form.ensures.part
+    if_cut_together g.D.Desk.begins g.D.Desk.looks _ _ _ _ (c.args.first ∷ c.args.others.items) _ c.write_encoding.result c.requires.are_items c.requires.few (rw c.as_slice.ensures.value c.in_ok-encodings.ensures.encodings) c.write_encoding.ensures.part

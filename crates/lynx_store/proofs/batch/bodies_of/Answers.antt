@@ -1,8 +1,8 @@
 use Rattle.std.proofs.Common.{ap, subst, sym, take, ◌∙◌, arith}
 use Rattle.std.specs.List.{AllByRecursion}
-use Rattle.lynx_keep.specs.Stored.{HasForm}
+use Rattle.lynx_keep.specs.Stored.{HasEncoding}
 use Rattle.lynx_store.specs.Stored.{bodies_of}
-use Rattle.lynx_store.proofs.Batches.{forms_more}
+use Rattle.lynx_store.proofs.Batches.{encodings_more}
 use Rattle.lynx_store.proofs.Kept.{formed-append}
 use Rattle.lynx_store.proofs.RowsRead.{take_next, take_whole}
 use Rattle.lynx_store.proofs.batch.bodies_of.Goals as goal
@@ -14,8 +14,8 @@ loop-entry-preserved c =
     let i = c.loop-entry.entry-index in
     let next = take_next entries i c.entry-item.result c.loop-entry-test.true c.entry-item.is in
     record {
-      forms = forms_more entries i c.entry-item.result c.loop-entry.bodies.items _ _ c.loop-entry-test.true c.entry-item.is c.in_ok-push.ensures.items c.in_ok-body_of.ensures.form so_far.forms;
-      formed = subst (AllByRecursion HasForm) (sym next) (formed-append (take i entries) c.entry-item.result so_far.formed c.in_ok-body_of.ensures.formed);
+      encodings = encodings_more entries i c.entry-item.result c.loop-entry.bodies.items _ _ c.loop-entry-test.true c.entry-item.is c.in_ok-push.ensures.items c.in_ok-body_of.ensures.encoding so_far.encodings;
+      formed = subst (AllByRecursion HasEncoding) (sym next) (formed-append (take i entries) c.entry-item.result so_far.formed c.in_ok-body_of.ensures.formed);
     }
 
 pub returns : goal.returns
@@ -23,6 +23,6 @@ returns c =
     let past = c.loop-entry-test.false in
     let whole = take_whole c.args.entries.now c.loop-entry.entry-index (omega arith) in
     record {
-      forms = c.loop-entry.invariant.forms ∙ ap bodies_of whole;
-      formed = subst (AllByRecursion HasForm) whole c.loop-entry.invariant.formed;
+      encodings = c.loop-entry.invariant.encodings ∙ ap bodies_of whole;
+      formed = subst (AllByRecursion HasEncoding) whole c.loop-entry.invariant.formed;
     }

@@ -1,7 +1,7 @@
 use Rattle.std.proofs.Common.{◌≡◌, pos, ◌∷◌, [], ◌++◌, length, ap, subst, sym, ◌∙◌, arith, length-append}
 use Rattle.std.specs.List.{AllByRecursion}
 use Rattle.sqlite_value.specs.declared.value.Value.TheVariants.{Int, Blob}
-use Rattle.lynx_keep.specs.Stored.{form_of, HasForm}
+use Rattle.lynx_keep.specs.Stored.{encoding_of, HasEncoding}
 use Rattle.lynx_sql.specs.Rows.{shown_entries}
 use Rattle.lynx_store.specs.Stored.{bodies_of}
 use Rattle.lynx_store.proofs.Kept.{formed-append}
@@ -23,14 +23,14 @@ loop-row-preserved c =
       counted = omega (arith, ap length pushed, so_far.counted, length-append c.loop-row.entries.items (entry ∷ []));
       shown = next ∙ ap (λ rows. rows ++ c.row-item.result ∷ []) so_far.shown ∙ more
           ∙ ap (λ es. shown_entries 0 (bodies_of es)) (sym pushed);
-      formed = subst (AllByRecursion HasForm) (sym pushed) (formed-append c.loop-row.entries.items entry so_far.formed told.1);
+      formed = subst (AllByRecursion HasEncoding) (sym pushed) (formed-append c.loop-row.entries.items entry so_far.formed told.1);
     }
 
 pub returns-in_default-clause-none : goal.returns-in_default-clause-none
 returns-in_default-clause-none c = λ entries few formed shown.
     let row = row_at c.args.rows.now entries c.loop-row.row-index c.row-item.result shown formed c.loop-row-test.true c.row-item.is in
     let none = rw c.in_default.is at c.in_ok-entry.ensures.none in
-    none row.entry row.formed (row.is ∙ ap (λ n. Int (pos n) ∷ Blob (form_of row.entry) ∷ []) (sym c.loop-row.invariant.place))
+    none row.entry row.formed (row.is ∙ ap (λ n. Int (pos n) ∷ Blob (encoding_of row.entry) ∷ []) (sym c.loop-row.invariant.place))
 
 pub returns-then-place-clause-none : goal.returns-then-place-clause-none
 returns-then-place-clause-none c = λ entries few formed shown.

@@ -1,7 +1,7 @@
 use Rattle.std.proofs.Common.{◌≡◌, ◌∷◌, [], ◌++◌, length, ap, subst, sym, ◌∙◌, arith, length-append}
 use Rattle.std.proofs.lemmas.Option.{slice_get_within}
 use Rattle.std.specs.List.{AllByRecursion}
-use Rattle.lynx_keep.specs.Stored.{HasForm}
+use Rattle.lynx_keep.specs.Stored.{HasEncoding}
 use Rattle.lynx_sql.specs.Rows.{shown_entries}
 use Rattle.lynx_store.specs.Stored.{bodies_of}
 use Rattle.lynx_store.proofs.Kept.{formed-append}
@@ -23,7 +23,7 @@ loop-row-preserved c =
       counted = omega (arith, ap length pushed, so_far.counted, length-append c.loop-row.entries.items (entry ∷ []));
       shown = next ∙ ap (λ rows. rows ++ c.row-item.result ∷ []) so_far.shown ∙ more
           ∙ ap (λ es. shown_entries 0 (bodies_of es)) (sym pushed);
-      formed = subst (AllByRecursion HasForm) (sym pushed) (formed-append c.loop-row.entries.items entry so_far.formed told.1);
+      formed = subst (AllByRecursion HasEncoding) (sym pushed) (formed-append c.loop-row.entries.items entry so_far.formed told.1);
     }
 
 pub returns-in_default : goal.returns-in_default

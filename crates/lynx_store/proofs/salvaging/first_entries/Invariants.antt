@@ -1,6 +1,6 @@
 use Rattle.std.proofs.Common.{◌≡◌, take, length}
 use Rattle.std.specs.List.{AllByRecursion}
-use Rattle.lynx_keep.specs.Stored.{HasForm}
+use Rattle.lynx_keep.specs.Stored.{HasEncoding}
 use Rattle.lynx_sql.specs.Rows.{shown_entries}
 use Rattle.lynx_store.specs.Stored.{bodies_of}
 use Rattle.lynx_store.proofs.salvaging.first_entries.Given as goal
@@ -11,5 +11,5 @@ invariant-loop-row l = record {
   place : l.place ≡ l.row-index;
   counted : length l.entries.items ≡ l.row-index;
   shown : take l.row-index l.rows ≡ shown_entries 0 (bodies_of l.entries.items);
-  formed : AllByRecursion HasForm l.entries.items;
+  formed : AllByRecursion HasEncoding l.entries.items;
 }

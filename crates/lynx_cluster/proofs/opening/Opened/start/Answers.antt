@@ -7,6 +7,6 @@ returns-clause-started g c =
     let len : c.args.self.servers.len ≡ length c.args.self.servers.items = omega (arith, c.args.self.servers.ok) in
     record {
       set_is = c.in_ok-set.ensures.ok;
-      starts_are = starts_settled c.as_mut_slice.result.now c.args.self.servers.items c.settle.new.servers c.args.self.servers.len c.in_ok-posts.field-0.starts.items
-          c.as_mut_slice.ensures.value len c.settle.ensures c.in_ok-posts.ensures.starts;
+      starts_are = starts_settled c.as_mut_slice.result.now c.args.self.servers.items c.settle.new.servers c.args.self.servers.len c.in_ok-shared_servers.field-0.starts.items
+          c.as_mut_slice.ensures.value len c.settle.ensures c.in_ok-shared_servers.ensures.starts;
     }

@@ -1,5 +1,0 @@
-use Rattle.lynx_codec.proofs.Feeds.{no_form_begins_another}
-use Rattle.lynx_codec.proofs.laws.no_form_begins_another.Goals as goal
-
-pub returns : goal.returns
-returns c = no_form_begins_another

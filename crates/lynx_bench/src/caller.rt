@@ -1,6 +1,6 @@
 //! A connection of a load at a service: it begins chains, and notes how long each took.
-use crate::forms::write;
-use crate::load_fault::LoadFault;
+use crate::encodings::write;
+use crate::fault::Fault;
 use crate::texts::seed;
 use lynx_codec::{Feed, Item};
 use lynx_entry::Answer;
@@ -29,7 +29,7 @@ pub(crate) struct Caller<S> {
     /// The microseconds of each that was answered.
     times: Vec<u64>,
     /// Why no more are sent before it is time.
-    done: Result<(), LoadFault>,
+    done: Result<(), Fault>,
 }
 
 /// The whole microseconds of a time.
@@ -38,11 +38,14 @@ pub(crate) fn micros_of(time: Duration) -> u64 {
     seconds.saturating_add(u64::from(time.subsec_micros()))
 }
 
-/// Nothing, where the chain began now.
-fn check_begun(item: &Item) -> Result<(), LoadFault> {
-    match item {
-        Item::Answer(Answer::Begun { again: false, .. }) => Ok(()),
-        _ => Err(LoadFault::NotBegun),
+/// Nothing, where the item answers that the chain began now.
+fn check_begun(item: Item) -> Result<(), Fault> {
+    let is_begun = matches!(&item, Item::Answer(Answer::Begun { again: false, .. }));
+    drop(item);
+    if is_begun {
+        Ok(())
+    } else {
+        Err(Fault::NotBegun)
     }
 }
 
@@ -62,43 +65,42 @@ impl<S: Read + Write + Drop> Caller<S> {
         }
     }
 
-    /// Adds the form of the next begin to the bytes.
+    /// Adds the encoding of the next begin to the bytes.
     fn put_next<R: Clock>(
         &mut self,
         rt: &R,
         alloc: Global,
         bytes: &mut Vec<u8>,
-    ) -> Result<(), LoadFault> {
+    ) -> Result<(), Fault> {
         let request = seed(alloc, self.client, self.sent, self.server, self.servers, 1)?;
-        write(&Item::Request(request), bytes)?;
+        write(Item::Request(request), bytes)?;
         self.sent = self.sent.saturating_add(1);
         self.waiting.push_back(Instant::now(rt)?)?;
         Ok(())
     }
 
     /// Sends so many begins, by one write.
-    fn send<R: Clock>(&mut self, rt: &R, alloc: Global, count: usize) -> Result<(), LoadFault> {
+    fn send<R: Clock>(&mut self, rt: &R, alloc: Global, count: usize) -> Result<(), Fault> {
         let mut bytes = Vec::new(alloc);
         for _ in 0..count {
             self.put_next(rt, alloc, &mut bytes)?;
         }
         match self.stream.write_all(bytes.as_slice()) {
             Ok(()) => Ok(()),
-            Err(_) => Err(LoadFault::Lost),
+            Err(_) => Err(Fault::Lost),
         }
     }
 
     /// Notes the answers that came whole. How many.
-    fn note_answers<R: Clock>(&mut self, rt: &R, alloc: Global) -> Result<usize, LoadFault> {
+    fn note_answers<R: Clock>(&mut self, rt: &R, alloc: Global) -> Result<usize, Fault> {
         let now = Instant::now(rt)?;
         let mut count: usize = 0;
         for _ in 0..self.waiting.len() {
-            let item = match self.feed.next(alloc) {
-                Ok(Some(item)) => item,
+            match self.feed.next(alloc) {
+                Ok(Some(item)) => check_begun(item)?,
                 Ok(None) => break,
-                Err(_) => return Err(LoadFault::Lost),
-            };
-            check_begun(&item)?;
+                Err(_) => return Err(Fault::Lost),
+            }
             let Some(since) = self.waiting.pop_front() else {
                 break;
             };
@@ -109,16 +111,16 @@ impl<S: Read + Write + Drop> Caller<S> {
     }
 
     /// Reads what came, and notes the answers in it. How many.
-    fn take<R: Clock>(&mut self, rt: &R, alloc: Global) -> Result<usize, LoadFault> {
+    fn take<R: Clock>(&mut self, rt: &R, alloc: Global) -> Result<usize, Fault> {
         let mut buffer = [0u8; 4096];
         match self.stream.read(&mut buffer) {
-            Ok(0) => Err(LoadFault::Lost),
+            Ok(0) => Err(Fault::Lost),
             Ok(count) => {
                 self.feed.push(buffer.split_at(count).0)?;
                 self.note_answers(rt, alloc)
             }
             Err(error) if error.kind() == ErrorKind::Interrupted => Ok(0),
-            Err(_) => Err(LoadFault::Lost),
+            Err(_) => Err(Fault::Lost),
         }
     }
 
@@ -129,7 +131,7 @@ impl<S: Read + Write + Drop> Caller<S> {
         alloc: Global,
         in_flight: u16,
         end: Instant,
-    ) -> Result<(), LoadFault> {
+    ) -> Result<(), Fault> {
         self.send(rt, alloc, usize::from(in_flight))?;
         for _ in rt.forever() {
             if self.waiting.is_empty() {
@@ -156,7 +158,7 @@ impl<S: Read + Write + Drop> Caller<S> {
     }
 
     /// The microseconds of each begin, or why one wasn't answered as begun.
-    pub(crate) fn into_times(self) -> Result<Vec<u64>, LoadFault> {
+    pub(crate) fn into_times(self) -> Result<Vec<u64>, Fault> {
         self.done?;
         Ok(self.times)
     }

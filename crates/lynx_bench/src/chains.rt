@@ -6,31 +6,21 @@ use lynx_rules::next_of;
 use lynx_server::Server;
 use std::alloc::Global;
 
-/// A chain that is to begin: at which server, by which program, and the argument that it is given,
-/// if it wants one.
+/// A chain that is to begin: at which server, by which program, and with which arguments.
 #[derive(Clone, Copy)]
-pub struct Start {
+pub struct Start<'a> {
     pub server: u8,
     pub program: u8,
-    pub argument: Option<u64>,
-}
-
-/// The argument that a chain is given, if it wants one.
-fn args_of(alloc: Global, argument: Option<u64>) -> Result<Values, Memory> {
-    let mut args = Values::new(alloc);
-    if let Some(argument) = argument {
-        args.push(argument)?;
-    }
-    Ok(args)
+    pub args: &'a [u64],
 }
 
 /// The request of that number.
-fn request(alloc: Global, start: Start, number: u64) -> Result<Request, Memory> {
+fn request(alloc: Global, start: Start<'_>, number: u64) -> Result<Request, Memory> {
     Ok(Request {
         client: ClientId::new(1),
         number,
         program: ProgramId::new(start.program).ok_or(Memory)?,
-        args: args_of(alloc, start.argument)?,
+        args: Values::from_vec(Vec::from_slice(alloc, start.args)?),
     })
 }
 
@@ -42,23 +32,22 @@ fn has_begun(answer: Answer) -> bool {
 pub fn begin<K: Keeper>(
     alloc: Global,
     server: &mut Server<K>,
-    start: Start,
+    start: Start<'_>,
     number: u64,
 ) -> Result<bool, Memory> {
     let request = request(alloc, start, number)?;
     Ok(has_begun(server.begin(alloc, request, Stamp::zero())))
 }
 
-fn has_run(delivered: Delivered) -> bool {
-    matches!(delivered, Delivered::Done { .. })
-}
-
 /// The message, if there is one, is delivered to the server. Whether its hop ran now.
 pub fn deliver<K: Keeper>(alloc: Global, server: &mut Server<K>, message: Option<Message>) -> bool {
-    match message {
-        Some(message) => has_run(server.deliver(alloc, message)),
-        None => false,
-    }
+    let Some(message) = message else {
+        return false;
+    };
+    let delivered = server.deliver(alloc, message);
+    let has_run = matches!(&delivered, Delivered::Done { .. });
+    drop(delivered);
+    has_run
 }
 
 /// The message that the server's last entry sends.

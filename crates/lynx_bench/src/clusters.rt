@@ -1,13 +1,11 @@
 //! Clusters in memory: one that carries a load of payments, and one that has nothing to do.
-ghost use Rattle.std.specs.Prelude.{◌≡◌, ◌*◌, ◌/◌, ◌<◌, ◌≤◌, max, IfSome};
+ghost use Rattle.std.specs.Prelude.{◌≡◌, ◌*◌, ◌/◌, max};
 ghost use Rattle.std.specs.Duration.{as_nanos};
-ghost use Rattle.lynx_names.specs.declared.limits.TheConstants.{MAX_SERVERS};
 
 use crate::fault::Fault;
 use crate::idling::idle;
 use crate::load::{Load, Measured, measure};
 use lynx_cluster::Host;
-use lynx_names::limits::MAX_SERVERS;
 use std::alloc::Global;
 use std::fmt;
 use std::time::Duration;
@@ -30,56 +28,7 @@ pub enum ClusterDone {
     Idled { servers: u8, seconds: u64 },
 }
 
-/// How many servers, which a cluster can have.
-pub(crate) fn servers_of(word: &str) -> Option<u8>
-    ensures least { IfSome result (λ servers. 0 < servers) }
-    ensures most { IfSome result (λ servers. servers ≤ MAX_SERVERS) }
-{
-    let servers = word.parse().ok()?;
-    (1..=MAX_SERVERS).contains(&servers).then_some(servers)
-}
-
-/// How many threads, one at least.
-pub(crate) fn threads_of(word: &str) -> Option<u8>
-    ensures { IfSome result (λ threads. 0 < threads) }
-{
-    let threads = word.parse().ok()?;
-    (threads > 0).then_some(threads)
-}
-
-/// How many of a hundred.
-fn across_of(word: &str) -> Option<u8>
-    ensures { IfSome result (λ across. across ≤ 100) }
-{
-    let across = word.parse().ok()?;
-    (across <= 100).then_some(across)
-}
-
 impl ClusterWork {
-    /// To carry a load of so many payments by so many threads, of which so many of a hundred go
-    /// from one server to another.
-    pub fn carry(
-        servers: &str,
-        threads: &str,
-        payments: &str,
-        across: &str,
-    ) -> Option<ClusterWork> {
-        Some(ClusterWork::Carry(Load {
-            servers: servers_of(servers)?,
-            threads: threads_of(threads)?,
-            payments: payments.parse().ok()?,
-            across: across_of(across)?,
-        }))
-    }
-
-    /// To have nothing to do for so many seconds.
-    pub fn idle(servers: &str, seconds: &str) -> Option<ClusterWork> {
-        Some(ClusterWork::Idle {
-            servers: servers_of(servers)?,
-            seconds: seconds.parse().ok()?,
-        })
-    }
-
     /// Starts a cluster for it, and closes that.
     pub fn run<R: Host>(self, rt: R, alloc: Global) -> Result<ClusterDone, Fault> {
         match self {

@@ -1,14 +1,14 @@
 //! A load of payments, and how long it takes.
 ghost use Rattle.std.specs.Prelude.{◌≡◌, ◌<◌, ◌+◌};
 
-use crate::load_fault::LoadFault;
+use crate::fault::Fault;
 use crate::payer::{Payer, add_payers, begun_now};
 use crate::repeats::counting_gate;
-use crate::starting::start;
+use crate::starting::{CountedFrontend, start};
 use crate::texts::{last_hop, payment, seed};
-use lynx_cluster::{CloseFault, Closed, Front, Gate, Host, Session};
+use lynx_cluster::{CloseFault, Closed, Host, Session};
 use lynx_codec::Looked;
-use lynx_keep::{BatchKeeper, MemoryKeeper};
+use lynx_keep::MemoryKeeper;
 use lynx_names::ChainId;
 use lynx_order::{Explained, explain};
 use lynx_world::World;
@@ -37,6 +37,7 @@ pub struct Load {
     pub payments: u64,
     /// Of a hundred payments so many go to the next server, evenly spread: 100 and more are all.
     pub across: u8,
+    ghost has_servers: { 0 < servers },
 }
 
 /// How long a load took, by the monotonic clock.
@@ -94,62 +95,63 @@ fn amount(load: Load) -> u64
 }
 
 /// Fills the account that each server pays from.
-fn seed_all<R: Wait + Clock, K: BatchKeeper, G: Gate>(
+fn seed_all<R: Wait + Clock>(
     rt: &R,
     alloc: Global,
-    front: &Front<K, G>,
+    frontend: &CountedFrontend,
     session: &mut Session,
     load: Load,
-) -> Result<(), LoadFault> {
+) -> Result<(), Fault> {
     for server in 0..load.servers {
         let (client, number) = (session.number(), u64::from(server));
         let request = seed(alloc, client, number, server, load.servers, amount(load))?;
-        begun_now(front.begin(rt, alloc, session, request))?;
+        begun_now(frontend.begin(rt, alloc, session, request))?;
     }
     Ok(())
 }
 
 /// Has the clients make their payments, each in a thread of its own.
-fn pay<
-    R: Threads + Wait + Clock + Sync,
-    K: BatchKeeper + Send + Drop,
-    G: Gate + Send + Sync + Drop,
->(rt: &R, alloc: Global, front: &Front<K, G>, payers: &mut [Payer]) {
+fn pay<R: Threads + Wait + Clock + Sync>(
+    rt: &R,
+    alloc: Global,
+    frontend: &CountedFrontend,
+    payers: &mut [Payer],
+) {
     let threads = payers.len().max(1);
     thread::for_each_mut(
         rt,
         payers,
         threads,
         &|_, payer: &mut Payer| {
-            payer.pay_all(rt, alloc, front);
+            payer.pay_all(rt, alloc, frontend);
         },
     );
 }
 
 /// Adds the session to the list of those that are handed in. For want of memory it is abandoned.
-fn hand_in(session: Session, sessions: &mut Vec<Session>) -> Result<(), LoadFault> {
+fn hand_in(session: Session, sessions: &mut Vec<Session>) -> Result<(), Fault> {
     match sessions.push(session) {
         Ok(()) => Ok(()),
         Err(AllocFailed { value }) => {
             value.abandon();
-            Err(LoadFault::Memory)
+            Err(Fault::Memory)
         }
     }
 }
 
 /// Adds the session of a client to the list, and its payments that began to their count.
 fn count_in(
-    total: Result<u64, LoadFault>,
+    total: Result<u64, Fault>,
     payer: Payer,
     sessions: &mut Vec<Session>,
-) -> Result<u64, LoadFault> {
+) -> Result<u64, Fault> {
     let (session, begun) = payer.into_parts();
     hand_in(session, sessions)?;
     Ok(total?.saturating_add(begun?))
 }
 
 /// Adds the sessions of all clients to the list, and counts the payments that began.
-fn collect(payers: Vec<Payer>, sessions: &mut Vec<Session>) -> Result<u64, LoadFault> {
+fn collect(payers: Vec<Payer>, sessions: &mut Vec<Session>) -> Result<u64, Fault> {
     let mut total = Ok(0);
     let mut payers = payers.into_iter();
     while let Some(payer) = payers.next() {
@@ -160,63 +162,63 @@ fn collect(payers: Vec<Payer>, sessions: &mut Vec<Session>) -> Result<u64, LoadF
 }
 
 /// Looks at that hop until it is there.
-fn await_hop<R: Wait + Clock, K: BatchKeeper, G: Gate>(
+fn await_hop<R: Wait + Clock>(
     rt: &R,
     alloc: Global,
-    front: &Front<K, G>,
+    frontend: &CountedFrontend,
     session: &mut Session,
     chain: &ChainId,
     hop: u8,
-) -> Result<(), LoadFault> {
+) -> Result<(), Fault> {
     for _ in 0..MAX_LOOKS {
-        match front.look(rt, alloc, session, *chain, hop)? {
+        match frontend.look(rt, alloc, session, *chain, hop)? {
             Looked::Found { .. } => return Ok(()),
             Looked::Absent => thread::sleep(rt, Duration::from_millis(1)),
         }
     }
-    Err(LoadFault::NotDone)
+    Err(Fault::NotDone)
 }
 
 /// Begins a last payment from that server to the next.
-fn pay_last<R: Wait + Clock, K: BatchKeeper, G: Gate>(
+fn pay_last<R: Wait + Clock>(
     rt: &R,
     alloc: Global,
-    front: &Front<K, G>,
+    frontend: &CountedFrontend,
     session: &mut Session,
     load: Load,
     server: u8,
-) -> Result<ChainId, LoadFault> {
+) -> Result<ChainId, Fault> {
     let number = u64::from(load.servers) + u64::from(server);
     let request = payment(alloc, session.number(), number, server)?;
-    begun_now(front.begin(rt, alloc, session, request))
+    begun_now(frontend.begin(rt, alloc, session, request))
 }
 
 /// Begins a last payment from each server to the next.
-fn pay_last_of_all<R: Wait + Clock, K: BatchKeeper, G: Gate>(
+fn pay_last_of_all<R: Wait + Clock>(
     rt: &R,
     alloc: Global,
-    front: &Front<K, G>,
+    frontend: &CountedFrontend,
     session: &mut Session,
     load: Load,
-) -> Result<Vec<ChainId>, LoadFault> {
+) -> Result<Vec<ChainId>, Fault> {
     let mut chains = Vec::new(alloc);
     for server in 0..load.servers {
-        chains.push(pay_last(rt, alloc, front, session, load, server)?)?;
+        chains.push(pay_last(rt, alloc, frontend, session, load, server)?)?;
     }
     Ok(chains)
 }
 
 /// Looks at that hop of each of these chains until it is there. When that was.
-fn await_chains<R: Wait + Clock, K: BatchKeeper, G: Gate>(
+fn await_chains<R: Wait + Clock>(
     rt: &R,
     alloc: Global,
-    front: &Front<K, G>,
+    frontend: &CountedFrontend,
     session: &mut Session,
     chains: &[ChainId],
     hop: u8,
-) -> Result<Instant, LoadFault> {
+) -> Result<Instant, Fault> {
     for chain in chains {
-        await_hop(rt, alloc, front, session, chain, hop)?;
+        await_hop(rt, alloc, frontend, session, chain, hop)?;
     }
     Ok(Instant::now(rt)?)
 }
@@ -224,59 +226,49 @@ fn await_chains<R: Wait + Clock, K: BatchKeeper, G: Gate>(
 /// Begins a last payment from each server, and waits until these are done. Each is the last of its
 /// origin, and the next server runs the hops of one origin in its order, so then all are done. When
 /// that was seen.
-fn await_all<R: Wait + Clock, K: BatchKeeper, G: Gate>(
+fn await_all<R: Wait + Clock>(
     rt: &R,
     alloc: Global,
-    front: &Front<K, G>,
+    frontend: &CountedFrontend,
     session: &mut Session,
     load: Load,
-) -> Result<Instant, LoadFault> {
-    let chains = pay_last_of_all(rt, alloc, front, session, load)?;
+) -> Result<Instant, Fault> {
+    let chains = pay_last_of_all(rt, alloc, frontend, session, load)?;
     let hop = last_hop(load.servers);
-    await_chains(rt, alloc, front, session, chains.as_slice(), hop)
+    await_chains(rt, alloc, frontend, session, chains.as_slice(), hop)
 }
 
 /// Has the clients make their payments: when they began, and when all had ended.
-fn pay_timed<
-    R: Threads + Wait + Clock + Sync,
-    K: BatchKeeper + Send + Drop,
-    G: Gate + Send + Sync + Drop,
->(
+fn pay_timed<R: Threads + Wait + Clock + Sync>(
     rt: &R,
     alloc: Global,
-    front: &Front<K, G>,
+    frontend: &CountedFrontend,
     payers: &mut [Payer],
-) -> Result<(Instant, Instant), LoadFault> {
+) -> Result<(Instant, Instant), Fault> {
     let first = Instant::now(rt)?;
-    pay(rt, alloc, front, payers);
+    pay(rt, alloc, frontend, payers);
     Ok((first, Instant::now(rt)?))
 }
 
 /// Seeds, pays, and waits until all is done. The sessions of the clients are added to the list.
-fn carry_by<
-    R: Threads + Wait + Clock + Sync,
-    K: BatchKeeper + Send + Drop,
-    G: Gate + Send + Sync + Drop,
->(
+fn carry_by<R: Threads + Wait + Clock + Sync>(
     rt: &R,
     alloc: Global,
-    front: &Front<K, G>,
+    frontend: &CountedFrontend,
     load: Load,
     session: &mut Session,
     sessions: &mut Vec<Session>,
-) -> Result<Carried, LoadFault>
-    requires { 0 < load.servers }
-{
-    seed_all(rt, alloc, front, session, load)?;
+) -> Result<Carried, Fault> {
+    seed_all(rt, alloc, frontend, session, load)?;
     let mut payers = Vec::new(alloc);
-    let paid = match add_payers(rt, alloc, front, load, &mut payers) {
-        Ok(()) => pay_timed(rt, alloc, front, payers.as_mut_slice()),
+    let paid = match add_payers(rt, alloc, frontend, load, &mut payers) {
+        Ok(()) => pay_timed(rt, alloc, frontend, payers.as_mut_slice()),
         Err(fault) => Err(fault),
     };
     let begun = collect(payers, sessions);
     let (first, all_begun) = paid?;
     let begun = begun?;
-    let done = await_all(rt, alloc, front, session, load)?;
+    let done = await_all(rt, alloc, frontend, session, load)?;
     Ok(Carried {
         begun,
         times: Times {
@@ -289,36 +281,30 @@ fn carry_by<
 
 /// Carries the load by clients with sessions of their own, and one more. All of these are added to
 /// the list.
-fn carry<
-    R: Threads + Wait + Clock + Sync,
-    K: BatchKeeper + Send + Drop,
-    G: Gate + Send + Sync + Drop,
->(
+fn carry<R: Threads + Wait + Clock + Sync>(
     rt: &R,
     alloc: Global,
-    front: &Front<K, G>,
+    frontend: &CountedFrontend,
     load: Load,
     sessions: &mut Vec<Session>,
-) -> Result<Carried, LoadFault>
-    requires { 0 < load.servers }
-{
-    let mut session = front.session(rt, alloc).ok_or(LoadFault::Session)?;
-    let carried = carry_by(rt, alloc, front, load, &mut session, sessions);
+) -> Result<Carried, Fault> {
+    let mut session = frontend.session(rt, alloc).ok_or(Fault::Session)?;
+    let carried = carry_by(rt, alloc, frontend, load, &mut session, sessions);
     hand_in(session, sessions)?;
     carried
 }
 
 /// Nothing, where an order of all chains explains the world.
-fn check_order(alloc: Global, world: &World) -> Result<(), LoadFault> {
+fn check_order(alloc: Global, world: &World) -> Result<(), Fault> {
     match explain(alloc, world)? {
         Explained::Order(_) => Ok(()),
-        Explained::Cycle(_) => Err(LoadFault::Cycle),
+        Explained::Cycle(_) => Err(Fault::Cycle),
     }
 }
 
 /// Nothing, where the world's cells hold together what the servers were seeded with, which they do
 /// not before all payments are done. Both sums are modulo 2^64, as those of the cells are.
-fn check_sum(alloc: Global, world: &World, load: Load) -> Result<(), LoadFault> {
+fn check_sum(alloc: Global, world: &World, load: Load) -> Result<(), Fault> {
     let seeded = amount(load).wrapping_mul(u64::from(load.servers));
     let mut sum: u64 = 0;
     for (_, _, value) in world.cells(alloc)? {
@@ -327,7 +313,7 @@ fn check_sum(alloc: Global, world: &World, load: Load) -> Result<(), LoadFault> 
     if sum == seeded {
         Ok(())
     } else {
-        Err(LoadFault::Sum)
+        Err(Fault::Sum)
     }
 }
 
@@ -335,10 +321,10 @@ fn check_sum(alloc: Global, world: &World, load: Load) -> Result<(), LoadFault> 
 pub(crate) fn closed_well(
     alloc: Global,
     closed: Result<Closed<MemoryKeeper>, CloseFault>,
-) -> Result<Box<Closed<MemoryKeeper>>, LoadFault> {
+) -> Result<Box<Closed<MemoryKeeper>>, Fault> {
     match closed {
         Ok(closed) => Ok(Box::new(alloc, closed)?),
-        Err(fault) => Err(LoadFault::from(fault)),
+        Err(fault) => Err(Fault::from(fault)),
     }
 }
 
@@ -350,7 +336,7 @@ fn audit<R: Clock>(
     carried: Carried,
     again: u64,
     world: &World,
-) -> Result<Measured, LoadFault> {
+) -> Result<Measured, Fault> {
     let Carried { begun, times } = carried;
     let closed_at = Instant::now(rt)?;
     check_order(alloc, world)?;
@@ -369,14 +355,11 @@ fn audit<R: Clock>(
 /// Carries a load over a cluster that it starts over keepers in memory and closes, and measures how
 /// long it takes. All payments begin, all come to their ends, what the sessions were told stands,
 /// and an order of all chains explains what the servers did; else it is a fault.
-pub fn measure<R: Host>(rt: R, alloc: Global, load: Load) -> Result<Measured, LoadFault> {
-    if load.threads == 0 {
-        return Err(LoadFault::Threads);
-    }
+pub fn measure<R: Host>(rt: R, alloc: Global, load: Load) -> Result<Measured, Fault> {
     let (gate, again) = counting_gate(alloc)?;
     let cluster = start(rt, alloc, load.servers, gate)?;
     let mut sessions = Vec::new(alloc);
-    let carried = carry(&rt, alloc, cluster.front(), load, &mut sessions);
+    let carried = carry(&rt, alloc, cluster.frontend(), load, &mut sessions);
     let closed = closed_well(alloc, cluster.close(&rt, alloc, sessions));
     let carried = carried?;
     let closed = closed?;

@@ -1,12 +1,12 @@
-//! The work that is measured: payments from one server to another, and their forms.
+//! The work that is measured: payments from one server to another, and their encodings.
 use crate::chains::{Start, begin, deliver};
+use crate::encodings::{encode_all, feed_all};
 use crate::fault::Fault;
-use crate::forms::{encode_all, feed_all};
-use crate::ring::{cut_all, explain_all, weave_all};
+use crate::ring::{cut_all, explain_all, servers_of, weave_all};
 use crate::shape::{Shape, set_of};
-use crate::stores::{open_all, pay_all};
+use crate::stores::{StoreWork, measure_stores};
 use lynx_keep::MemoryKeeper;
-use lynx_names::{Memory, ServerId};
+use lynx_names::Memory;
 use lynx_rules::next_of;
 use lynx_server::Server;
 use std::alloc::Global;
@@ -18,9 +18,9 @@ const SET: &str =
 /// What is measured over keepers in memory, or over none.
 #[derive(Clone, Copy)]
 pub enum MemoryWork {
-    /// So many bytes of forms are written.
+    /// So many bytes of encodings are written.
     Encode,
-    /// About so many bytes of forms are read, in pieces of that size.
+    /// About so many bytes of encodings are read, in pieces of that size.
     Feed { piece: usize },
     /// So many entries of that shape come to be, and are woven.
     Weave { shape: Shape },
@@ -40,31 +40,29 @@ pub enum MemoryWork {
 #[derive(Clone, Copy)]
 pub enum Work<'a> {
     InMemory(MemoryWork),
-    /// So many payments from server to server over stores in that folder, or in memory.
-    Store { folder: &'a str },
-    /// The first server's store in that folder is opened so many times.
-    OpenStore { folder: &'a str },
+    /// Over stores in that folder, or in memory.
+    Stores { work: StoreWork, folder: &'a str },
 }
 
 /// A payment of nothing.
-const PAY_NOTHING: Start = Start {
+const PAY_NOTHING: Start<'static> = Start {
     server: 0,
     program: 0,
-    argument: Some(0),
+    args: &[0],
 };
 
-/// A server of the set that has done nothing yet, in a box, which is let go by one call.
-fn server(alloc: Global, server: ServerId) -> Result<Box<Server<MemoryKeeper>>, Memory> {
-    let set = set_of(alloc, SET)?;
-    let server = Server::new(alloc, &set, server, MemoryKeeper::new(alloc))?;
-    Ok(Box::new(alloc, server)?)
-}
-
-/// How many of so many requests begin a chain.
-fn begin_all(alloc: Global, server: &mut Server<MemoryKeeper>, count: u64) -> Result<u64, Memory> {
+/// How many of so many requests begin a chain at the first of these servers.
+fn begin_all(
+    alloc: Global,
+    servers: &mut [Server<MemoryKeeper>],
+    count: u64,
+) -> Result<u64, Memory> {
+    let Some(first) = servers.first_mut() else {
+        return Err(Memory);
+    };
     let mut begun: u64 = 0;
     for number in 0..count {
-        if begin(alloc, server, PAY_NOTHING, number)? {
+        if begin(alloc, first, PAY_NOTHING, number)? {
             begun = begun.wrapping_add(1);
         }
     }
@@ -89,35 +87,46 @@ fn deliver_all(
 /// How many entries a server has when it was opened again.
 fn open_again(alloc: Global, server: Server<MemoryKeeper>) -> Result<u64, Memory> {
     match server.restart(alloc) {
-        Ok(opened) => Ok(opened.history().len() as u64),
+        Ok(opened) => {
+            let entries = opened.history().len() as u64;
+            drop(opened);
+            Ok(entries)
+        }
         Err(_) => Err(Memory),
     }
 }
 
-/// How many of so many requests begin a chain at the first server.
-fn measure_begins(alloc: Global, count: u64) -> Result<u64, Memory> {
-    let mut server = server(alloc, ServerId::first())?;
-    begin_all(alloc, &mut server, count)
+/// The two servers of the set, which have done nothing yet.
+fn both(alloc: Global) -> Result<Vec<Server<MemoryKeeper>>, Memory> {
+    let set = set_of(alloc, SET)?;
+    servers_of(alloc, &set)
 }
 
-/// The first server, after so many requests.
-fn begun(alloc: Global, count: u64) -> Result<Box<Server<MemoryKeeper>>, Memory> {
-    let mut server = server(alloc, ServerId::first())?;
-    begin_all(alloc, &mut server, count)?;
-    Ok(server)
+/// How many of so many requests begin a chain at the first server.
+fn measure_begins(alloc: Global, count: u64) -> Result<u64, Memory> {
+    let mut servers = both(alloc)?;
+    begin_all(alloc, servers.as_mut_slice(), count)
 }
 
 /// How many messages of so many chains run a hop at the second server.
 fn measure_deliveries(alloc: Global, count: u64) -> Result<u64, Memory> {
-    let first = begun(alloc, count)?;
-    let mut second = server(alloc, ServerId::at(1))?;
-    deliver_all(alloc, &first, &mut second)
+    let mut servers = both(alloc)?;
+    begin_all(alloc, servers.as_mut_slice(), count)?;
+    match servers.as_mut_slice() {
+        [first, second] => deliver_all(alloc, first, second),
+        _ => Err(Memory),
+    }
 }
 
-/// How many entries the first server has when it was opened again.
+/// How many entries the first server has when it was opened again, after so many requests.
 fn measure_opening(alloc: Global, count: u64) -> Result<u64, Memory> {
-    let server = begun(alloc, count)?;
-    open_again(alloc, Box::into_inner(server))
+    let mut servers = both(alloc)?;
+    begin_all(alloc, servers.as_mut_slice(), count)?;
+    servers.truncate(1);
+    match servers.pop() {
+        Some(first) => open_again(alloc, first),
+        None => Err(Memory),
+    }
 }
 
 /// Does such work so many times, and counts what was done.
@@ -138,7 +147,6 @@ fn measure_in_memory(alloc: Global, work: MemoryWork, count: u64) -> Result<u64,
 pub fn measure(rt: &HostRuntime, work: Work<'_>, count: u64) -> Result<u64, Fault> {
     match work {
         Work::InMemory(work) => Ok(measure_in_memory(rt.alloc(), work, count)?),
-        Work::Store { folder } => pay_all(rt, folder, count),
-        Work::OpenStore { folder } => open_all(rt, folder, count),
+        Work::Stores { work, folder } => measure_stores(rt, work, folder, count),
     }
 }

@@ -66,7 +66,8 @@ impl Stores<MemoryStoreKeeper> for MemoryStores {
         u64::from(keeper.entries())
     }
 
-    fn close(&self, _keeper: MemoryStoreKeeper) -> Result<(), StoreFault> {
+    fn close(&self, keeper: MemoryStoreKeeper) -> Result<(), StoreFault> {
+        drop(keeper);
         Ok(())
     }
 }

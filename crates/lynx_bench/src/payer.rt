@@ -1,12 +1,12 @@
 //! The clients of a load, each of which pays in a thread of its own.
 ghost use Rattle.std.specs.Prelude.{◌≡◌, ◌<◌, ◌≤◌, ◌*◌, ◌/◌, ◌%◌, ◌↔◌, IsTrue};
 
+use crate::fault::Fault;
 use crate::load::Load;
-use crate::load_fault::LoadFault;
+use crate::starting::CountedFrontend;
 use crate::texts::{payment, payment_within};
-use lynx_cluster::{Front, Gate, Session};
+use lynx_cluster::Session;
 use lynx_entry::Answer;
-use lynx_keep::BatchKeeper;
 use lynx_names::ChainId;
 use std::alloc::{AllocFailed, Global};
 use std::sync::Wait;
@@ -56,15 +56,15 @@ fn share_of(left: u64, threads: u8) -> u64
 }
 
 /// The chain that the answer says began now.
-pub(crate) fn begun_now(answer: Answer) -> Result<ChainId, LoadFault> {
+pub(crate) fn begun_now(answer: Answer) -> Result<ChainId, Fault> {
     match &answer {
         Answer::Begun {
             chain,
             again: false,
             ..
         } => Ok(*chain),
-        Answer::Memory => Err(LoadFault::Memory),
-        _ => Err(LoadFault::NotBegun),
+        Answer::Memory => Err(Fault::Memory),
+        _ => Err(Fault::NotBegun),
     }
 }
 
@@ -84,20 +84,20 @@ pub(crate) struct Payer {
     /// How many payments it makes.
     count: u64,
     /// How many of them began, or why one didn't. It makes no more then.
-    begun: Result<u64, LoadFault>,
+    begun: Result<u64, Fault>,
     ghost has_servers: { 0 < servers },
     ghost has_clients: { 0 < clients },
 }
 
 impl Payer {
     /// Makes one payment.
-    fn pay<R: Wait + Clock, K: BatchKeeper, G: Gate>(
+    fn pay<R: Wait + Clock>(
         &mut self,
         rt: &R,
         alloc: Global,
-        front: &Front<K, G>,
+        frontend: &CountedFrontend,
         number: u64,
-    ) -> Result<(), LoadFault> {
+    ) -> Result<(), Fault> {
         let origin = origin_of(number, self.client, self.clients, self.servers);
         let client = self.session.number();
         let request = if goes_across(number, self.across) {
@@ -105,37 +105,37 @@ impl Payer {
         } else {
             payment_within(alloc, client, number, origin, self.servers)?
         };
-        begun_now(front.begin(rt, alloc, &mut self.session, request))?;
+        begun_now(frontend.begin(rt, alloc, &mut self.session, request))?;
         Ok(())
     }
 
     /// Makes its payments, and counts those that began.
-    fn try_pay_all<R: Wait + Clock, K: BatchKeeper, G: Gate>(
+    fn try_pay_all<R: Wait + Clock>(
         &mut self,
         rt: &R,
         alloc: Global,
-        front: &Front<K, G>,
-    ) -> Result<u64, LoadFault> {
+        frontend: &CountedFrontend,
+    ) -> Result<u64, Fault> {
         let mut begun: u64 = 0;
         for place in 0..self.count {
-            self.pay(rt, alloc, front, self.first.saturating_add(place))?;
+            self.pay(rt, alloc, frontend, self.first.saturating_add(place))?;
             begun = begun.saturating_add(1);
         }
         Ok(begun)
     }
 
     /// Makes its payments.
-    pub(crate) fn pay_all<R: Wait + Clock, K: BatchKeeper, G: Gate>(
+    pub(crate) fn pay_all<R: Wait + Clock>(
         &mut self,
         rt: &R,
         alloc: Global,
-        front: &Front<K, G>,
+        frontend: &CountedFrontend,
     ) {
-        self.begun = self.try_pay_all(rt, alloc, front);
+        self.begun = self.try_pay_all(rt, alloc, frontend);
     }
 
     /// Its session, and how many of its payments began, or why one didn't.
-    pub(crate) fn into_parts(self) -> (Session, Result<u64, LoadFault>) {
+    pub(crate) fn into_parts(self) -> (Session, Result<u64, Fault>) {
         let Payer {
             session,
             client: _,
@@ -151,31 +151,29 @@ impl Payer {
 }
 
 /// Adds a client to the list. For want of memory its session is abandoned.
-fn add(payers: &mut Vec<Payer>, payer: Payer) -> Result<(), LoadFault> {
+fn add(payers: &mut Vec<Payer>, payer: Payer) -> Result<(), Fault> {
     match payers.push(payer) {
         Ok(()) => Ok(()),
         Err(AllocFailed { value }) => {
             value.into_parts().0.abandon();
-            Err(LoadFault::Memory)
+            Err(Fault::Memory)
         }
     }
 }
 
 /// Adds the clients of a load to the list, which share its payments.
-pub(crate) fn add_payers<R: Wait, K: BatchKeeper, G: Gate>(
+pub(crate) fn add_payers<R: Wait>(
     rt: &R,
     alloc: Global,
-    front: &Front<K, G>,
+    frontend: &CountedFrontend,
     load: Load,
     payers: &mut Vec<Payer>,
-) -> Result<(), LoadFault>
-    requires { 0 < load.servers }
-{
+) -> Result<(), Fault> {
     let mut left = load.payments;
     for before in 0..load.threads {
         let count = share_of(left, load.threads - before);
         let payer = Payer {
-            session: front.session(rt, alloc).ok_or(LoadFault::Session)?,
+            session: frontend.session(rt, alloc).ok_or(Fault::Session)?,
             client: before,
             clients: load.threads,
             servers: load.servers,

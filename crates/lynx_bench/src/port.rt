@@ -1,9 +1,6 @@
 //! A load at the port of a service: begins by many connections, and how long they take.
-ghost use Rattle.std.specs.Prelude.{◌<◌, IfSome};
-
 use crate::caller::{Caller, micros_of};
 use crate::fault::Fault;
-use crate::load_fault::LoadFault;
 use lynx_cluster::Host;
 use std::alloc::Global;
 use std::io::{Read, Write};
@@ -57,14 +54,6 @@ impl fmt::Display for PortMeasured {
     }
 }
 
-/// How many begins are in flight, one at least.
-pub(crate) fn in_flight_of(word: &str) -> Option<u16>
-    ensures { IfSome result (λ in_flight. 0 < in_flight) }
-{
-    let in_flight = word.parse().ok()?;
-    (in_flight > 0).then_some(in_flight)
-}
-
 /// Of ascending times the one within which so many of a thousand are.
 fn within(times: &[u64], thousandths: usize) -> u64 {
     let place = times.len().saturating_mul(thousandths) / 1_000;
@@ -73,10 +62,10 @@ fn within(times: &[u64], thousandths: usize) -> u64 {
 }
 
 /// A number that no client of an earlier load had: two loads don't begin within one microsecond.
-fn first_client<R: Host>(rt: &R) -> Result<u64, LoadFault> {
+fn first_client<R: Host>(rt: &R) -> Result<u64, Fault> {
     match SystemTime::now(rt)?.duration_since(UNIX_EPOCH) {
         Ok(since) => Ok(micros_of(since).wrapping_mul(256)),
-        Err(_) => Err(LoadFault::Clock),
+        Err(_) => Err(Fault::Clock),
     }
 }
 
@@ -85,12 +74,12 @@ fn connect<R: Host + Net<Listener = TcpListener, Stream = TcpStream>>(
     rt: &R,
     alloc: Global,
     load: PortLoad,
-) -> Result<Vec<Caller<TcpStream>>, LoadFault> {
+) -> Result<Vec<Caller<TcpStream>>, Fault> {
     let first = first_client(rt)?;
     let mut callers = Vec::new(alloc);
     for connection in 0..load.connections {
         let Ok(stream) = TcpStream::connect(rt, (Ipv4Addr::LOCALHOST, load.port)) else {
-            return Err(LoadFault::Connect);
+            return Err(Fault::Connect);
         };
         let client = first.wrapping_add(u64::from(connection));
         let server = connection.checked_rem(load.servers).unwrap_or(0);
@@ -106,10 +95,10 @@ fn call_all<R: Host, S: Read + Write + Send + Drop>(
     load: PortLoad,
     callers: &mut [Caller<S>],
     first: Instant,
-) -> Result<Instant, LoadFault> {
+) -> Result<Instant, Fault> {
     let end = first
         .checked_add(Duration::from_secs(load.seconds))
-        .ok_or(LoadFault::Clock)?;
+        .ok_or(Fault::Clock)?;
     let threads = callers.len().max(1);
     thread::for_each_mut(
         rt,
@@ -126,7 +115,7 @@ fn call_all<R: Host, S: Read + Write + Send + Drop>(
 fn times_of<S: Read + Write + Drop>(
     alloc: Global,
     callers: Vec<Caller<S>>,
-) -> Result<Vec<u64>, LoadFault> {
+) -> Result<Vec<u64>, Fault> {
     let mut times = Vec::new(alloc);
     for caller in callers {
         times.extend_from_slice(caller.into_times()?.as_slice())?;
@@ -141,7 +130,7 @@ fn call_timed<R: Host, S: Read + Write + Send + Drop>(
     alloc: Global,
     load: PortLoad,
     mut callers: Vec<Caller<S>>,
-) -> Result<PortMeasured, LoadFault> {
+) -> Result<PortMeasured, Fault> {
     let first = Instant::now(rt)?;
     let end = call_all(rt, alloc, load, callers.as_mut_slice(), first)?;
     let times = times_of(alloc, callers)?;

@@ -1,5 +1,5 @@
 //! A gate that counts what comes twice.
-use lynx_cluster::{Gate, Passage};
+use lynx_cluster::{Gate, StepKind};
 use lynx_entry::Delivered;
 use lynx_names::{Memory, ServerId};
 use std::alloc::Global;
@@ -21,9 +21,9 @@ pub(crate) fn counting_gate(alloc: Global) -> Result<(Repeats, Arc<AtomicU64>), 
 }
 
 impl Gate for Repeats {
-    fn enter(&self, _server: ServerId, _passage: Passage) {}
+    fn enter(&self, _server: ServerId, _step: StepKind) {}
 
-    fn leave(&self, _server: ServerId, _passage: Passage) {}
+    fn leave(&self, _server: ServerId, _step: StepKind) {}
 
     fn delivered(&self, _server: ServerId, delivered: &Delivered, _since: Option<Instant>) {
         if matches!(delivered, Delivered::Repeat { .. }) {

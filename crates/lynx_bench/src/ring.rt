@@ -11,8 +11,11 @@ use lynx_weave::{cut, weave};
 use lynx_world::World;
 use std::alloc::Global;
 
-/// The servers of the set.
-fn servers_of(alloc: Global, set: &ChainSet) -> Result<Vec<Server<MemoryKeeper>>, Memory> {
+/// The servers of the set, which have done nothing yet.
+pub(crate) fn servers_of(
+    alloc: Global,
+    set: &ChainSet,
+) -> Result<Vec<Server<MemoryKeeper>>, Memory> {
     let mut ring = Vec::new(alloc);
     for number in 0..set.servers() {
         let keeper = MemoryKeeper::new(alloc);
@@ -25,7 +28,7 @@ fn servers_of(alloc: Global, set: &ChainSet) -> Result<Vec<Server<MemoryKeeper>>
 fn begin(
     alloc: Global,
     ring: &mut [Server<MemoryKeeper>],
-    start: Start,
+    start: Start<'_>,
     number: u64,
 ) -> Result<Option<Message>, Memory> {
     let Some(here) = ring.get_mut(usize::from(start.server)) else {
@@ -55,7 +58,7 @@ fn pay_all(alloc: Global, ring: &mut [Server<MemoryKeeper>], count: u64) -> Resu
         let start = Start {
             server,
             program: server,
-            argument: None,
+            args: &[],
         };
         let next = next_of_ring(ring.len(), server);
         let message = begin(alloc, ring, start, number)?;
@@ -70,12 +73,12 @@ fn cross(alloc: Global, ring: &mut [Server<MemoryKeeper>], number: u64) -> Resul
     let right = Start {
         server: 0,
         program: 0,
-        argument: None,
+        args: &[],
     };
     let left = Start {
         server: 1,
         program: 1,
-        argument: None,
+        args: &[],
     };
     let to_right = begin(alloc, ring, right, number)?;
     let to_left = begin(alloc, ring, left, number);
@@ -92,18 +95,15 @@ fn touch_all(
     count: u64,
 ) -> Result<(), Memory> {
     for number in 0..count {
+        let (program, key) = match shape {
+            Shape::Alternating => ((number % 2) as u8, 0),
+            Shape::Cells => (0, number),
+            _ => (0, 0),
+        };
         let start = Start {
             server: 0,
-            program: if matches!(shape, Shape::Alternating) {
-                (number % 2) as u8
-            } else {
-                0
-            },
-            argument: Some(if matches!(shape, Shape::Cells) {
-                number
-            } else {
-                0
-            }),
+            program,
+            args: &[key],
         };
         begin(alloc, ring, start, number)?;
     }

@@ -14,20 +14,20 @@ use std::alloc::Global;
 const SET: &str =
     "lynx 1\nservers 2\ntable acct\nshard 0 999 0\nshard 1000 18446744073709551615 1\nprogram seed n\nhop 0\nadd acct 0 n\nend\nprogram pay n\nhop 0\nget x acct 0\nneed x >= n\nsub acct 0 n\nhop 1\nadd acct 1000 n\nend\n";
 
-/// A seed of that amount.
-fn seed(amount: u64) -> Start {
-    Start {
-        server: 0,
-        program: 0,
-        argument: Some(amount),
-    }
+/// What is measured over stores.
+#[derive(Clone, Copy)]
+pub enum StoreWork {
+    /// So many payments from server to server.
+    Pay,
+    /// The first server's store is opened so many times.
+    Open,
 }
 
 /// A payment of 1.
-const PAY: Start = Start {
+const PAY: Start<'static> = Start {
     server: 0,
     program: 1,
-    argument: Some(1),
+    args: &[1],
 };
 
 /// The server over its store in the folder.
@@ -65,8 +65,12 @@ fn pay_often<K: Keeper>(
     payee: &mut Server<K>,
     count: u64,
 ) -> Result<u64, Memory> {
-    let amount = count.saturating_add(1);
-    begin(alloc, payer, seed(amount), u64::MAX)?;
+    let seed = Start {
+        server: 0,
+        program: 0,
+        args: &[count.saturating_add(1)],
+    };
+    begin(alloc, payer, seed, u64::MAX)?;
     let mut paid: u64 = 0;
     for number in 0..count {
         if pay(alloc, payer, payee, number)? {
@@ -95,16 +99,6 @@ fn pay_over<K: Keeper + Drop, S: Stores<K>>(
     Ok(paid)
 }
 
-/// How many of so many payments come to their end over stores in that folder, or in memory.
-pub fn pay_all(rt: &HostRuntime, folder: &str, count: u64) -> Result<u64, Fault> {
-    let alloc = rt.alloc();
-    if folder == ":memory:" {
-        pay_over(alloc, &MemoryStores::new(alloc), folder, count)
-    } else {
-        pay_over(alloc, &Files::new(*rt), folder, count)
-    }
-}
-
 /// How many entries the first server has in all, where it is opened so many times over its store.
 fn open_often<K: Keeper + Drop, S: Stores<K>>(
     alloc: Global,
@@ -116,12 +110,36 @@ fn open_often<K: Keeper + Drop, S: Stores<K>>(
     for _ in 0..count {
         let opened = served(alloc, stores, folder, ServerId::first())?;
         entries = entries.wrapping_add(opened.history().len() as u64);
+        drop(opened);
     }
     Ok(entries)
 }
 
-/// How many entries the first server has in all, where it is opened so many times over its store in
-/// that folder.
-pub fn open_all(rt: &HostRuntime, folder: &str, count: u64) -> Result<u64, Fault> {
-    open_often(rt.alloc(), &Files::new(*rt), folder, count)
+/// Does such work over stores in that folder so many times.
+fn measure_over<K: Keeper + Drop, S: Stores<K>>(
+    alloc: Global,
+    stores: &S,
+    work: StoreWork,
+    folder: &str,
+    count: u64,
+) -> Result<u64, Fault> {
+    match work {
+        StoreWork::Pay => pay_over(alloc, stores, folder, count),
+        StoreWork::Open => open_often(alloc, stores, folder, count),
+    }
+}
+
+/// Does such work so many times over stores in that folder, or payments in memory.
+pub fn measure_stores(
+    rt: &HostRuntime,
+    work: StoreWork,
+    folder: &str,
+    count: u64,
+) -> Result<u64, Fault> {
+    let alloc = rt.alloc();
+    if folder == ":memory:" && matches!(work, StoreWork::Pay) {
+        measure_over(alloc, &MemoryStores::new(alloc), work, folder, count)
+    } else {
+        measure_over(alloc, &Files::new(*rt), work, folder, count)
+    }
 }

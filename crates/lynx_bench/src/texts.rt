@@ -4,14 +4,14 @@
 //! server behind it, so that payments of two servers meet only where they add. Of N servers program
 //! S pays from server S to the next by two hops, program N + S pays within server S by one, and
 //! program 2 N + S fills the account that S pays from.
-ghost use Rattle.std.specs.Prelude.{◌≡◌, ◌<◌, ◌≤◌, ◌+◌, ◌*◌, IfOk, OnOk, length};
+ghost use Rattle.std.specs.Prelude.{◌≡◌, ◌<◌, ◌≤◌, ◌+◌, ◌*◌, IfOk, length};
 ghost use Rattle.lynx_names.specs.declared.limits.TheConstants.{MAX_PARAMETERS};
 
-use crate::load_fault::LoadFault;
+use crate::fault::Fault;
+use crate::shape::set_of;
 use lynx_entry::Request;
 use lynx_names::{ClientId, Memory, ProgramId, Values};
 use lynx_set::ChainSet;
-use lynx_text::{FaultKind, parse};
 use std::alloc::{AllocError, Global};
 
 /// The first key of a server's shard, which is the account that it pays from.
@@ -44,14 +44,14 @@ fn write_shard(text: &mut String, server: u8, servers: u8) -> Result<(), AllocEr
     write!(text, "shard {first} {last} {server}\n")
 }
 
-/// Writes the lines of a program up to where it takes from the account that a server pays from.
-fn write_taking(text: &mut String, name: &str, server: u8) -> Result<(), AllocError> {
+/// Writes a program that pays within a server.
+fn write_within(text: &mut String, name: &str, server: u8) -> Result<(), AllocError> {
     let from = first_key(server);
+    let to = from + 1;
     write!(
         text,
-        "program {name}{server} n\nhop {server}\nget x acct {from}\n"
-    )?;
-    write!(text, "need x >= n\nsub acct {from} n\n")
+        "program {name}{server} n\nhop {server}\nget x acct {from}\nneed x >= n\nsub acct {from} n\nadd acct {to} n\nend\n"
+    )
 }
 
 /// Writes the program that pays from a server to the next. A lone server pays itself in one hop:
@@ -60,17 +60,14 @@ fn write_pay(text: &mut String, server: u8, servers: u8) -> Result<(), AllocErro
     requires { server < servers }
 {
     let next = next_of(server, servers);
-    write_taking(text, "pay", server)?;
-    if next != server {
-        write!(text, "hop {next}\n")?;
+    if next == server {
+        return write_within(text, "pay", server);
     }
-    write!(text, "add acct {} n\nend\n", first_key(next) + 1)
-}
-
-/// Writes the program that pays within a server.
-fn write_move(text: &mut String, server: u8) -> Result<(), AllocError> {
-    write_taking(text, "move", server)?;
-    write!(text, "add acct {} n\nend\n", first_key(server) + 1)
+    let (from, to) = (first_key(server), first_key(next) + 1);
+    write!(
+        text,
+        "program pay{server} n\nhop {server}\nget x acct {from}\nneed x >= n\nsub acct {from} n\nhop {next}\nadd acct {to} n\nend\n"
+    )
 }
 
 /// Writes the program that fills the account that a server pays from.
@@ -92,7 +89,7 @@ fn write_set(text: &mut String, servers: u8) -> Result<(), AllocError> {
         write_pay(text, server, servers)?;
     }
     for server in 0..servers {
-        write_move(text, server)?;
+        write_within(text, "move", server)?;
     }
     for server in 0..servers {
         write_seed(text, server)?;
@@ -100,28 +97,17 @@ fn write_set(text: &mut String, servers: u8) -> Result<(), AllocError> {
     Ok(())
 }
 
-/// The text of the set for so many servers. None is a fault, and no other number.
-pub(crate) fn set_text(alloc: Global, servers: u8) -> Result<String, LoadFault>
-    ensures { OnOk result (0 < servers) }
-{
-    if servers == 0 {
-        return Err(LoadFault::Servers);
-    }
+/// The text of the set for so many servers, one at least.
+pub(crate) fn set_text(alloc: Global, servers: u8) -> Result<String, AllocError> {
     let mut text = String::new(alloc);
     write_set(&mut text, servers)?;
     Ok(text)
 }
 
-/// The set for so many servers, 1 to 16. Any other number is a fault.
-pub(crate) fn set_for(alloc: Global, servers: u8) -> Result<Box<ChainSet>, LoadFault>
-    ensures { OnOk result (0 < servers) }
-{
+/// The set for so many servers, 1 to 16.
+pub(crate) fn set_for(alloc: Global, servers: u8) -> Result<Box<ChainSet>, Memory> {
     let text = set_text(alloc, servers)?;
-    match parse(alloc, text.as_bytes()) {
-        Ok(set) => Ok(Box::new(alloc, set)?),
-        Err(fault) if fault.kind == FaultKind::Memory => Err(LoadFault::Memory),
-        Err(_) => Err(LoadFault::Servers),
-    }
+    set_of(alloc, text.as_str())
 }
 
 /// The hop in which a payment among so many servers comes to its end.

@@ -1,10 +1,9 @@
 //! Calls on a hop, on an entry and on a history, which stay as they are.
-use crate::tried::{Called, Tried, done, done_if, ended, made_again, of_option};
+use crate::tried::{Called, done, done_if, of_option};
 use lynx_cells::Cells;
 use lynx_fixtures::made::{boxed, entries, entry, program};
 use lynx_fixtures::parts::EntryParts;
 use lynx_fixtures::payments::{AT_FIRST, PAID};
-use lynx_fixtures::texts::{PAYMENT, set_of};
 use lynx_foot::{Touch, touches};
 use lynx_hops::{HopFault, run_hop};
 use lynx_names::{Memory, ProgramId, ServerId};
@@ -64,7 +63,7 @@ fn judge(alloc: Global, set: &ChainSet) -> Result<Called, Memory> {
 }
 
 /// Makes it once.
-fn make(alloc: Global, call: HopCall, set: &ChainSet) -> Result<Called, Memory> {
+pub fn make(alloc: Global, call: HopCall, set: &ChainSet) -> Result<Called, Memory> {
     let pay = program(1)?;
     match call {
         HopCall::Run => Ok(run(alloc, set, pay)),
@@ -72,18 +71,4 @@ fn make(alloc: Global, call: HopCall, set: &ChainSet) -> Result<Called, Memory> 
         HopCall::Next => next(alloc, set),
         HopCall::Unlawful => judge(alloc, set),
     }
-}
-
-/// Makes it on that set, and again where memory was wanting to it.
-fn try_on(alloc: Global, call: HopCall, set: &ChainSet) -> Result<Tried, Memory> {
-    match make(alloc, call, set)? {
-        Called::Refused => Ok(made_again(true, make(alloc, call, set)?)),
-        answered => Ok(ended(answered)),
-    }
-}
-
-/// Makes it, and again where memory was wanting to it.
-pub fn try_hop(alloc: Global, call: HopCall) -> Result<Tried, Memory> {
-    let set = set_of(alloc, PAYMENT)?;
-    try_on(alloc, call, &set)
 }

@@ -20,17 +20,19 @@ mod parts;
 mod payments;
 mod servers;
 mod services;
+mod stills;
 mod texts;
 mod tried;
 mod values;
 mod worlds;
 
-use hops::{HopCall, try_hop};
-use openings::{OpeningCall, try_opening};
+use hops::HopCall;
+use openings::OpeningCall;
 use parts::{PartCall, try_part};
 use servers::{ServerCall, try_server};
 use services::{ServiceCall, try_service};
-use texts::{TextCall, try_text};
+use stills::{StillCall, try_still};
+use texts::TextCall;
 use tried::Tried;
 use values::{ValueCall, try_value};
 use worlds::{WorldCall, try_world};
@@ -38,27 +40,40 @@ use worlds::{WorldCall, try_world};
 /// A call that is made by its name.
 #[derive(Clone, Copy)]
 enum Call {
-    Text(TextCall),
+    Still(StillCall),
     Value(ValueCall),
-    Hop(HopCall),
     Part(PartCall),
     Server(ServerCall),
     Service(ServiceCall),
-    Opening(OpeningCall),
     World(WorldCall),
 }
 
 /// The calls by their names.
 const CALLS: &[(&str, Call)] = &[
-    ("parse", Call::Text(TextCall::Parse)),
-    ("print", Call::Text(TextCall::Print)),
-    ("parse_script", Call::Text(TextCall::ParseScript)),
-    ("ChainSet::copy", Call::Text(TextCall::Copy)),
-    ("upgrade_set", Call::Text(TextCall::Upgrade)),
-    ("footprint", Call::Text(TextCall::Footprint)),
-    ("conflict_edges", Call::Text(TextCall::Edges)),
-    ("check", Call::Text(TextCall::Check)),
-    ("draw", Call::Text(TextCall::Draw)),
+    ("parse", Call::Still(StillCall::Text(TextCall::Parse))),
+    ("print", Call::Still(StillCall::Text(TextCall::Print))),
+    (
+        "parse_script",
+        Call::Still(StillCall::Text(TextCall::ParseScript)),
+    ),
+    (
+        "ChainSet::copy",
+        Call::Still(StillCall::Text(TextCall::Copy)),
+    ),
+    (
+        "upgrade_set",
+        Call::Still(StillCall::Text(TextCall::Upgrade)),
+    ),
+    (
+        "footprint",
+        Call::Still(StillCall::Text(TextCall::Footprint)),
+    ),
+    (
+        "conflict_edges",
+        Call::Still(StillCall::Text(TextCall::Edges)),
+    ),
+    ("check", Call::Still(StillCall::Text(TextCall::Check))),
+    ("draw", Call::Still(StillCall::Text(TextCall::Draw))),
     ("Changes::put", Call::Value(ValueCall::Put)),
     ("Cells::stage", Call::Value(ValueCall::Stage)),
     ("Cells::list", Call::Value(ValueCall::List)),
@@ -72,10 +87,13 @@ const CALLS: &[(&str, Call)] = &[
     ("Feed::next", Call::Value(ValueCall::Next)),
     ("encode", Call::Value(ValueCall::Encode)),
     ("links", Call::Value(ValueCall::Links)),
-    ("run_hop", Call::Hop(HopCall::Run)),
-    ("touches", Call::Hop(HopCall::Touches)),
-    ("next_of", Call::Hop(HopCall::Next)),
-    ("first_unlawful", Call::Hop(HopCall::Unlawful)),
+    ("run_hop", Call::Still(StillCall::Hop(HopCall::Run))),
+    ("touches", Call::Still(StillCall::Hop(HopCall::Touches))),
+    ("next_of", Call::Still(StillCall::Hop(HopCall::Next))),
+    (
+        "first_unlawful",
+        Call::Still(StillCall::Hop(HopCall::Unlawful)),
+    ),
     ("Sequencer::draw", Call::Part(PartCall::Draw)),
     ("MemoryKeeper::commit", Call::Part(PartCall::Commit)),
     ("MemoryKeeper::copy", Call::Part(PartCall::Copy)),
@@ -87,13 +105,31 @@ const CALLS: &[(&str, Call)] = &[
     ),
     ("Server::wake", Call::Server(ServerCall::Wake)),
     ("Server::messages_due", Call::Server(ServerCall::Due)),
-    ("Server::open", Call::Opening(OpeningCall::Open)),
-    ("Server::restart", Call::Opening(OpeningCall::Restart)),
-    ("rebuild", Call::Opening(OpeningCall::Rebuild)),
-    ("World::new", Call::Opening(OpeningCall::World)),
-    ("weave", Call::Opening(OpeningCall::Weave)),
-    ("gather", Call::Opening(OpeningCall::Gather)),
-    ("MemoryKeeper::load", Call::Opening(OpeningCall::Load)),
+    (
+        "Server::open",
+        Call::Still(StillCall::Opening(OpeningCall::Open)),
+    ),
+    (
+        "Server::restart",
+        Call::Still(StillCall::Opening(OpeningCall::Restart)),
+    ),
+    (
+        "rebuild",
+        Call::Still(StillCall::Opening(OpeningCall::Rebuild)),
+    ),
+    (
+        "World::new",
+        Call::Still(StillCall::Opening(OpeningCall::World)),
+    ),
+    ("weave", Call::Still(StillCall::Opening(OpeningCall::Weave))),
+    (
+        "gather",
+        Call::Still(StillCall::Opening(OpeningCall::Gather)),
+    ),
+    (
+        "MemoryKeeper::load",
+        Call::Still(StillCall::Opening(OpeningCall::Load)),
+    ),
     ("World::apply of a begin", Call::World(WorldCall::Begin)),
     (
         "World::apply of a delivery",
@@ -108,7 +144,7 @@ const CALLS: &[(&str, Call)] = &[
     ("serve", Call::Service(ServiceCall::Serve)),
     ("Cluster::begin", Call::Service(ServiceCall::Begin)),
     (
-        "Front::begin_all",
+        "Frontend::begin_all",
         Call::Service(ServiceCall::BeginTogether),
     ),
 ];
@@ -120,13 +156,11 @@ fn make<R: Threads + Wait + Clock + Copy + Send + 'static>(
     call: Call,
 ) -> Result<Tried, Memory> {
     match call {
-        Call::Text(call) => try_text(alloc, call),
+        Call::Still(call) => try_still(alloc, call),
         Call::Value(call) => try_value(alloc, call),
-        Call::Hop(call) => try_hop(alloc, call),
         Call::Part(call) => try_part(alloc, call),
         Call::Server(call) => try_server(alloc, call),
         Call::Service(call) => try_service(rt, alloc, call),
-        Call::Opening(call) => try_opening(alloc, call),
         Call::World(call) => try_world(alloc, call),
     }
 }

@@ -1,10 +1,9 @@
 //! Calls that consume what they are given, and are given it anew.
 use crate::payments::{payee_keeper, payer, payer_keeper};
-use crate::tried::{Called, Tried, done, ended, made_again, of_result};
+use crate::tried::{Called, done, of_result};
 use lynx_entry::Entry;
 use lynx_fixtures::made::{boxed, entries};
 use lynx_fixtures::payments::{AT_FIRST, AT_SECOND};
-use lynx_fixtures::texts::{PAYMENT, set_of};
 use lynx_keep::{KeepFault, Keeper, MemoryKeeper};
 use lynx_names::{Memory, ServerId, TryCopy};
 use lynx_server::{OpenFault, Server, rebuild};
@@ -50,8 +49,9 @@ fn keepers(alloc: Global, set: &ChainSet) -> Result<[MemoryKeeper; 2], Memory> {
 /// What both did.
 fn histories(alloc: Global) -> Result<Vec<Vec<Entry>>, Memory> {
     let mut histories = Vec::new(alloc);
-    histories.push(entries(alloc, AT_FIRST)?)?;
-    histories.push(entries(alloc, AT_SECOND)?)?;
+    for parts in [AT_FIRST, AT_SECOND] {
+        histories.push(entries(alloc, parts)?)?;
+    }
     Ok(histories)
 }
 
@@ -71,9 +71,9 @@ fn make_of_history(alloc: Global, set: &ChainSet) -> Result<Called, Memory> {
 }
 
 fn new_world(alloc: Global, set: &ChainSet) -> Result<Called, Memory> {
+    let keepers = empty_keepers(alloc, set)?;
     let set = set.copy(alloc)?;
-    let keepers = empty_keepers(alloc, &set)?;
-    Ok(of_result(boxed(alloc, World::new(alloc, set, keepers))))
+    Ok(of_result(World::new(alloc, set, keepers)))
 }
 
 fn weave_both(alloc: Global, set: &ChainSet) -> Result<Called, Memory> {
@@ -82,7 +82,7 @@ fn weave_both(alloc: Global, set: &ChainSet) -> Result<Called, Memory> {
         return Ok(Called::Other);
     }
     match weave(alloc, set, histories, &[]) {
-        Ok(world) => Ok(of_result(boxed(alloc, Ok(world)))),
+        Ok(world) => Ok(done(world)),
         Err(WeaveFault::Memory) => Ok(Called::Refused),
         Err(_) => Ok(Called::Other),
     }
@@ -94,7 +94,7 @@ fn gather_of(alloc: Global, set: &ChainSet, keepers: &mut [MemoryKeeper]) -> Cal
         return Called::Other;
     }
     match gather(alloc, set, keepers, &[]) {
-        Ok(world) => of_result(boxed(alloc, Ok(world))),
+        Ok(world) => done(world),
         Err(GatherFault::Memory) => Called::Refused,
         Err(_) => Called::Other,
     }
@@ -115,7 +115,7 @@ fn load(alloc: Global, set: &ChainSet) -> Result<Called, Memory> {
 }
 
 /// Makes it once, of what it is given anew.
-fn make(alloc: Global, call: OpeningCall, set: &ChainSet) -> Result<Called, Memory> {
+pub fn make(alloc: Global, call: OpeningCall, set: &ChainSet) -> Result<Called, Memory> {
     match call {
         OpeningCall::Open => open(alloc, set),
         OpeningCall::Restart => restart(alloc, set),
@@ -125,18 +125,4 @@ fn make(alloc: Global, call: OpeningCall, set: &ChainSet) -> Result<Called, Memo
         OpeningCall::Gather => gather_both(alloc, set),
         OpeningCall::Load => load(alloc, set),
     }
-}
-
-/// Makes it on that set, and again where memory was wanting to it.
-fn try_on(alloc: Global, call: OpeningCall, set: &ChainSet) -> Result<Tried, Memory> {
-    match make(alloc, call, set)? {
-        Called::Refused => Ok(made_again(true, make(alloc, call, set)?)),
-        answered => Ok(ended(answered)),
-    }
-}
-
-/// Makes it, and again where memory was wanting to it.
-pub fn try_opening(alloc: Global, call: OpeningCall) -> Result<Tried, Memory> {
-    let set = set_of(alloc, PAYMENT)?;
-    try_on(alloc, call, &set)
 }

@@ -1,19 +1,18 @@
 //! Calls that a server makes of its parts.
 ghost use Rattle.lynx_codec.specs.Entries.{IsEntryInRange};
 
-use crate::payments::payer_keeper;
+use crate::payments::{payer, payer_keeper};
 use crate::tried::{Called, Tried, ended, made_again, of_result};
 use crate::values::{changes, is_zero};
 use lynx_cells::Changes;
 use lynx_entry::Entry;
-use lynx_fixtures::made::{boxed, entries};
-use lynx_fixtures::payments::AT_FIRST;
+use lynx_fixtures::made::boxed;
 use lynx_fixtures::texts::{PAYMENT, set_of};
 use lynx_keep::{KeepFault, Keeper, Loaded, MemoryKeeper};
 use lynx_names::limits::MAX_SERVERS;
-use lynx_names::{Memory, ServerId, ServerList, TryCopy};
+use lynx_names::{Memory, ServerId, ServerList, TryCopy, learn};
 use lynx_seq::Sequencer;
-use lynx_server::rebuild;
+use lynx_server::Server;
 use std::alloc::Global;
 
 /// A call on a part of a server.
@@ -100,17 +99,21 @@ fn try_entry(alloc: Global, entry: &Entry) -> Result<Tried, Memory>
     try_changes(alloc, &mut keeper, entry, &changes)
 }
 
-/// A keeper keeps the first entry of the payer.
-fn try_commit(alloc: Global) -> Result<Tried, Memory> {
-    let set = set_of(alloc, PAYMENT)?;
-    let history = entries(alloc, AT_FIRST)?;
-    let payer = rebuild(alloc, &set, ServerId::first(), history).map_err(|_| Memory)?;
-    // By its number and its type the entries of the payer are in range.
-    let _ = payer.server().number();
-    match payer.history().first() {
+/// A keeper keeps the first entry of that server.
+fn try_first(alloc: Global, server: &Server<MemoryKeeper>) -> Result<Tried, Memory> {
+    // By its number and its type the entries of the server are in range.
+    learn(server.server().number());
+    match server.history().first() {
         Some(entry) => try_entry(alloc, entry),
         None => Err(Memory),
     }
+}
+
+/// A keeper keeps the first entry of the payer.
+fn try_commit(alloc: Global) -> Result<Tried, Memory> {
+    let set = set_of(alloc, PAYMENT)?;
+    let payer = boxed(alloc, payer(alloc, &set))?;
+    try_first(alloc, &payer)
 }
 
 /// The keeper is copied.

@@ -3,8 +3,8 @@ ghost use Rattle.lynx_codec.specs.Ranges.{IsAnswerInRange};
 
 use crate::servers::begun;
 use crate::tried::{Called, Tried, done_if, ended, made_again};
-use crate::values::SEED_FORM;
-use lynx_cluster::{CloseFault, Closed, Cluster, Front, Gate, OpenGate, Session};
+use crate::values::SEED_ENCODING;
+use lynx_cluster::{CloseFault, Closed, Cluster, Frontend, Gate, OpenGate, Session};
 use lynx_codec::Looked;
 use lynx_entry::{Answer, Request};
 use lynx_fixtures::made::request;
@@ -59,7 +59,7 @@ impl Desk for Stopped {
 /// Serves a client that asks once. Where memory was wanting, whether the desk wasn't asked.
 fn serve_one(alloc: Global) -> (Called, bool) {
     let mut desk = Stopped { asked: 0 };
-    let mut asked = SEED_FORM;
+    let mut asked = SEED_ENCODING;
     match serve(alloc, &mut asked, &mut io::sink(), &mut desk) {
         Ok(served) if served.answers == 1 && desk.asked == 1 => (Called::Done, true),
         Err(PortFault::Memory) => (Called::Refused, desk.asked == 0),
@@ -78,11 +78,11 @@ fn try_serve(alloc: Global) -> Tried {
 fn begin<R: Wait + Clock, K: BatchKeeper, G: Gate>(
     rt: &R,
     alloc: Global,
-    front: &Front<K, G>,
+    frontend: &Frontend<K, G>,
     session: &mut Session,
 ) -> Result<Called, Memory> {
     let asked = request(alloc, SEED)?;
-    Ok(begun(front.begin(rt, alloc, session, asked)))
+    Ok(begun(frontend.begin(rt, alloc, session, asked)))
 }
 
 /// Two seeds, under different numbers.
@@ -111,12 +111,12 @@ fn all_begun(answers: &[Answer]) -> Called {
 fn begin_together<R: Wait + Clock, K: BatchKeeper, G: Gate>(
     rt: &R,
     alloc: Global,
-    front: &Front<K, G>,
+    frontend: &Frontend<K, G>,
     session: &mut Session,
 ) -> Result<Called, Memory> {
     let requests = seeds(alloc)?;
     let mut answers = Vec::with_capacity(alloc, requests.len())?;
-    front.begin_all(rt, alloc, session, requests, &mut answers);
+    frontend.begin_all(rt, alloc, session, requests, &mut answers);
     Ok(all_begun(answers.as_slice()))
 }
 
@@ -124,13 +124,13 @@ fn begin_together<R: Wait + Clock, K: BatchKeeper, G: Gate>(
 fn begin_together_again<R: Wait + Clock, K: BatchKeeper, G: Gate>(
     rt: &R,
     alloc: Global,
-    front: &Front<K, G>,
+    frontend: &Frontend<K, G>,
     session: &mut Session,
 ) -> Result<Tried, Memory> {
-    match begin_together(rt, alloc, front, session)? {
+    match begin_together(rt, alloc, frontend, session)? {
         Called::Refused => {
             let is_partly = session.told().len() < 2;
-            Ok(made_again(is_partly, begin_together(rt, alloc, front, session)?))
+            Ok(made_again(is_partly, begin_together(rt, alloc, frontend, session)?))
         }
         answered => Ok(ended(answered)),
     }
@@ -140,13 +140,13 @@ fn begin_together_again<R: Wait + Clock, K: BatchKeeper, G: Gate>(
 fn begin_again<R: Wait + Clock, K: BatchKeeper, G: Gate>(
     rt: &R,
     alloc: Global,
-    front: &Front<K, G>,
+    frontend: &Frontend<K, G>,
     session: &mut Session,
 ) -> Result<Tried, Memory> {
-    match begin(rt, alloc, front, session)? {
+    match begin(rt, alloc, frontend, session)? {
         Called::Refused => {
             let is_as_before = session.told().is_empty();
-            Ok(made_again(is_as_before, begin(rt, alloc, front, session)?))
+            Ok(made_again(is_as_before, begin(rt, alloc, frontend, session)?))
         }
         answered => Ok(ended(answered)),
     }
@@ -192,11 +192,11 @@ fn try_begin<R: Threads + Wait + Clock + Copy + Send + 'static>(
     let mut sessions = Vec::new(alloc);
     let mut tried = Err(Memory);
     if let Some(mut session) = cluster.session(&rt, alloc) {
-        let front = cluster.front();
+        let frontend = cluster.frontend();
         tried = if are_two {
-            begin_together_again(&rt, alloc, front, &mut session)
+            begin_together_again(&rt, alloc, frontend, &mut session)
         } else {
-            begin_again(&rt, alloc, front, &mut session)
+            begin_again(&rt, alloc, frontend, &mut session)
         };
         hand_in(&mut sessions, session);
     }

@@ -1,4 +1,4 @@
-//! Calls on cells, shards, entries, held messages, forms and links.
+//! Calls on cells, shards, entries, held messages, encodings and links.
 ghost use Rattle.lynx_codec.specs.Ranges.{IsInRange};
 
 use crate::tried::{Called, Tried, done, done_if, ended, made_again, of_result};
@@ -35,18 +35,18 @@ pub enum ValueCall {
     CopyMessage,
     /// Room is made for messages that are held.
     Held,
-    /// A form is pushed into a feed.
+    /// An encoding is pushed into a feed.
     Push,
     /// The request in it is taken.
     Next,
-    /// The request is written as a form.
+    /// The request is written as an encoding.
     Encode,
     /// Links are made.
     Links,
 }
 
-/// The form of the request for a seed of 100, by the client 1 under its number 1.
-pub const SEED_FORM: &[u8] = &[
+/// The encoding of the request for a seed of 100, by the client 1 under its number 1.
+pub const SEED_ENCODING: &[u8] = &[
     0x01, 0, 0, 0, 0x1a, 0, 0, 0, 0, 0, 0, 0, 1, 0, 0, 0, 0, 0, 0, 0, 1, 0, 1, 0, 0, 0, 0, 0, 0, 0,
     100,
 ];
@@ -179,8 +179,8 @@ fn try_held(alloc: Global) -> Tried {
 
 fn try_push(alloc: Global) -> Result<Tried, Memory> {
     let mut feed = Feed::new(alloc);
-    match of_result(feed.push(SEED_FORM)) {
-        Called::Refused => Ok(made_again(true, of_result(feed.push(SEED_FORM)))),
+    match of_result(feed.push(SEED_ENCODING)) {
+        Called::Refused => Ok(made_again(true, of_result(feed.push(SEED_ENCODING)))),
         answered => Ok(ended(answered)),
     }
 }
@@ -197,19 +197,19 @@ fn next(alloc: Global, feed: &mut Feed) -> Called {
 
 fn try_next(alloc: Global) -> Result<Tried, Memory> {
     let mut feed = Feed::new(alloc);
-    feed.push(SEED_FORM)?;
+    feed.push(SEED_ENCODING)?;
     match next(alloc, &mut feed) {
         Called::Refused => Ok(made_again(true, next(alloc, &mut feed))),
         answered => Ok(ended(answered)),
     }
 }
 
-/// The request is written as a form.
-fn write_form(alloc: Global, item: &Item) -> Called
+/// The request is written as an encoding.
+fn write_encoding(alloc: Global, item: &Item) -> Called
     requires { IsInRange item.now }
 {
     match encode(alloc, item) {
-        Ok(form) => done_if(form.as_slice() == SEED_FORM),
+        Ok(encoding) => done_if(encoding.as_slice() == SEED_ENCODING),
         Err(Memory) => Called::Refused,
     }
 }
@@ -218,15 +218,15 @@ fn write_form(alloc: Global, item: &Item) -> Called
 fn write_again(alloc: Global, item: &Item) -> Tried
     requires { IsInRange item.now }
 {
-    match write_form(alloc, item) {
-        Called::Refused => made_again(true, write_form(alloc, item)),
+    match write_encoding(alloc, item) {
+        Called::Refused => made_again(true, write_encoding(alloc, item)),
         answered => ended(answered),
     }
 }
 
 fn try_encode(alloc: Global) -> Result<Tried, Memory> {
     let mut feed = Feed::new(alloc);
-    feed.push(SEED_FORM)?;
+    feed.push(SEED_ENCODING)?;
     match feed.next(alloc) {
         Ok(Some(item)) => {
             let tried = write_again(alloc, &item);

@@ -5,7 +5,7 @@ use lynx_fixtures::cells::are_cells;
 use lynx_fixtures::made::{boxed, chain, request, server};
 use lynx_fixtures::parts::RequestParts;
 use lynx_fixtures::payments::{PAY, SEED};
-use lynx_fixtures::texts::{PAYMENT, read};
+use lynx_fixtures::texts::{PAYMENT, set_of};
 use lynx_names::{Memory, ServerId, Stamp};
 use lynx_order::explain;
 use lynx_report::owed_hops;
@@ -91,9 +91,9 @@ fn apply(alloc: Global, world: &mut World, event: Result<Event, Memory>) -> Resu
 
 /// A world in which nothing happened yet.
 fn new_world(alloc: Global) -> Result<Box<World>, Memory> {
-    let set = read(alloc, PAYMENT)?;
+    let set = set_of(alloc, PAYMENT)?;
     let keepers = empty_keepers(alloc, &set)?;
-    boxed(alloc, World::new(alloc, set, keepers))
+    boxed(alloc, World::new(alloc, Box::into_inner(set), keepers))
 }
 
 /// What happens in it before the call.

@@ -1,48 +1,53 @@
-//! The forms of a payment, written and read again and again: none is kept, so memory stays small.
+//! The encodings of a payment, written and read again and again: none is kept, so memory stays
+//! small.
 ghost use Rattle.std.specs.Prelude.{◌<◌};
 ghost use Rattle.lynx_codec.specs.Ranges.{IsInRange};
 
-use lynx_codec::limits::MAX_FORM_BYTES;
+use lynx_codec::limits::MAX_ENCODING_BYTES;
 use lynx_codec::{Feed, Item, append};
 use lynx_names::Memory;
 use std::alloc::Global;
 
-/// The form of the entry of the server where a payment of 30 begins, which has the number 7 there
-/// and 5 at the next server.
+/// The encoding of the entry of the server where a payment of 30 begins, which has the number 7
+/// there and 5 at the next server.
 const BEGUN: &[u8] = &[
     34, 0, 0, 0, 79, 0, 0, 0, 0, 0, 0, 0, 1, 0, 0, 0, 0, 0, 0, 0, 8, 0, 1, 0, 0, 0, 0, 0, 0, 0, 30,
     0, 0, 0, 0, 0, 0, 0, 0, 0, 0, 0, 0, 0, 0, 0, 0, 7, 2, 0, 0, 0, 0, 0, 0, 0, 0, 7, 1, 0, 0, 0, 0,
     0, 0, 0, 5, 0, 0, 0, 0, 0, 0, 0, 0, 1, 0, 0, 0, 0, 0, 0, 0, 100,
 ];
 
-/// The form of the message of its second hop.
+/// The encoding of the message of its second hop.
 const SENT: &[u8] = &[
     33, 0, 0, 0, 57, 0, 0, 0, 0, 0, 0, 0, 0, 7, 0, 1, 0, 0, 0, 0, 0, 0, 0, 0, 1, 0, 0, 0, 0, 0, 0,
     0, 30, 2, 0, 0, 0, 0, 0, 0, 0, 0, 7, 1, 0, 0, 0, 0, 0, 0, 0, 5, 1, 1, 0, 0, 0, 0, 0, 0, 0, 100,
 ];
 
-/// The form of the entry of the server where that hop runs.
+/// The encoding of the entry of the server where that hop runs.
 const RAN: &[u8] = &[
     36, 0, 0, 0, 66, 0, 0, 0, 0, 0, 0, 0, 0, 7, 0, 1, 0, 0, 0, 0, 0, 0, 0, 0, 1, 0, 0, 0, 0, 0, 0,
     0, 30, 2, 0, 0, 0, 0, 0, 0, 0, 0, 7, 1, 0, 0, 0, 0, 0, 0, 0, 5, 1, 1, 0, 0, 0, 0, 0, 0, 0, 100,
     0, 0, 0, 0, 0, 0, 0, 0, 0,
 ];
 
-/// Adds the form of an item.
-pub(crate) fn write(item: &Item, out: &mut Vec<u8>) -> Result<(), Memory>
+/// Adds the encoding of an item.
+fn add(item: &Item, out: &mut Vec<u8>) -> Result<(), Memory>
     requires { IsInRange item.now }
 {
-    out.reserve(MAX_FORM_BYTES)?;
+    out.reserve(MAX_ENCODING_BYTES)?;
     append(item, out);
     Ok(())
 }
 
-/// Lets an item go, by one call: that keeps the proofs of those who have it short.
-fn let_go(item: Item) {
-    let _ = item;
+/// Adds the encoding of an item, which is let go then.
+pub(crate) fn write(item: Item, out: &mut Vec<u8>) -> Result<(), Memory>
+    requires { IsInRange item }
+{
+    let written = add(&item, out);
+    drop(item);
+    written
 }
 
-/// How many times an item is written until its forms have so many bytes together.
+/// How many times an item is written until its encodings have so many bytes together.
 fn write_often(item: &Item, out: &mut Vec<u8>, count: u64) -> Result<u64, Memory>
     requires { IsInRange item.now }
 {
@@ -53,7 +58,7 @@ fn write_often(item: &Item, out: &mut Vec<u8>, count: u64) -> Result<u64, Memory
             break;
         }
         out.clear();
-        write(item, out)?;
+        add(item, out)?;
         bytes = bytes.saturating_add(out.len() as u64);
         items = items.wrapping_add(1);
     }
@@ -66,11 +71,11 @@ fn encode_often(alloc: Global, item: Item, count: u64) -> Result<u64, Memory>
 {
     let mut out = Vec::new(alloc);
     let items = write_often(&item, &mut out, count);
-    let_go(item);
+    drop(item);
     items
 }
 
-/// How many messages are written until their forms have so many bytes together.
+/// How many messages are written until their encodings have so many bytes together.
 pub fn encode_all(alloc: Global, count: u64) -> Result<u64, Memory> {
     let mut feed = Feed::new(alloc);
     feed.push(SENT)?;
@@ -81,15 +86,15 @@ pub fn encode_all(alloc: Global, count: u64) -> Result<u64, Memory> {
     }
 }
 
-/// Adds the forms of the two entries and the message.
+/// Adds the encodings of the two entries and the message.
 fn add_round(bytes: &mut Vec<u8>) -> Result<(), Memory> {
-    for form in [BEGUN, SENT, RAN] {
-        bytes.extend_from_slice(form)?;
+    for encoding in [BEGUN, SENT, RAN] {
+        bytes.extend_from_slice(encoding)?;
     }
     Ok(())
 }
 
-/// A round of forms, so often that pieces of that size cut them evenly.
+/// A round of encodings, so often that pieces of that size cut them evenly.
 fn stream(alloc: Global, piece: usize) -> Result<Vec<u8>, Memory> {
     let mut bytes = Vec::new(alloc);
     for _ in 0..piece {
@@ -102,7 +107,7 @@ fn stream(alloc: Global, piece: usize) -> Result<Vec<u8>, Memory> {
 fn take_all(alloc: Global, feed: &mut Feed) -> Result<u64, Memory> {
     for items in 0..u64::MAX {
         match feed.next(alloc) {
-            Ok(Some(item)) => let_go(item),
+            Ok(Some(item)) => drop(item),
             Ok(None) => return Ok(items),
             Err(_) => return Err(Memory),
         }

@@ -2,7 +2,7 @@
 use Rattle.std.specs.Prelude.{◌≡◌, ◌<◌, ◌==◌, ◌&&◌, ℕ, Bool, Option, List, [], ◌∷◌, ◌++◌, length, true, false, codes, nat_lt, option_map, slice_get, unwrap_or}
 use Rattle.std.specs.Io.KnownBytes.{Appends}
 use Rattle.std.specs.List.{list_any}
-use Rattle.lynx_codec.specs.Form.{form}
+use Rattle.lynx_codec.specs.Encoding.{encoding}
 use Rattle.lynx_codec.specs.declared.item.Item.{Item}
 use Rattle.lynx_codec.specs.declared.item.Item.TheVariants.{Request, Look, Quit, Shut}
 use Rattle.lynx_entry.specs.declared.event.Event.{Event}
@@ -89,7 +89,7 @@ abbrev pub waits_in : Set → Asked → Bool
 waits_in set (asks.Look chain hop waits) = waits && may_run set chain hop
 waits_in set other = false
 
--- a begin with more arguments than any program has parameters, which has no byte form
+-- a begin with more arguments than any program has parameters, which has no encoding
 abbrev pub IsTooLong : Asked → FaultKind → Type 0
 IsTooLong (asks.Begin request) fault =
     (fault ≡ LimitPassed) × (MAX_PARAMETERS < length request.args)
@@ -109,10 +109,10 @@ pub record IsSentFirst {S : Type 0} (contents : S → Option (List ℕ)) (bytes 
   pub held : S
   pub sent : Appends (contents old) (contents held) bytes
 
--- the form of the item that a line asks for was so sent
+-- the encoding of the item that a line asks for was so sent
 pub record IsSentFor {S : Type 0} (contents : S → Option (List ℕ)) (set : Set) (line : List ℕ)
     (old : S) : Type 0 where
   pub item : Item
   pub waits : Bool
   pub asked : Sends set line item waits
-  pub first : IsSentFirst contents (form item) old
+  pub first : IsSentFirst contents (encoding item) old

@@ -1,7 +1,7 @@
 //! A talk with a service, line by line.
 ghost use Rattle.std.specs.Prelude.{◌≡◌, ◌⊎◌, ℕ, List, Option, IfOk, OnErr, OnOk};
 ghost use Rattle.std.specs.Io.KnownBytes.{Appends};
-ghost use Rattle.lynx_codec.specs.Form.{form};
+ghost use Rattle.lynx_codec.specs.Encoding.{encoding};
 ghost use Rattle.lynx_codec.specs.Ranges.{IsInRange};
 ghost use Rattle.lynx_ask.specs.Asking.{IsSentFirst, IsSentFor};
 ghost use Rattle.lynx_ask.specs.Replying.{HasReplied, HasStopped, IsHeard, item_line};
@@ -114,28 +114,28 @@ impl AskSession {
             (W.contents writer.new) (item_line answer)) }
         ensures stopped { OnErr result (HasStopped (W.contents writer.old)
             (W.contents writer.new)) }
-        ensures sent { OnOk result (IsSentFirst S.contents (form item.now) stream.old) }
+        ensures sent { OnOk result (IsSentFirst S.contents (encoding item.now) stream.old) }
     {
-        let form = encode(alloc, item)?;
+        let encoding = encode(alloc, item)?;
         let answer = if waits {
-            self.wait_for(rt, alloc, form.as_slice(), stream)?
+            self.wait_for(rt, alloc, encoding.as_slice(), stream)?
         } else {
-            self.answer_to(alloc, form.as_slice(), stream)?
+            self.answer_to(alloc, encoding.as_slice(), stream)?
         };
         write_answer(alloc, &answer, writer)?;
         Ok(answer)
     }
 
-    /// What the service answers to an item of that form.
+    /// What the service answers to an item of that encoding.
     fn answer_to<S: Read + Write>(
         &mut self,
         alloc: Global,
-        form: &[u8],
+        encoding: &[u8],
         stream: &mut S,
     ) -> Result<Item, AskFault>
-        ensures { OnOk result (IsSentFirst S.contents form.now stream.old) }
+        ensures { OnOk result (IsSentFirst S.contents encoding.now stream.old) }
     {
-        if write_bytes(stream, form).is_err() {
+        if write_bytes(stream, encoding).is_err() {
             return Err(AskFault::Lost);
         }
         next_item(alloc, &mut self.feed, stream)
@@ -146,12 +146,12 @@ impl AskSession {
         &mut self,
         rt: &R,
         alloc: Global,
-        form: &[u8],
+        encoding: &[u8],
         stream: &mut S,
     ) -> Result<Item, AskFault>
-        ensures { OnOk result (IsSentFirst S.contents form.now stream.old) }
+        ensures { OnOk result (IsSentFirst S.contents encoding.now stream.old) }
     {
-        let mut answer = self.answer_to(alloc, form, stream)?;
+        let mut answer = self.answer_to(alloc, encoding, stream)?;
         let mut pause = FIRST_PAUSE;
         for _ in 0..PAUSES {
             if !matches!(answer, Item::Looked(Looked::Absent)) {
@@ -159,7 +159,7 @@ impl AskSession {
             }
             sleep(rt, Duration::from_millis(pause));
             pause = pause.saturating_mul(2).min(LONGEST_PAUSE);
-            answer = self.answer_to(alloc, form, stream)?;
+            answer = self.answer_to(alloc, encoding, stream)?;
         }
         Ok(answer)
     }

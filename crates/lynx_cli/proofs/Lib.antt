@@ -1,4 +1,7 @@
+mod Histories
 mod InputLemmas
 mod Judged
 mod Mended
+mod Placing
+mod Restored
 mod Told

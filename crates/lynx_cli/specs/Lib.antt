@@ -3,7 +3,9 @@ pub mod Statuses
 pub mod Done
 pub mod Stopped
 pub mod Mendings
+pub mod Copied
 pub mod Folders
+pub mod Restores
 pub mod Looks
 pub mod Carrying
 pub mod Proposals

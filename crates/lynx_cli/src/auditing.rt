@@ -1,10 +1,14 @@
 //! Audits of the stores of a folder, by copies in memory: the stores are only read.
-ghost use Rattle.std.specs.Prelude.{◌≡◌, ◌⊎◌, IfOk, OnOk, length};
+ghost use Rattle.std.specs.Prelude.{◌≡◌, ◌⊎◌, ℕ, IfOk, IfSome, OnOk, length, slice_get};
+ghost use Rattle.sqlite.specs.Held.{state};
 ghost use Rattle.lynx_service.specs.Faults.{missing_fault, store_fault};
-ghost use Rattle.lynx_cli.specs.Folders.{HasAuditedKeepers, HasListedOwed, HasToldAudit, HasToldOwed, status_of_explained};
+ghost use Rattle.lynx_cli.specs.Copied.{IsCopiedAt};
+ghost use Rattle.lynx_cli.specs.Folders.{HasAuditedFolder, HasAuditedKeepers, HasListedOwed, HasListedOwedIn, status_of_explained};
 ghost use Rattle.lynx_cli.specs.Stopped.{copy_fault, serving_fault};
+ghost use Rattle.lynx_store.specs.Heading.{owner_in};
 ghost use Rattle.lynx_store_files.specs.Paths.{store_path};
 
+use crate::adding::add;
 use crate::fault::Fault;
 use crate::hints::Hints;
 use crate::storing::{WIPED, tell};
@@ -105,7 +109,11 @@ fn keeper_of<'a, C: Rising + Drop, S: Copies<Connection<C>>>(
     folder: &str,
     set: &ChainSet,
     server: ServerId,
-) -> Result<SqlKeeper<C>, Fault<'a>> {
+) -> Result<SqlKeeper<C>, Fault<'a>>
+    ensures { IfOk result (λ keeper. IsCopiedAt S.copied_from (λ conn. state C.Store conn) set.now
+        server (store_path folder.now server) keeper.conn (owner_in keeper.heading)
+        keeper.count) }
+{
     let copy = copy_of(rt, copies, folder, server)?;
     if is_empty(copy.schema()) {
         return Err(Fault::of_lost(server));
@@ -123,14 +131,16 @@ fn keepers_of<'a, C: Rising + Drop, S: Copies<Connection<C>>>(
     folder: &str,
     set: &ChainSet,
 ) -> Result<Vec<SqlKeeper<C>>, Fault<'a>>
-    ensures { IfOk result (λ keepers. length keepers.items ≡ set.now.servers) }
+    ensures many { IfOk result (λ keepers. length keepers.items ≡ set.now.servers) }
+    ensures each { IfOk result (λ keepers. (server : ℕ) → IfSome (slice_get keepers.items server)
+        (λ keeper. IsCopiedAt S.copied_from (λ conn. state C.Store conn) set.now server
+        (store_path folder.now server) keeper.conn (owner_in keeper.heading)
+        keeper.count)) }
 {
     let mut keepers = Vec::new(rt.alloc());
     for number in 0..set.servers() {
         let keeper = keeper_of(rt, copies, folder, set, ServerId::at(number))?;
-        if keepers.push(keeper).is_err() {
-            return Err(Fault::Memory);
-        }
+        add(&mut keepers, keeper)?;
     }
     Ok(keepers)
 }
@@ -141,7 +151,11 @@ pub(crate) fn copied_of<'a, C: Rising + Drop, S: Copies<Connection<C>>>(
     copies: &S,
     folder: &str,
 ) -> Result<Copied<SqlKeeper<C>>, Fault<'a>>
-    ensures { IfOk result (λ copied. length copied.keepers.items ≡ copied.set.servers) }
+    ensures many { IfOk result (λ copied. length copied.keepers.items ≡ copied.set.servers) }
+    ensures each { IfOk result (λ copied. (server : ℕ)
+        → IfSome (slice_get copied.keepers.items server) (λ keeper. IsCopiedAt S.copied_from
+        (λ conn. state C.Store conn) copied.set server (store_path folder.now server)
+        keeper.conn (owner_in keeper.heading) keeper.count)) }
 {
     let set = set_of(rt, copies, folder)?;
     let keepers = keepers_of(rt, copies, folder, &set)?;
@@ -199,7 +213,8 @@ fn audit_copies<'a, C: Rising + Drop, S: Copies<Connection<C>>, W: Write>(
     folder: &str,
     writer: &mut W,
 ) -> Result<u8, Fault<'a>>
-    ensures { IfOk result (HasToldAudit (W.contents writer.old) (W.contents writer.new)) }
+    ensures { IfOk result (HasAuditedFolder S.copied_from (λ conn. state C.Store conn) folder.now
+        (W.contents writer.old) (W.contents writer.new)) }
 {
     let copied = copied_of(rt, copies, folder)?;
     audit_kept(rt.alloc(), copied, writer)
@@ -212,7 +227,8 @@ fn list_owed_of<'a, C: Rising + Drop, S: Copies<Connection<C>>, W: Write>(
     folder: &str,
     writer: &mut W,
 ) -> Result<u8, Fault<'a>>
-    ensures { IfOk result (HasToldOwed (W.contents writer.old) (W.contents writer.new)) }
+    ensures { IfOk result (HasListedOwedIn S.copied_from (λ conn. state C.Store conn) folder.now
+        (W.contents writer.old) (W.contents writer.new)) }
 {
     let copied = copied_of(rt, copies, folder)?;
     list_owed_by(rt.alloc(), copied, writer)
@@ -226,7 +242,8 @@ pub(crate) fn audit_folder<'a, C: Rising + Drop, S: Copies<Connection<C>>, W: Wr
     hints: &mut Hints,
     writer: &mut W,
 ) -> Result<u8, Fault<'a>>
-    ensures { IfOk result (HasToldAudit (W.contents writer.old) (W.contents writer.new)) }
+    ensures { IfOk result (HasAuditedFolder S.copied_from (λ conn. state C.Store conn) folder.now
+        (W.contents writer.old) (W.contents writer.new)) }
 {
     tell(rt, READING);
     let done = audit_copies(rt, copies, folder, writer);
@@ -244,7 +261,8 @@ pub(crate) fn list_owed_in<'a, C: Rising + Drop, S: Copies<Connection<C>>, W: Wr
     hints: &mut Hints,
     writer: &mut W,
 ) -> Result<u8, Fault<'a>>
-    ensures { IfOk result (HasToldOwed (W.contents writer.old) (W.contents writer.new)) }
+    ensures { IfOk result (HasListedOwedIn S.copied_from (λ conn. state C.Store conn) folder.now
+        (W.contents writer.old) (W.contents writer.new)) }
 {
     tell(rt, READING);
     let done = list_owed_of(rt, copies, folder, writer);

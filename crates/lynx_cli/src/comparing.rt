@@ -66,7 +66,7 @@ pub(crate) fn body_behind<'t>(answer: &'t [u8], words: &[u8]) -> Option<&'t [u8]
     body_in(after(answer, words)?)
 }
 
-/// A connection to whoever listens at the port of this machine.
+/// A connection to the program that listens at the port of this machine.
 pub(crate) fn connected<'a, R: Net<Listener = TcpListener, Stream = TcpStream>>(
     host: &HostRuntime,
     rt: &R,

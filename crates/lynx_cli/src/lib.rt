@@ -10,6 +10,7 @@ pub use mending::{MendingView, mend_set};
 pub use source::{InputFault, MAX_FILE_BYTES, MAX_INPUT_BYTES, read_all};
 pub use texts::{chart_script, check_set, draw_set, run_input, run_script, sample_set};
 
+mod adding;
 mod asking;
 mod auditing;
 mod books;

@@ -1,6 +1,6 @@
 //! What the stores of a folder hold that nobody serves, by copies in memory: cells, and what became
 //! of a request. The stores are only read, and not judged.
-ghost use Rattle.std.specs.Prelude.{◌≡◌, ◌∷◌, ◌++◌, [], IfOk, OnOk, Some, option_map};
+ghost use Rattle.std.specs.Prelude.{◌≡◌, IfOk, OnOk, Some, option_map};
 ghost use Rattle.std.specs.Io.KnownBytes.{Appends};
 ghost use Rattle.sqlite.specs.Held.{state};
 ghost use Rattle.lynx_show.specs.Finds.{request_lines};
@@ -8,6 +8,7 @@ ghost use Rattle.lynx_store_files.specs.Paths.{store_path};
 ghost use Rattle.lynx_set.specs.Names.{place_of};
 ghost use Rattle.lynx_cli.specs.Looks.{AreHeld, HasFound, HasRead, IsHeld, IsKeysOf, IsReadAt, found_or_absent, keys_lines, status_of_found};
 
+use crate::adding::add;
 use crate::auditing::{READING, copy_of};
 use crate::fault::Fault;
 use crate::hints::Hints;
@@ -94,14 +95,6 @@ fn first_set<'a, C: Rising + Drop, S: Copies<Connection<C>>>(
     Ok(held.set)
 }
 
-/// One store more.
-fn add(stores: &mut Vec<Inspected>, held: Inspected) -> Result<(), Memory>
-    ensures { OnOk result (stores.new.items ≡ stores.old.items ++ held ∷ []) }
-{
-    stores.push(held)?;
-    Ok(())
-}
-
 /// What the stores of the set's servers in the folder hold.
 fn stores_of<'a, C: Rising + Drop, S: Copies<Connection<C>>>(
     rt: &HostRuntime,
@@ -115,10 +108,7 @@ fn stores_of<'a, C: Rising + Drop, S: Copies<Connection<C>>>(
     let mut stores = Vec::new(rt.alloc());
     for number in 0..set.servers() {
         let held = held_at(rt, copies, folder, set, ServerId::at(number))?;
-        match add(&mut stores, held) {
-            Ok(()) => {}
-            Err(Memory) => return Err(Fault::Memory),
-        }
+        add(&mut stores, held)?;
     }
     Ok(stores)
 }

@@ -1,7 +1,11 @@
 //! New stores of what copies of stores hold together.
-ghost use Rattle.std.specs.Prelude.{IfOk, List};
-ghost use Rattle.lynx_restore.specs.declared.restored.RestoredServer.{RestoredServer};
-ghost use Rattle.lynx_cli.specs.Folders.{HasToldRestored};
+ghost use Rattle.std.specs.Prelude.{◌≡◌, IfOk, Ok, length};
+ghost use Rattle.std.specs.String.{string_bytes};
+ghost use Rattle.sqlite.specs.Held.{state};
+ghost use Rattle.lynx_cli.specs.Restores.{HasRestored, HasToldRestored, RestoresBy, RestoresFound, RestoresHistories, room_of};
+ghost use Rattle.lynx_restore.specs.Longest.{IsRestoredLongest};
+ghost use Rattle.lynx_restore.specs.Restored.{IsRestored};
+ghost use Rattle.lynx_weave.specs.Rebuilt.{histories_in};
 
 use crate::auditing::{Copied, READING, copied_of};
 use crate::books::pass_books;
@@ -11,7 +15,7 @@ use crate::salvaged::{Found, found_in};
 use crate::storing::{WIPED, tell};
 use crate::texts::DONE;
 use lynx_args::RestorePlace;
-use lynx_keep::BatchKeeper;
+use lynx_keep::{BatchKeeper, Keeper};
 use lynx_names::ServerId;
 use lynx_names::limits::MAX_SERVERS;
 use lynx_restore::{
@@ -163,7 +167,9 @@ fn prepare<'a, K, S: Stores<K>>(
     rt: &HostRuntime,
     stores: &S,
     folder: &str,
-) -> Result<String, Fault<'a>> {
+) -> Result<String, Fault<'a>>
+    ensures { IfOk result (λ room. string_bytes room ≡ room_of folder.now) }
+{
     make_folder(rt, folder)?;
     check_vacant(stores, folder)?;
     let Ok(room) = restoring_path(rt.alloc(), folder) else {
@@ -181,7 +187,9 @@ fn moved<'a>(
     room: &str,
     folder: &str,
     made: Result<Restored, RestoreFault>,
-) -> Result<Restored, Fault<'a>> {
+) -> Result<Restored, Fault<'a>>
+    ensures { IfOk result (λ restored. made ≡ Ok restored) }
+{
     let passed = match made {
         Ok(restored) => match pass_books(rt, from, folder) {
             Ok(()) => Ok(restored),
@@ -201,6 +209,42 @@ fn moved<'a>(
     }
 }
 
+/// Makes stores in the folder of what these copies of stores in another hold together.
+fn store_whole<'a, K: Keeper + Drop, L: BatchKeeper + Drop, S: Stores<L>>(
+    rt: &HostRuntime,
+    stores: &S,
+    from: &str,
+    folder: &str,
+    copied: Copied<K>,
+) -> Result<Restored, Fault<'a>>
+    requires { length copied.keepers.items ≡ copied.set.servers }
+    ensures { IfOk result (IsRestored K.terms L.terms S.store_terms (room_of folder.now) copied.set
+        copied.keepers.items) }
+{
+    let Copied { set, keepers } = copied;
+    let room = prepare(rt, stores, folder)?;
+    let made = restore(rt.alloc(), &set, keepers, stores, room.as_str());
+    moved(rt, from, room.as_str(), folder, made)
+}
+
+/// Makes stores in the folder of what was found of the copies in another.
+fn store_found<'a, L: BatchKeeper + Drop, S: Stores<L>>(
+    rt: &HostRuntime,
+    stores: &S,
+    from: &str,
+    folder: &str,
+    found: Found,
+) -> Result<Restored, Fault<'a>>
+    requires { length found.entries.items ≡ found.set.servers }
+    ensures { IfOk result (IsRestoredLongest L.terms S.store_terms (room_of folder.now) found.set
+        (histories_in found.entries.items)) }
+{
+    let Found { set, entries } = found;
+    let room = prepare(rt, stores, folder)?;
+    let made = restore_longest(rt.alloc(), &set, entries, stores, room.as_str());
+    moved(rt, from, room.as_str(), folder, made)
+}
+
 /// Makes stores in the folder of what the copies in another hold together, each of which is whole.
 fn restore_whole<'a, K: BatchKeeper + Drop, C: Rising + Drop, S: Stores<K> + Copies<Connection<C>>>(
     rt: &HostRuntime,
@@ -208,17 +252,13 @@ fn restore_whole<'a, K: BatchKeeper + Drop, C: Rising + Drop, S: Stores<K> + Cop
     from: &str,
     folder: &str,
     hints: &mut Hints,
-) -> Result<Restored, Fault<'a>> {
+) -> Result<Restored, Fault<'a>>
+    ensures { IfOk result (RestoresHistories S.copied_from (λ conn. state C.Store conn) K.terms
+        S.store_terms from.now folder.now) }
+{
     let copied = copied_of(rt, stores, from);
     hints.note_store(rt, from, &copied);
-    let Copied { set, keepers } = copied?;
-    let made = match prepare(rt, stores, folder) {
-        Ok(room) => {
-            let made = restore(rt.alloc(), &set, keepers, stores, room.as_str());
-            moved(rt, from, room.as_str(), folder, made)
-        }
-        Err(fault) => Err(fault),
-    };
+    let made = store_whole(rt, stores, from, folder, copied?);
     hints.note_store(rt, folder, &made);
     made
 }
@@ -230,19 +270,33 @@ fn restore_found<'a, K: BatchKeeper + Drop, C: Rising + Drop, S: Stores<K> + Cop
     from: &str,
     folder: &str,
     hints: &mut Hints,
-) -> Result<Restored, Fault<'a>> {
+) -> Result<Restored, Fault<'a>>
+    ensures { IfOk result (RestoresFound S.copied_from S.uncopied (λ conn. state C.Store conn)
+        K.terms S.store_terms from.now folder.now) }
+{
     let found = found_in(rt.alloc(), stores, from);
     hints.note_store(rt, from, &found);
-    let Found { set, entries } = found?;
-    let made = match prepare(rt, stores, folder) {
-        Ok(room) => {
-            let made = restore_longest(rt.alloc(), &set, entries, stores, room.as_str());
-            moved(rt, from, room.as_str(), folder, made)
-        }
-        Err(fault) => Err(fault),
-    };
+    let made = store_found(rt, stores, from, folder, found?);
     hints.note_store(rt, folder, &made);
     made
+}
+
+/// Makes stores in a folder of what the copies in another hold together, or of what can still be
+/// read of them.
+fn restore_by<'a, K: BatchKeeper + Drop, C: Rising + Drop, S: Stores<K> + Copies<Connection<C>>>(
+    rt: &HostRuntime,
+    stores: &S,
+    place: RestorePlace<'_>,
+    hints: &mut Hints,
+) -> Result<Restored, Fault<'a>>
+    ensures { IfOk result (RestoresBy S.copied_from S.uncopied (λ conn. state C.Store conn) K.terms
+        S.store_terms place.entry.from.now place.entry.folder.now place.entry.longest) }
+{
+    if place.longest {
+        restore_found(rt, stores, place.from, place.folder, hints)
+    } else {
+        restore_whole(rt, stores, place.from, place.folder, hints)
+    }
 }
 
 /// Tells how much was restored of each server.
@@ -278,20 +332,12 @@ pub(crate) fn restore_folder<
     hints: &mut Hints,
     writer: &mut W,
 ) -> Result<u8, Fault<'a>>
-    ensures { IfOk result (λ status. (restored : List RestoredServer)
-        × HasToldRestored restored (W.contents writer.old) (W.contents writer.new) status) }
+    ensures { IfOk result (HasRestored S.copied_from S.uncopied (λ conn. state C.Store conn)
+        K.terms S.store_terms place.entry.from.now place.entry.folder.now place.entry.longest
+        (W.contents writer.old) (W.contents writer.new)) }
 {
-    let RestorePlace {
-        from,
-        folder,
-        longest,
-    } = place;
     tell(rt, READING);
-    let restored = if longest {
-        restore_found(rt, stores, from, folder, hints)
-    } else {
-        restore_whole(rt, stores, from, folder, hints)
-    };
+    let restored = restore_by(rt, stores, place, hints);
     tell(rt, WIPED);
     let restored = restored?;
     hints.note_undone(rt.alloc(), restored.undone.as_slice());

@@ -1,6 +1,12 @@
 //! What can still be read of copies of stores, some of which may be damaged or missing.
-ghost use Rattle.std.specs.Prelude.{◌≡◌, IfOk, length};
+ghost use Rattle.std.specs.Prelude.{◌≡◌, ℕ, IfNone, IfOk, IfSome, length, slice_get};
+ghost use Rattle.sqlite.specs.Held.{state};
+ghost use Rattle.lynx_cli.specs.Copied.{AreFoundIn, IsFound, IsFoundAt, IsLostAt};
+ghost use Rattle.lynx_entry.specs.Entry.{History};
+ghost use Rattle.lynx_store_files.specs.Paths.{store_path};
+ghost use Rattle.lynx_weave.specs.Rebuilt.{histories_in};
 
+use crate::adding::add;
 use crate::fault::Fault;
 use lynx_entry::Entry;
 use lynx_names::ServerId;
@@ -27,7 +33,12 @@ fn copy_of<'a, C, S: Copies<C>>(
     copies: &S,
     folder: &str,
     server: ServerId,
-) -> Result<Option<C>, Fault<'a>> {
+) -> Result<Option<C>, Fault<'a>>
+    ensures copied { IfOk result (λ found. IfSome found
+        (S.copied_from (store_path folder.now server))) }
+    ensures uncopied { IfOk result (λ found. IfNone found
+        (S.uncopied (store_path folder.now server))) }
+{
     let Ok(path) = store_path(alloc, folder, server) else {
         return Err(Fault::Memory);
     };
@@ -45,7 +56,13 @@ fn salvaged_of<'a, C: Rising + Drop, S: Copies<Connection<C>>>(
     copies: &S,
     folder: &str,
     server: ServerId,
-) -> Result<Option<Salvaged>, Fault<'a>> {
+) -> Result<Option<Salvaged>, Fault<'a>>
+    ensures found { IfOk result (λ found. IfSome found (λ held. IsFoundAt S.copied_from
+        (λ conn. state C.Store conn) held.set server (store_path folder.now server)
+        held.entries.items)) }
+    ensures lost { IfOk result (λ found. IfNone found (IsLostAt S.copied_from S.uncopied
+        (λ conn. state C.Store conn) (store_path folder.now server))) }
+{
     let Some(mut copy) = copy_of(alloc, copies, folder, server)? else {
         return Ok(None);
     };
@@ -62,7 +79,10 @@ fn set_of<'a, C: Rising + Drop, S: Copies<Connection<C>>>(
     alloc: Global,
     copies: &S,
     folder: &str,
-) -> Result<ChainSet, Fault<'a>> {
+) -> Result<ChainSet, Fault<'a>>
+    ensures { IfOk result (λ set. (source : ℕ) × ((first : History) × IsFoundAt S.copied_from
+        (λ conn. state C.Store conn) set source (store_path folder.now source) first)) }
+{
     for number in 0..MAX_SERVERS {
         if let Some(found) = salvaged_of(alloc, copies, folder, ServerId::at(number))? {
             return Ok(found.set);
@@ -78,12 +98,35 @@ fn entries_of<'a, C: Rising + Drop, S: Copies<Connection<C>>>(
     folder: &str,
     set: &ChainSet,
     server: ServerId,
-) -> Result<Vec<Entry>, Fault<'a>> {
+) -> Result<Vec<Entry>, Fault<'a>>
+    ensures { IfOk result (λ entries. IsFound S.copied_from S.uncopied (λ conn. state C.Store conn)
+        set.now server (store_path folder.now server) entries.items) }
+{
     match salvaged_of(alloc, copies, folder, server)? {
         Some(found) if found.set.is_same(set) => Ok(found.entries),
         Some(_) => Err(Fault::of_store(server, StoreFault::OtherSet)),
         None => Ok(Vec::new(alloc)),
     }
+}
+
+/// The first entries of the copy of each server of the set.
+fn entries_of_all<'a, C: Rising + Drop, S: Copies<Connection<C>>>(
+    alloc: Global,
+    copies: &S,
+    folder: &str,
+    set: &ChainSet,
+) -> Result<Vec<Vec<Entry>>, Fault<'a>>
+    ensures many { IfOk result (λ all. length all.items ≡ set.now.servers) }
+    ensures each { IfOk result (λ all. (server : ℕ) → IfSome (slice_get all.items server)
+        (λ entries. IsFound S.copied_from S.uncopied (λ conn. state C.Store conn) set.now server
+        (store_path folder.now server) entries.items)) }
+{
+    let mut all = Vec::new(alloc);
+    for number in 0..set.servers() {
+        let entries = entries_of(alloc, copies, folder, set, ServerId::at(number))?;
+        add(&mut all, entries)?;
+    }
+    Ok(all)
 }
 
 /// What can still be read of the copies of stores in the folder. One that is missing, or of which
@@ -93,15 +136,11 @@ pub(crate) fn found_in<'a, C: Rising + Drop, S: Copies<Connection<C>>>(
     copies: &S,
     folder: &str,
 ) -> Result<Found, Fault<'a>>
-    ensures { IfOk result (λ found. length found.entries.items ≡ found.set.servers) }
+    ensures many { IfOk result (λ found. length found.entries.items ≡ found.set.servers) }
+    ensures are { IfOk result (λ found. AreFoundIn S.copied_from S.uncopied
+        (λ conn. state C.Store conn) folder.now found.set (histories_in found.entries.items)) }
 {
     let set = set_of(alloc, copies, folder)?;
-    let mut entries = Vec::new(alloc);
-    for number in 0..set.servers() {
-        let found = entries_of(alloc, copies, folder, &set, ServerId::at(number))?;
-        if entries.push(found).is_err() {
-            return Err(Fault::Memory);
-        }
-    }
+    let entries = entries_of_all(alloc, copies, folder, &set)?;
     Ok(Found { set, entries })
 }

@@ -18,7 +18,7 @@ use crate::texts::{DONE, OFFENDING};
 use lynx_args::{ServeFlags, VERSION};
 use lynx_cluster::{Host, Pace};
 use lynx_keep::BatchKeeper;
-use lynx_notice::Board;
+use lynx_notice::NoticeFile;
 use lynx_order::Explained;
 use lynx_service::{
     Log, LogFault, LogPlace, Progress, ServeFault, Service, StatusPort, serve_stores,
@@ -190,14 +190,14 @@ fn serve_accepted<
         (W.contents writer.new) ended.0) }
 {
     let progress = Progress::new(host, log);
-    let board = Board {
+    let notice = NoticeFile {
         rt: host,
         folder: service.folder,
         set: text,
     };
     let alloc = host.alloc();
     let explained = serve_stores(
-        rt, alloc, set, stores, service, writer, &progress, &board, log,
+        rt, alloc, set, stores, service, writer, &progress, &notice, log,
     )?;
     Ok((status_of_order(&explained), explained))
 }

@@ -18,7 +18,7 @@ loop-number-preserved g c =
     let number = c.loop-number.number in
     let before = c.loop-number.stores.items in
     let held = c.in_ok-held.held in
-    let more = c.in-Ok.ensures in
+    let more = c.in_ok-add.ensures in
     let same : number + 1 ≡ suc number = omega arith in
     let own : held.server ≡ number = c.in_ok-held.ensures.server ∙ c.at.ensures in (
       subst (All (IsHeld g.S.Copies.copied_from (λ conn. state g.C.Store conn) c.args.folder.now c.args.set.now)) (sym more)

@@ -3,7 +3,6 @@
 ghost use Rattle.std.specs.Prelude.{◌≡◌, All, IfOk, IfSome, drop, take};
 ghost use Rattle.lynx_codec.specs.Entries.{IsEntryInRange};
 ghost use Rattle.lynx_resting.specs.Resting.{settled_front, settled_part};
-ghost use Rattle.lynx_rules.specs.Tables.{clock_of};
 ghost use Rattle.lynx_server.specs.Acts.{act_of};
 ghost use Rattle.lynx_cluster.specs.Glances.{AreEntriesFrom, AreLastEntries, IsRecalled, IsSeen, glance_of, last_of};
 ghost use Rattle.lynx_cluster.specs.Looks.{looked_at};
@@ -14,7 +13,7 @@ use lynx_codec::Looked;
 use lynx_entry::Entry;
 use lynx_keep::BatchKeeper;
 use lynx_names::{ChainId, Memory, ServerId, Stamp, TryCopy, Values, learn};
-use lynx_resting::Resting;
+use lynx_resting::{Resting, clock_of};
 use std::alloc::Global;
 use std::sync::Wait;
 
@@ -29,16 +28,6 @@ pub struct Glance {
     pub held: u64,
     /// It answers: its store hasn't failed.
     pub is_running: bool,
-}
-
-/// The stamp of the last entry of a history, 0 where there is none.
-pub(crate) fn clock_of(history: &[Entry]) -> Stamp
-    ensures { result ≡ clock_of history.now }
-{
-    match history.last() {
-        Some(entry) => entry.stamp(),
-        None => Stamp::zero(),
-    }
 }
 
 /// What is seen of the server.

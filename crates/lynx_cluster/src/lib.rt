@@ -34,6 +34,7 @@ pub mod reading;
 pub mod session;
 mod settling;
 pub mod shared_server;
+mod shown;
 mod signals;
 pub mod starting;
 mod submission;

@@ -3,6 +3,7 @@ ghost use Rattle.std.specs.Prelude.{◌≡◌, true};
 ghost use Rattle.lynx_resting.specs.Resting.{settled_front};
 
 use crate::queue::{Mailbox, Queue, Waiting, Word};
+use crate::shown::Shown;
 use crate::signals::Signals;
 use crate::submission::Submission;
 use lynx_keep::BatchKeeper;
@@ -60,6 +61,8 @@ pub(crate) struct SharedServer<K: BatchKeeper> {
     mark: Mutex<Mark>,
     /// Signalled at each settling.
     settled: Condvar,
+    /// What readers have of it.
+    pub(crate) shown: Shown,
     /// Held by one who finds no word in its mailbox until it waits, so that it misses none.
     words: Mutex<()>,
     /// Signalled where words were put in mailboxes: once for all of them, since waking threads one
@@ -83,6 +86,7 @@ impl<K: BatchKeeper> SharedServer<K> {
             moved: Condvar::new(),
             mark: Mutex::new(mark),
             settled: Condvar::new(),
+            shown: Shown::new(),
             words: Mutex::new(()),
             told: Condvar::new(),
         }
@@ -240,11 +244,13 @@ impl<K: BatchKeeper> SharedServer<K> {
         self.entered.load(Ordering::SeqCst) < self.asked.load(Ordering::SeqCst)
     }
 
-    /// Settles all that the server did, and tells those who wait for it.
+    /// Settles all that the server did, shows it to readers, and tells those who wait for it.
     pub(crate) fn settle<R: Wait>(&self, rt: &R, alloc: Global, state: &mut Resting<K>) -> bool
         ensures { result ≡ true → settled_front state.new ≡ state.old.here.history }
     {
+        let waiting = state.waiting();
         let is_settled = state.settle(alloc);
+        self.shown.follow(rt, alloc, state, waiting);
         *self.mark.lock(rt) = state.mark();
         self.settled.notify_all();
         is_settled

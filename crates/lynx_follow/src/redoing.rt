@@ -1,14 +1,13 @@
 //! What entries make of the cells of their server, done again.
-ghost use Rattle.std.specs.Prelude.{◌≡◌, List, ℕ, OnOk, fold};
+ghost use Rattle.std.specs.Prelude.{◌≡◌, OnOk, fold};
 ghost use Rattle.lynx_cells.specs.Database.{Database, applied};
-ghost use Rattle.lynx_hops.specs.Meaning.{meaning};
-ghost use Rattle.lynx_rules.specs.Tables.{after_entry, database_after};
+ghost use Rattle.lynx_rules.specs.Tables.{after_entry};
 ghost use Rattle.lynx_follow.specs.Following.{Notes};
 
 use lynx_cells::{Cells, Changes};
 use lynx_entry::Entry;
-use lynx_hops::{HopFault, run_hop};
-use lynx_names::{Memory, ProgramId, Values};
+use lynx_names::Memory;
+use lynx_resting::changes_of;
 use lynx_set::ChainSet;
 use std::alloc::Global;
 
@@ -35,33 +34,6 @@ fn write(cells: &mut Cells, changes: &mut Changes, more: &Changes) -> Result<(),
     Ok(())
 }
 
-/// Does a hop again, over the cells that it found.
-fn redo_hop(
-    alloc: Global,
-    set: &ChainSet,
-    program: ProgramId,
-    hop: usize,
-    args: &[u64],
-    earlier: &[Values],
-    cells: &mut Cells,
-    changes: &mut Changes,
-) -> Result<(), Memory>
-    ensures cells { OnOk result (cells.new.database
-        ≡ database_after (meaning set.now program hop args.now earlier.now cells.old.database)
-        cells.old.database) }
-    ensures noted { OnOk result (Notes changes.old changes.new cells.old.database
-        cells.new.database) }
-{
-    match run_hop(alloc, set, program, hop, args, earlier, cells) {
-        Ok(ran) => {
-            let (_, more) = ran.spend();
-            write(cells, changes, &more)
-        }
-        Err(HopFault::Refused(_)) => Ok(()),
-        Err(HopFault::Memory) => Err(Memory),
-    }
-}
-
 /// Does again what the entry did.
 fn redo(
     alloc: Global,
@@ -75,35 +47,8 @@ fn redo(
     ensures noted { OnOk result (Notes changes.old changes.new cells.old.database
         cells.new.database) }
 {
-    match entry {
-        Entry::Begun(begun) => {
-            let args = begun.request.args.as_slice();
-            redo_hop(
-                alloc,
-                set,
-                begun.request.program,
-                0,
-                args,
-                &[],
-                cells,
-                changes,
-            )
-        }
-        Entry::Refused(_) => Ok(()),
-        Entry::Hop(ran) => {
-            let message = &ran.message;
-            redo_hop(
-                alloc,
-                set,
-                message.program,
-                usize::from(message.hop),
-                message.args.as_slice(),
-                message.results.as_slice(),
-                cells,
-                changes,
-            )
-        }
-    }
+    let more = changes_of(alloc, set, entry, cells)?;
+    write(cells, changes, &more)
 }
 
 /// Does again what the entries did, one after another, over the cells that they found. What they

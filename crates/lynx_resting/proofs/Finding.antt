@@ -4,13 +4,10 @@ use Rattle.std.specs.Option.{option_or}
 use Rattle.std.specs.Prelude.{IsNone, if◌then◌else◌}
 use Rattle.std.proofs.lemmas.List.{length-take-le, take-append-drop}
 use Rattle.std.proofs.lemmas.List.Folds.{find-append}
-use Rattle.lynx_entry.specs.declared.entry.BegunEntry.{BegunEntry}
 use Rattle.lynx_entry.specs.declared.entry.Entry.{Entry}
 use Rattle.lynx_entry.specs.declared.entry.Entry.TheVariants.{Begun, Refused, Hop}
-use Rattle.lynx_entry.specs.declared.entry.HopEntry.{HopEntry}
-use Rattle.lynx_entry.specs.declared.entry.RefusedEntry.{RefusedEntry}
 use Rattle.lynx_entry.specs.Entry.{History}
-use Rattle.lynx_rules.specs.Lawful.{IsLawful, hop_entry_of, is_hop_of, is_record_of, record_of}
+use Rattle.lynx_rules.specs.Lawful.{IsLawful, is_hop_of, is_record_of}
 use Rattle.lynx_server.specs.Books.{IsFoundAt}
 use Rattle.lynx_server.specs.History.{IsLawfulAfter, IsLawfulHistory}
 use Rattle.lynx_server.proofs.InHistory.{lawful_in}

@@ -1,5 +1,5 @@
 -- What a server owes of what is settled.
-use Rattle.std.proofs.Common.{◌≡◌, ◌≤◌, ◌<◌, [], ◌∷◌, ℕ, zero, suc, List, length, take, slice_get, Option, Some, None, refl, ◌∙◌, arith}
+use Rattle.std.proofs.Common.{◌≡◌, ◌≤◌, ◌<◌, [], ◌∷◌, ℕ, zero, suc, List, length, take, slice_get, Some, None, ◌∙◌, arith}
 use Rattle.std.proofs.lemmas.List.{length-take-le}
 use Rattle.lynx_entry.specs.declared.message.Message.{Message}
 use Rattle.lynx_server.specs.Owed.{IsFirstOwed, IsOwed}

@@ -1,1 +1,2 @@
+pub mod Mirrors
 pub mod Resting

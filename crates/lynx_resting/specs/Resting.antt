@@ -1,5 +1,7 @@
 -- A server of which nobody is told more than is settled.
-use Rattle.std.specs.Prelude.{◌≡◌, ◌≤◌, ℕ, Bool, false, length, take, refl}
+use Rattle.std.specs.Prelude.{◌≡◌, ◌≤◌, ℕ, IfSome, Option, false, length, take, refl}
+use Rattle.std.specs.Arc.{arc_value}
+use Rattle.std.specs.declared.sync.Arc.{Arc}
 use Rattle.std.specs.Coded.{Coded, code_by, coded×, coded_ℕ}
 use Rattle.lynx_entry.specs.Entry.{History}
 use Rattle.lynx_keep.specs.Kept.{Terms}
@@ -7,6 +9,7 @@ use Rattle.lynx_keep.specs.HeldBack.{Holding, RestsBehind, holding_code}
 use Rattle.lynx_server.specs.Keeping.{kept_of}
 use Rattle.lynx_server.specs.Serving.{Serving, serving_code}
 use Rattle.lynx_resting.specs.declared.mark.Mark.{Mark}
+use Rattle.lynx_resting.specs.Mirrors.{IsMirrorOf, MirrorState}
 
 -- a server, and how many of its entries are settled
 pub record RestingState (K : Type 0) : Type 0 where
@@ -34,6 +37,18 @@ pub record Rests {K : Type 0} (terms : Terms K) (here : Serving (Holding K)) (se
   pub rests : here.is_stopped ≡ false → terms.sound here.keeper.inner
       → RestsBehind terms here.keeper (kept_of here.set (take settled here.history))
       (kept_of here.set here.history)
+
+-- the copy of the cells for readers, if there is one, is of the first entries that are settled
+abbrev pub Mirrors : {K Z : Type 0} → Serving (Holding K) → ℕ → Option (Arc MirrorState Z) → Type 0
+Mirrors here settled mirror =
+    IfSome mirror (λ shared. IsMirrorOf here.set here.server (take settled here.history)
+    (arc_value shared))
+
+-- what lies behind the lock of a server
+pub record IsResting {K Z : Type 0} (terms : Terms K) (here : Serving (Holding K)) (settled : ℕ)
+    (mirror : Option (Arc MirrorState Z)) : Type 0 where
+  pub rests : Rests terms here settled
+  pub mirrors : Mirrors here settled mirror
 
 -- how much is settled, and whether it stopped
 abbrev pub mark_of : {K : Type 0} → RestingState K → Mark

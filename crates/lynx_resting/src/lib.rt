@@ -3,10 +3,15 @@
 #![tactic(auto)]
 
 pub use mark::Mark;
+pub use mirror::{Mirror, clock_of};
+pub use redoing::changes_of;
 pub use resting::Resting;
 
 pub mod laws;
 pub mod mark;
+pub mod mirror;
+mod mirroring;
 mod owing;
 mod reading;
+mod redoing;
 pub mod resting;

@@ -10,12 +10,14 @@ ghost use Rattle.lynx_server.specs.Settling.{Settles};
 ghost use Rattle.lynx_resting.specs.Resting.{mark_of, settled_front};
 
 use crate::mark::Mark;
+use crate::mirror::Mirror;
 use lynx_entry::{Answer, Delivered, Entry, Message, Request};
 use lynx_keep::{BatchKeeper, HeldBack};
 use lynx_names::{ChainId, Stamp, learn};
 use lynx_server::{Server, Woken};
 use std::alloc::Global;
 use std::marker::Model;
+use std::sync::Arc;
 
 /// A server as it lies behind its lock, and how many of its entries are settled. What it does is
 /// held back until it settles, all of it in one transaction. What is read of it is the settled
@@ -24,10 +26,11 @@ use std::marker::Model;
 pub struct Resting<K: BatchKeeper> {
     pub(crate) server: Server<HeldBack<K>>,
     pub(crate) settled: usize,
+    pub(crate) mirror: Option<Arc<Mirror>>,
 }
 
 impl<K: BatchKeeper> Model for Resting<K> {
-    ghost use Rattle.lynx_resting.specs.Resting.{RestingState, Rests, resting_code};
+    ghost use Rattle.lynx_resting.specs.Resting.{IsResting, RestingState, resting_code};
 
     ghost Value = { RestingState K };
 
@@ -35,7 +38,8 @@ impl<K: BatchKeeper> Model for Resting<K> {
 
     ghost view = { λ resting. record { here = resting.server; settled = resting.settled } };
 
-    ghost invariant = { λ resting. Rests K.terms resting.server resting.settled };
+    ghost invariant = { λ resting. IsResting K.terms resting.server resting.settled
+        resting.mirror };
 }
 
 impl<K: BatchKeeper> Resting<K> {
@@ -56,6 +60,7 @@ impl<K: BatchKeeper> Resting<K> {
         Resting {
             server: server.hold_back(alloc),
             settled,
+            mirror: None,
         }
     }
 

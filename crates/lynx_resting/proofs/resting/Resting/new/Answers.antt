@@ -21,8 +21,9 @@ invariant_of-result g c =
       acknowledged = old.acknowledged;
       keeper = record { inner = old.keeper; waiting = []; changes = map.empty; faults = 0 };
     } in
-    subst (λ (n : ℕ). Rests terms c.hold_back.result n) (ap length (sym c.history-settled.ensures.value))
+    let rests = subst (λ (n : ℕ). Rests terms c.hold_back.result n) (ap length (sym c.history-settled.ensures.value))
     (subst (λ (s : Serving (Holding g.row.K.Denot)). Rests terms s (length old.history)) (sym c.hold_back.ensures)
     (rests_whole terms here
     (λ runs sound. subst (λ (k : g.row.K.Denot). terms.keeps k (kept_of old.set old.history)) c.keeper.ensures.value
-    (c.keeper.ensures.kept runs (subst terms.sound (sym c.keeper.ensures.value) sound))) refl refl))
+    (c.keeper.ensures.kept runs (subst terms.sound (sym c.keeper.ensures.value) sound))) refl refl)) in
+    record { rests = rests; mirrors = tt }

@@ -1,4 +1,4 @@
-use Rattle.std.proofs.Common.{ℕ, Option, Some, None, ap, subst, sym}
+use Rattle.std.proofs.Common.{ℕ, Option, Some, None, subst, sym}
 use Rattle.lynx_server.specs.Acts.{act_of, is_act}
 use Rattle.lynx_server.specs.Books.{IsFoundAt}
 use Rattle.lynx_resting.specs.Resting.{RestingState, settled_front}
@@ -17,7 +17,7 @@ pub returns-then-place-self : goal.returns-then-place-self
 returns-then-place-self g c =
     let here = c.self.inside.server in
     subst (λ (r : RestingState g.row.K.Denot). IsFoundAt (settled_front r) (Some c.in_ok-place.place) (act_of c.args.chain c.args.hop (settled_front r))) c.self.view_is
-    (place_settled here.history (is_act c.args.chain c.args.hop) c.self.inside.settled c.in_ok-place.place c.self.invariant.within c.if-place-self.true c.in_ok-place.ensures)
+    (place_settled here.history (is_act c.args.chain c.args.hop) c.self.inside.settled c.in_ok-place.place c.self.invariant.rests.within c.if-place-self.true c.in_ok-place.ensures)
 
 pub returns-else-place-self : goal.returns-else-place-self
 returns-else-place-self g c =

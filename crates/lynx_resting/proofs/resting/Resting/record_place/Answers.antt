@@ -1,4 +1,4 @@
-use Rattle.std.proofs.Common.{ℕ, Option, Some, None, ap, subst, sym}
+use Rattle.std.proofs.Common.{ℕ, Option, Some, None, subst, sym}
 use Rattle.lynx_rules.specs.Lawful.{is_record_of, record_of}
 use Rattle.lynx_server.specs.Books.{IsFoundAt}
 use Rattle.lynx_resting.specs.Resting.{RestingState, settled_front}
@@ -23,4 +23,4 @@ pub returns : goal.returns
 returns g c =
     let here = c.self.inside.server in
     subst (λ (r : RestingState g.row.K.Denot). IsFoundAt (settled_front r) (Some c.in_ok-place.place) (record_of c.args.request.now (settled_front r))) c.self.view_is
-    (place_settled here.history (is_record_of c.args.request.now) c.self.inside.settled c.in_ok-place.place c.self.invariant.within c.if-self-place.false c.in_ok-place.ensures)
+    (place_settled here.history (is_record_of c.args.request.now) c.self.inside.settled c.in_ok-place.place c.self.invariant.rests.within c.if-self-place.false c.in_ok-place.ensures)

@@ -13,6 +13,8 @@ mod held;
 #[cfg(test)]
 mod judged;
 #[cfg(test)]
+mod mirrors;
+#[cfg(test)]
 mod ninth;
 #[cfg(test)]
 mod payments;

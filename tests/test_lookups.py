@@ -500,14 +500,18 @@ def test_owed(tally, program):
         tally.holds("it was owed", len(set(seen)) > 1)
 
 
+@pytest.mark.parametrize("looks", (0, 40))
 @pytest.mark.parametrize("server", (0, 1))
-def test_stopped(tally, program, server):
-    """A server whose store fails: its cells aren't told, and those of the other one are."""
+def test_stopped(tally, program, server, looks):
+    """A server whose store fails: its cells aren't told, and those of the other one are; also where many were read before, which are
+    read of a copy."""
     with Room(PAYMENT) as room:
         strain, known = Strain(room), Known(reference.Set(PAYMENT))
         with WatchedService(program, room, env=strain.env) as service, Kept(service) as kept:
             with lynx.Client(room.stores, client=1, first=1, tries=1) as bank:
                 tally.holds("a payment", done(bank, known, "seed", 100) and done(bank, known, "pay", 30))
+                for path in ("/cells/acct/0", "/cells/acct/1000") * looks:
+                    tally.is_same(f"{path} before", kept.get(path), known.answer(path))
                 strain.set(fail=f"/stores/server-{server}.lynx")
                 try:
                     answer = bank.begin("pay", 5)

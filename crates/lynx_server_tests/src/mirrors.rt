@@ -1,5 +1,5 @@
-//! The mirror of a server's cells: made where nothing waits, brought up to each settling, and let go
-//! where somebody else still has it.
+//! The mirror of a server's cells: made where nothing waits, brought up to each settling, and let
+//! go where somebody else still has it.
 use lynx_fixtures::cells::{Cell, are_cells};
 use lynx_fixtures::made::request;
 use lynx_fixtures::parts::RequestParts;

@@ -1,5 +1,5 @@
-/* reads PORT STATUS-PORT PAYERS SECONDS PATH: payers that each begin one chain after the other, and, where PATH isn't "-", one reader
-   that gets PATH again and again over one kept connection. It prints begins and reads a second. */
+/* reads PORT STATUS-PORT PAYERS SECONDS PATH [RATE]: payers that each begin one chain after the other, and, where PATH isn't "-", one
+   reader that gets PATH again and again over one kept connection, RATE times a second at most. It prints begins and reads a second. */
 #include <netinet/in.h>
 #include <netinet/tcp.h>
 #include <pthread.h>
@@ -14,7 +14,7 @@
 enum { HEAD = 5, REQUEST = 31, MOST = 65536, PAYERS = 256 };
 
 static int port, status_port;
-static double until;
+static double until, rate;
 static const char *path;
 static uint64_t first;
 
@@ -95,8 +95,13 @@ static void *look(void *unused) {
   char request[1024], answer[MOST];
   int line = connected(status_port), count = snprintf(request, sizeof request, "GET %s HTTP/1.1\r\nHost: 127.0.0.1:%d\r\n\r\n", path, status_port);
   uint64_t reads = 0;
+  double since = now(), time;
   (void)unused;
-  while (now() < until) {
+  while ((time = now()) < until) {
+    if (rate > 0 && (double)reads > (time - since) * rate) {
+      usleep(1000);
+      continue;
+    }
     send_all(line, request, (size_t)count);
     receive_answer(line, answer);
     reads++;
@@ -108,12 +113,13 @@ static void *look(void *unused) {
 int main(int count, char **words) {
   pthread_t payers[PAYERS], reader;
   void *done;
-  if (count != 6) {
-    fputs("reads PORT STATUS-PORT PAYERS SECONDS PATH\n", stderr);
+  if (count != 6 && count != 7) {
+    fputs("reads PORT STATUS-PORT PAYERS SECONDS PATH [RATE]\n", stderr);
     return 2;
   }
   int paying = atoi(words[3]), seconds = atoi(words[4]);
   port = atoi(words[1]), status_port = atoi(words[2]), path = words[5];
+  rate = count == 7 ? atof(words[6]) : 0;
   first = (uint64_t)getpid() << 16;
   double since = now();
   until = since + seconds;

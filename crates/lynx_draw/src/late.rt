@@ -1,12 +1,11 @@
 //! The blocks that stand in the way of an offending set, and what they meet.
-ghost use Rattle.std.specs.Prelude.{◌≡◌, ◌++◌, IfOk, filter};
-ghost use Rattle.std.specs.List.{flat_map};
+ghost use Rattle.std.specs.Prelude.{◌≡◌, IfOk};
 ghost use Rattle.lynx_graph.specs.Edges.{edges_of};
 ghost use Rattle.lynx_draw.specs.Late.{blocks_in, hops_met, is_end, is_late, is_met, late_of};
 
 use lynx_check::Verdict;
-use lynx_graph::{Block, Edge, Place, places_of};
-use lynx_late::{entrance_of, exit_of, hops_abroad, late_blocks};
+use lynx_graph::{Block, Edge, Place, entrance_of, exit_of, places_of};
+use lynx_late::{hops_abroad, late_blocks};
 use lynx_names::{Items, Memory, ProgramId};
 use lynx_set::ChainSet;
 use std::alloc::Global;

@@ -10,7 +10,7 @@ use lynx_names::{ProgramId, ServerId};
 use lynx_set::{ChainSet, Hop};
 
 /// The hop at which the block is entered.
-pub(crate) fn entrance_of(block: &Block) -> Place
+pub fn entrance_of(block: &Block) -> Place
     ensures { result ≡ entrance_of block.now }
 {
     match *block {
@@ -30,7 +30,7 @@ pub(crate) fn entrance_of(block: &Block) -> Place
 }
 
 /// The hop by which the block is left.
-pub(crate) fn exit_of(block: &Block) -> Place
+pub fn exit_of(block: &Block) -> Place
     ensures { result ≡ exit_of block.now }
 {
     match *block {

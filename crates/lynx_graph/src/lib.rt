@@ -4,7 +4,7 @@
 #![tactic(auto)]
 
 pub use block::{Block, BlockWalk};
-pub use block_holds::blocks_hold;
+pub use block_holds::{blocks_hold, entrance_of, exit_of};
 pub use edges::{Edge, conflict_edges};
 pub use groups::{begin_at_one_server, group_of, leaders_of};
 pub use holds::walk_holds;

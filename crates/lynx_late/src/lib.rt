@@ -5,9 +5,7 @@
 
 pub use abroad::{hops_abroad, reaches_abroad};
 pub use blocks::late_blocks;
-pub use ends::{entrance_of, exit_of};
 
 pub mod abroad;
 pub mod blocks;
-pub mod ends;
 pub mod laws;

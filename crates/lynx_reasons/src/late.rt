@@ -1,15 +1,14 @@
 //! The lines of blocks that are late, and of the hops of other origins that they meet.
 
 ghost use Rattle.std.specs.Prelude.{◌≡◌, ◌++◌, All, IfOk, OnOk};
-ghost use Rattle.std.specs.List.{flat_map};
 ghost use Rattle.lynx_set.specs.Rules.{IsSet};
 ghost use Rattle.lynx_graph.specs.Edges.{edges_of};
 ghost use Rattle.lynx_reasons.specs.Late.{abroad_line, abroad_lines, exit_text, late_line, late_lines, late_text};
 ghost use Rattle.lynx_reasons.specs.inner.Tellings.{IsTold};
 
 use crate::meets::{put_hop_lines, put_pair, put_place};
-use lynx_graph::{Block, Edge, Place, places_of};
-use lynx_late::{entrance_of, exit_of, hops_abroad, late_blocks};
+use lynx_graph::{Block, Edge, Place, entrance_of, exit_of, places_of};
+use lynx_late::{hops_abroad, late_blocks};
 use lynx_names::{Items, Memory};
 use lynx_set::ChainSet;
 use lynx_text::printing::put_number;

@@ -12,8 +12,8 @@ ghost use Rattle.lynx_reasons.specs.inner.Sifts.{AreOfAbroad, IsEnd, IsSift, is_
 
 use crate::culprit::Culprit;
 use crate::joining::Joining;
-use lynx_graph::{Block, Edge, Place, places_of};
-use lynx_late::{entrance_of, exit_of, hops_abroad, late_blocks};
+use lynx_graph::{Block, Edge, Place, entrance_of, exit_of, places_of};
+use lynx_late::{hops_abroad, late_blocks};
 use lynx_names::{Items, Memory, ProgramId};
 use lynx_set::ChainSet;
 use std::alloc::Global;

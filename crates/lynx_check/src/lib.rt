@@ -17,3 +17,4 @@ mod search;
 mod shortest;
 mod tracing;
 pub mod verdict;
+mod walks;

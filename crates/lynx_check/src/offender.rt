@@ -5,48 +5,21 @@ ghost use Rattle.lynx_graph.specs.Nodes.{nodes_of as all_nodes};
 
 use crate::parts::some_part_offends;
 use crate::shortest::shortest;
+use crate::walks::{Map, least_walk};
 use lynx_graph::holds::walk_holds;
 use lynx_graph::nodes::{Node, nodes_of};
-use lynx_graph::visit::{Visit, Walk};
-use lynx_names::{Items, Memory};
+use lynx_graph::visit::Walk;
+use lynx_names::Memory;
 use lynx_set::ChainSet;
-use lynx_walk_search::{FoundVisit, Map, least_walk};
 use std::alloc::Global;
-
-fn map_of(alloc: Global, nodes: &[Node]) -> Result<Map, Memory> {
-    let mut map = Map::new(alloc);
-    for node in nodes {
-        let place = node.place;
-        map.add(
-            place.program,
-            place.hop,
-            node.origin,
-            node.neighbours.as_slice(),
-        )?;
-    }
-    Ok(map)
-}
-
-fn walk_of(alloc: Global, steps: &[FoundVisit]) -> Result<Walk, Memory> {
-    let mut walk = Items::new(alloc);
-    for step in steps {
-        walk.push(Visit {
-            program: step.program,
-            entered: step.entered,
-            left: step.left,
-        })?;
-    }
-    Ok(walk)
-}
 
 /// The walk that the search finds, if it offends.
 fn found_walk(alloc: Global, set: &ChainSet, map: &Map) -> Result<Option<Walk>, Memory>
     ensures { IfOk result (λ found. IfSome found (IsOffending set.now)) }
 {
-    let Some(steps) = least_walk(alloc, map)? else {
+    let Some(walk) = least_walk(alloc, map)? else {
         return Ok(None);
     };
-    let walk = walk_of(alloc, steps.as_slice())?;
     if walk_holds(set, &walk) {
         Ok(Some(walk))
     } else {
@@ -60,7 +33,7 @@ pub fn search_walk(alloc: Global, set: &ChainSet) -> Result<Option<Walk>, Memory
     ensures { IfOk result (λ found. IfSome found (IsOffending set.now)) }
 {
     let nodes = nodes_of(alloc, set)?;
-    let map = map_of(alloc, nodes.as_slice())?;
+    let map = Map::of(alloc, nodes.as_slice())?;
     found_walk(alloc, set, &map)
 }
 
@@ -74,7 +47,7 @@ pub(crate) fn offending_walk(
     ensures { IfOk result (λ found. MatchOption found (NoWalkOffends set.now)
         (IsOffending set.now)) }
 {
-    let map = map_of(alloc, nodes)?;
+    let map = Map::of(alloc, nodes)?;
     let parts = map.parts(alloc)?;
     if !some_part_offends(nodes, parts.as_slice()) {
         return Ok(None);

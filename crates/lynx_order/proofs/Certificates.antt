@@ -5,7 +5,7 @@ use Rattle.std.proofs.lemmas.Bool.Decides.{eqb_tells}
 use Rattle.std.proofs.lemmas.Option.{slice_get-get_or, slice_get_within}
 use Rattle.lynx_foot.specs.Kinds.{commute}
 use Rattle.lynx_foot.specs.Tests.{collide}
-use Rattle.lynx_order_search.specs.declared.touched.ChainTouch.{ChainTouch}
+use Rattle.lynx_order.specs.declared.search.touched.ChainTouch.{ChainTouch}
 use Rattle.lynx_world.proofs.Once.{both}
 use Rattle.lynx_order.specs.declared.rising.Sweep.{Sweep}
 use Rattle.lynx_order.specs.Lists.{IsIn, AreDifferent, StandsBefore}

@@ -18,8 +18,8 @@ use Rattle.lynx_foot.proofs.Decides.{Decides-some_collide}
 use Rattle.lynx_entry.specs.declared.entry.Entry.{Entry}
 use Rattle.lynx_entry.specs.declared.entry.Entry.TheVariants.{Begun, Refused, Hop as HopRan}
 use Rattle.lynx_rules.specs.Deliveries.{same_chain}
-use Rattle.lynx_order_search.specs.declared.candidate.Link.{Link}
-use Rattle.lynx_order_search.specs.declared.touched.ChainTouch.{ChainTouch}
+use Rattle.lynx_order.specs.declared.search.candidate.Link.{Link}
+use Rattle.lynx_order.specs.declared.search.touched.ChainTouch.{ChainTouch}
 use Rattle.lynx_world.specs.Placed.{Placed}
 use Rattle.lynx_world.specs.Legal.{IsLegal}
 use Rattle.lynx_world.proofs.Once.{same_name}

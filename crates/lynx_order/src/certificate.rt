@@ -4,8 +4,8 @@ ghost use Rattle.lynx_order.specs.inner.Certificates.{HoldsOrder};
 
 use crate::ranks::{inverts, ranks_of};
 use crate::rising::rise;
+use crate::search::ChainTouch;
 use lynx_names::Memory;
-use lynx_order_search::ChainTouch;
 use std::alloc::Global;
 
 /// Whether the order has each of so many chains once, each before those that touch the same cell

@@ -1,5 +1,5 @@
 //! A cycle among chains that are left, where none of them is free.
-ghost use Rattle.std.specs.Prelude.{◌≡◌, ◌<◌, ℕ, length, All, IfOk, IfSome};
+ghost use Rattle.std.specs.Prelude.{◌≡◌, ◌<◌, length, All, IfOk, IfSome};
 ghost use Rattle.std.specs.List.{Contains};
 ghost use Rattle.lynx_order.specs.Lists.{IsIn};
 ghost use Rattle.lynx_order.specs.inner.Picks.{IsClosed, IsMarked, IsPart, IsRound, IsSquare, LeftBefore, NoneFree};

@@ -20,5 +20,6 @@ mod picked;
 mod picks;
 mod ranks;
 mod rising;
+mod search;
 mod table;
 pub mod touching;

@@ -7,10 +7,10 @@ ghost use Rattle.lynx_order.specs.inner.ChainsAt.{chain_at};
 ghost use Rattle.lynx_order.specs.inner.Links.{EachPrecedes, PrecedesNext, chain_of, touches_of_placed};
 
 use crate::ranks::{inverts, ranks_of};
+use crate::search::Link;
 use crate::touching::{any_collide, touches_in};
 use lynx_foot::Touch;
 use lynx_names::{ChainId, Items, Memory};
-use lynx_order_search::Link;
 use lynx_set::ChainSet;
 use lynx_world::World;
 use std::alloc::Global;

@@ -1,16 +1,16 @@
 //! The touches of all chains in one list.
-ghost use Rattle.std.specs.Prelude.{◌≡◌, ◌++◌, Some, map, IfOk, IfSome, OnOk, slice_get};
+ghost use Rattle.std.specs.Prelude.{◌≡◌, ◌++◌, Some, IfOk, IfSome, OnOk};
 ghost use Rattle.lynx_order.specs.Precedence.{touches_in};
 ghost use Rattle.lynx_order.specs.inner.Certificates.{HasTouches};
 ghost use Rattle.lynx_order.specs.inner.Listing.{chain_in, chain_touches};
 
 use crate::by_origin::{place_of, places_by_origin};
 use crate::listed::entry_at;
+use crate::search::ChainTouch;
 use crate::touching::touches_in;
 use lynx_entry::Entry;
 use lynx_foot::Touch;
 use lynx_names::{ChainId, Memory};
-use lynx_order_search::ChainTouch;
 use lynx_set::ChainSet;
 use lynx_world::World;
 use std::alloc::Global;

@@ -1,9 +1,9 @@
 //! Whether ranks rise along the touches of each cell.
-ghost use Rattle.std.specs.Prelude.{◌≡◌, ◌↔◌, IsTrue, IfSome, slice_index_or};
+ghost use Rattle.std.specs.Prelude.{◌≡◌, ◌↔◌, IsTrue, IfSome};
 ghost use Rattle.lynx_order.specs.inner.Certificates.{MayFollow, IsCounted, IsNoLater, IsOfCell, Rise, rank_at};
 
+use crate::search::ChainTouch;
 use lynx_foot::Kind;
-use lynx_order_search::ChainTouch;
 
 /// The greatest rank of the chains that touched a cell in each way, 0 where none did.
 #[derive(Clone, Copy)]

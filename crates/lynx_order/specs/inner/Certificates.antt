@@ -6,7 +6,7 @@ use Rattle.lynx_foot.specs.declared.kind.Kind.{Kind}
 use Rattle.lynx_foot.specs.declared.kind.Kind.TheVariants.{Getting, Setting, Adding, Raising}
 use Rattle.lynx_foot.specs.declared.touch.Touch.{Touch}
 use Rattle.lynx_foot.specs.Tests.{collide}
-use Rattle.lynx_order_search.specs.declared.touched.ChainTouch.{ChainTouch}
+use Rattle.lynx_order.specs.declared.search.touched.ChainTouch.{ChainTouch}
 use Rattle.lynx_world.specs.Placed.{Placed}
 use Rattle.lynx_order.specs.declared.rising.Greatest.{Greatest}
 use Rattle.lynx_order.specs.declared.rising.Sweep.{Sweep}

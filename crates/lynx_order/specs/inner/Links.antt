@@ -4,7 +4,7 @@ use Rattle.std.specs.Option.{unwrap_or}
 use Rattle.lynx_names.specs.declared.chain.ChainId.{ChainId}
 use Rattle.lynx_set.specs.Set.{Set}
 use Rattle.lynx_foot.specs.declared.touch.Touch.{Touch}
-use Rattle.lynx_order_search.specs.declared.candidate.Link.{Link}
+use Rattle.lynx_order.specs.declared.search.candidate.Link.{Link}
 use Rattle.lynx_world.specs.Placed.{Placed}
 use Rattle.lynx_order.specs.Precedence.{Precedes, touches_in}
 use Rattle.lynx_order.specs.inner.ChainsAt.{chain_at}

@@ -4,7 +4,7 @@ use Rattle.lynx_names.specs.declared.chain.ChainId.{ChainId}
 use Rattle.lynx_entry.specs.declared.entry.Entry.{Entry}
 use Rattle.lynx_entry.specs.declared.entry.Entry.TheVariants.{Begun, Refused, Hop}
 use Rattle.lynx_foot.specs.declared.touch.Touch.{Touch}
-use Rattle.lynx_order_search.specs.declared.touched.ChainTouch.{ChainTouch}
+use Rattle.lynx_order.specs.declared.search.touched.ChainTouch.{ChainTouch}
 
 -- the chain of which the entry is a hop
 abbrev pub chain_in : Entry → Option ChainId

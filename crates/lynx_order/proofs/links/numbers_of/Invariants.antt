@@ -1,5 +1,5 @@
 use Rattle.std.proofs.Common.{◌≡◌, map, take}
-use Rattle.lynx_order_search.specs.declared.candidate.Link.{Link}
+use Rattle.lynx_order.specs.declared.search.candidate.Link.{Link}
 use Rattle.lynx_order.proofs.links.numbers_of.Given as goal
 
 abbrev pub invariant-loop-link : goal.invariant-loop-link

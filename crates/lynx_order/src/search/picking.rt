@@ -1,5 +1,5 @@
 //! Chains one after another, each when no node is left that has an edge to it.
-use crate::adjacency::Adjacency;
+use crate::search::adjacency::Adjacency;
 use lynx_names::{Items, Memory};
 use std::alloc::Global;
 use std::cmp::Reverse;

@@ -1,7 +1,7 @@
 //! From which arrivals a walk can be closed, level by level of further visits.
-use crate::map::{Map, Node};
-use crate::marks::{Marks, WAYS};
-use crate::row::Row;
+use crate::walks::map::{Map, Node};
+use crate::walks::marks::{Marks, WAYS};
+use crate::walks::row::Row;
 use lynx_names::{Items, Memory};
 use std::alloc::Global;
 

@@ -3,7 +3,7 @@ use lynx_names::TableId;
 
 /// A touch of a chain. Chains have the numbers of their places among those that began.
 #[derive(Clone, Copy, Debug)]
-pub struct ChainTouch {
+pub(crate) struct ChainTouch {
     pub touch: Touch,
     pub chain: usize,
     /// Where the entry of the touching hop stands in the list.

@@ -1,7 +1,7 @@
 //! Stretches of touches of one cell that commute with each other. Each stretch precedes the one
 //! behind it, and through that one all that come after, so edges between neighbours say all.
-use crate::edges::Edges;
-use crate::touched::ChainTouch;
+use crate::search::edges::Edges;
+use crate::search::touched::ChainTouch;
 use lynx_names::Memory;
 use std::alloc::Global;
 use std::mem;

@@ -1,8 +1,8 @@
 //! The least walk, read off the levels of its start.
-use crate::map::{Map, Node};
-use crate::marks::Marks;
-use crate::row::Row;
-use crate::searching::FoundVisit;
+use crate::walks::map::{Map, Node};
+use crate::walks::marks::Marks;
+use crate::walks::row::Row;
+use lynx_graph::visit::{Visit, Walk};
 use lynx_names::{Items, Memory};
 use std::alloc::Global;
 
@@ -32,7 +32,7 @@ fn step_from(
     start: &Node,
     level: &Marks,
     arrival: &Arrival,
-) -> Option<(FoundVisit, Arrival)> {
+) -> Option<(Visit, Arrival)> {
     let here = map.node(arrival.place)?;
     let abroad = arrival.abroad || here.origin != start.origin;
     let mut exits = map.hops_of(here.program);
@@ -40,7 +40,7 @@ fn step_from(
         let exit = map.node(exits.take_first()?)?;
         let crossed = arrival.crossed || exit.hop != here.hop;
         if let Some(next) = arrival_after(level, exit, crossed, abroad) {
-            let step = FoundVisit {
+            let step = Visit {
                 program: here.program,
                 entered: here.hop,
                 left: exit.hop,
@@ -58,7 +58,7 @@ pub(crate) fn read_walk(
     map: &Map,
     start: &Node,
     levels: &[Marks],
-) -> Result<Option<Items<FoundVisit>>, Memory> {
+) -> Result<Option<Walk>, Memory> {
     let mut steps = Vec::new(alloc);
     let Some(mut arrival) = levels
         .last()
@@ -79,7 +79,7 @@ pub(crate) fn read_walk(
     let Some(last) = map.node(arrival.place) else {
         return Ok(None);
     };
-    let first = FoundVisit {
+    let first = Visit {
         program: start.program,
         entered: last.hop,
         left: start.hop,

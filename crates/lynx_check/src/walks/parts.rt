@@ -1,6 +1,6 @@
 //! The parts of a map: hops of one program are in one part, and so are hops that may conflict.
-use crate::map::{Map, Node};
-use crate::row::Row;
+use crate::walks::map::{Map, Node};
+use crate::walks::row::Row;
 use lynx_names::Memory;
 use std::alloc::Global;
 
@@ -29,7 +29,7 @@ impl Map {
     }
 
     /// For each hop the first hop of its part.
-    pub fn parts(&self, alloc: Global) -> Result<Vec<usize>, Memory> {
+    pub(crate) fn parts(&self, alloc: Global) -> Result<Vec<usize>, Memory> {
         let mut parts = Vec::new(alloc);
         for place in 0..self.nodes.len() {
             parts.push(place)?;

@@ -1,5 +1,5 @@
 //! For each chain that is left the first of those that are left and precede it.
-use crate::touched::ChainTouch;
+use crate::search::touched::ChainTouch;
 use lynx_foot::Kind;
 use lynx_names::Memory;
 use std::alloc::Global;

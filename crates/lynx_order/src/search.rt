@@ -1,17 +1,15 @@
 //! A search for an order of chains, or for a cycle among them, by what they touched. What it finds
 //! is a guess: nothing is promised of it, and who asks looks whether it holds.
-#![tactic(auto)]
-
-pub use candidate::{Candidate, Link};
-pub use searching::search;
-pub use touched::ChainTouch;
+pub(crate) use candidate::{Candidate, Link};
+pub(crate) use searching::search;
+pub(crate) use touched::ChainTouch;
 
 mod adjacency;
-pub mod candidate;
+pub(crate) mod candidate;
 mod edges;
 mod nearest;
 mod picking;
 mod round;
-pub mod searching;
+mod searching;
 mod stretches;
-pub mod touched;
+pub(crate) mod touched;

@@ -1,6 +1,6 @@
 //! The cycle to which the way back from a chain comes.
-use crate::candidate::Link;
-use crate::nearest::Predecessor;
+use crate::search::candidate::Link;
+use crate::search::nearest::Predecessor;
 use lynx_names::{Items, Memory};
 use std::alloc::Global;
 

@@ -1,10 +1,10 @@
-use crate::adjacency::{Adjacency, degrees_of};
-use crate::candidate::Candidate;
-use crate::nearest::predecessors;
-use crate::picking::pick;
-use crate::round::cycle_from;
-use crate::stretches::edges_of;
-use crate::touched::ChainTouch;
+use crate::search::adjacency::{Adjacency, degrees_of};
+use crate::search::candidate::Candidate;
+use crate::search::nearest::predecessors;
+use crate::search::picking::pick;
+use crate::search::round::cycle_from;
+use crate::search::stretches::edges_of;
+use crate::search::touched::ChainTouch;
 use lynx_names::{Items, Memory};
 use std::alloc::Global;
 
@@ -36,7 +36,11 @@ fn order_of(alloc: Global, chains: usize, touches: &[ChainTouch]) -> Result<Item
 ///
 /// For n chains and t touches it takes time for n log n + t steps, and at most some 200 bytes for
 /// each touch and chain.
-pub fn search(alloc: Global, chains: usize, touches: &[ChainTouch]) -> Result<Candidate, Memory> {
+pub(crate) fn search(
+    alloc: Global,
+    chains: usize,
+    touches: &[ChainTouch],
+) -> Result<Candidate, Memory> {
     let order = order_of(alloc, chains, touches)?;
     let is_left = left_of(alloc, chains, order.as_slice())?;
     match is_left.iter().position(|is_left| *is_left) {

@@ -1,5 +1,6 @@
 //! The hops of a set, each with the row of those with which it may conflict.
-use crate::row::Row;
+use crate::walks::row::Row;
+use lynx_graph::nodes;
 use lynx_names::{Memory, ProgramId, ServerId};
 use std::alloc::Global;
 
@@ -15,39 +16,37 @@ pub(crate) struct Node {
 
 /// The hops of a set, named by their places in its list of hops.
 #[derive(Debug, Drop)]
-pub struct Map {
-    pub(crate) nodes: Vec<Node>,
+pub(crate) struct Map {
+    pub nodes: Vec<Node>,
     /// The hops of each program, by its number.
-    pub(crate) programs: Vec<Row>,
+    pub programs: Vec<Row>,
 }
 
 impl Map {
-    /// The map of no hops. It takes no memory.
-    pub fn new(alloc: Global) -> Map {
-        Map {
+    /// The map of these hops, which are all of the set's, in its order.
+    pub(crate) fn of(alloc: Global, hops: &[nodes::Node]) -> Result<Map, Memory> {
+        let mut map = Map {
             nodes: Vec::new(alloc),
             programs: Vec::new(alloc),
+        };
+        for hop in hops {
+            map.add(hop)?;
         }
+        Ok(map)
     }
 
-    /// Adds the next hop: its program, the server of the program's first hop, and the hops with
-    /// which it may conflict.
-    pub fn add(
-        &mut self,
-        program: ProgramId,
-        hop: usize,
-        origin: Option<ServerId>,
-        neighbours: &[usize],
-    ) -> Result<(), Memory> {
+    /// Adds the next hop.
+    fn add(&mut self, hop: &nodes::Node) -> Result<(), Memory> {
         let place = self.nodes.len();
+        let program = hop.place.program;
         let mut meets = Row::none();
-        for neighbour in neighbours {
+        for neighbour in hop.neighbours.as_slice() {
             meets.insert(*neighbour);
         }
         self.nodes.push(Node {
             program,
-            hop,
-            origin,
+            hop: hop.place.hop,
+            origin: hop.origin,
             meets,
         })?;
         for _ in self.programs.len()..=program.index() {

@@ -1,5 +1,5 @@
 //! Which nodes an edge goes to from each node, and how many come to it.
-use crate::edges::{Edge, Edges};
+use crate::search::edges::{Edge, Edges};
 use lynx_names::Memory;
 use std::alloc::Global;
 

@@ -1,5 +1,5 @@
 //! Hops marked for what the visits of a walk so far did.
-use crate::row::Row;
+use crate::walks::row::Row;
 
 /// Rows of hops: whether some visit was left by another hop than it was entered at, and whether
 /// some visit was of a program of another origin.

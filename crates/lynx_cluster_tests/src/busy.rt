@@ -1,10 +1,11 @@
 //! A chain that is still to return to its origin.
 use crate::barrier::make_barrier;
 use crate::keepers::empty;
+use crate::sessions::{FIRST_IS_BACK, FIRST_TRIP, SECOND, SECOND_TRIP};
 use crate::talk::{Asked, hand_in, is_explained, talk};
 use crate::trouble::Trouble;
 use lynx_cluster::{Cluster, Frontend, Gate, Session};
-use lynx_fixtures::parts::{AnswerParts, RequestParts};
+use lynx_fixtures::parts::AnswerParts;
 use lynx_fixtures::texts::{TRIP, set_of};
 use lynx_keep::BatchKeeper;
 use std::alloc::Global;
@@ -15,51 +16,10 @@ use std::thread::Threads;
 use std::time::Clock;
 
 /// The first trip begins, the second is busy, ..
-const WHILE_AWAY: &[Asked] = &[
-    Asked::Begin(
-        RequestParts {
-            client: 1,
-            number: 1,
-            program: 0,
-            args: &[],
-        },
-        AnswerParts::Begun {
-            origin: 0,
-            index: 0,
-            time: 1,
-            results: &[],
-            again: false,
-        },
-    ),
-    Asked::Begin(SECOND, AnswerParts::Busy),
-];
-
-const SECOND: RequestParts = RequestParts {
-    client: 1,
-    number: 2,
-    program: 0,
-    args: &[],
-};
+const WHILE_AWAY: &[Asked] = &[FIRST_TRIP, Asked::Begin(SECOND, AnswerParts::Busy)];
 
 /// .. and begins once the first is back.
-const BACK: &[Asked] = &[
-    Asked::Find {
-        chain: (0, 0),
-        hop: 2,
-        time: 3,
-        results: &[],
-    },
-    Asked::Begin(
-        SECOND,
-        AnswerParts::Begun {
-            origin: 0,
-            index: 1,
-            time: 4,
-            results: &[],
-            again: false,
-        },
-    ),
-];
+const BACK: &[Asked] = &[FIRST_IS_BACK, SECOND_TRIP];
 
 /// A session that asks while the first trip is away and when it is back, and whether it is told
 /// rightly.

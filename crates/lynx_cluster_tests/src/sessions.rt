@@ -91,47 +91,55 @@ const PUTTING: Row = Row {
     order: &[(0, 0), (1, 0)],
 };
 
+/// The first trip begins.
+pub const FIRST_TRIP: Asked = Asked::Begin(
+    RequestParts {
+        client: 1,
+        number: 1,
+        program: 0,
+        args: &[],
+    },
+    AnswerParts::Begun {
+        origin: 0,
+        index: 0,
+        time: 1,
+        results: &[],
+        again: false,
+    },
+);
+
+/// It is back at its origin.
+pub const FIRST_IS_BACK: Asked = Asked::Find {
+    chain: (0, 0),
+    hop: 2,
+    time: 3,
+    results: &[],
+};
+
+/// What the second trip asks.
+pub const SECOND: RequestParts = RequestParts {
+    client: 1,
+    number: 2,
+    program: 0,
+    args: &[],
+};
+
+/// The second trip begins.
+pub const SECOND_TRIP: Asked = Asked::Begin(
+    SECOND,
+    AnswerParts::Begun {
+        origin: 0,
+        index: 1,
+        time: 4,
+        results: &[],
+        again: false,
+    },
+);
+
 /// A trip, and when it came back the next.
 pub const TRIPS: Row = Row {
     set: TRIP,
-    asked: &[
-        Asked::Begin(
-            RequestParts {
-                client: 1,
-                number: 1,
-                program: 0,
-                args: &[],
-            },
-            AnswerParts::Begun {
-                origin: 0,
-                index: 0,
-                time: 1,
-                results: &[],
-                again: false,
-            },
-        ),
-        Asked::Find {
-            chain: (0, 0),
-            hop: 2,
-            time: 3,
-            results: &[],
-        },
-        Asked::Begin(
-            RequestParts {
-                client: 1,
-                number: 2,
-                program: 0,
-                args: &[],
-            },
-            AnswerParts::Begun {
-                origin: 0,
-                index: 1,
-                time: 4,
-                results: &[],
-                again: false,
-            },
-        ),
-    ],
+    asked: &[FIRST_TRIP, FIRST_IS_BACK, SECOND_TRIP],
     order: &[(0, 0), (0, 1)],
 };
 

@@ -1,6 +1,6 @@
 //! The fault of each wrong encoding, and what an unfinished one ends with.
-use crate::bytes::hex;
-use crate::feeding::next;
+use crate::codec::bytes::hex;
+use crate::codec::feeding::next;
 use lynx_codec::{DecodeFault, Feed};
 use std::alloc::Global;
 

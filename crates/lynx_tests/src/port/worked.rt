@@ -1,7 +1,7 @@
 //! The worked connection, whole and in pieces of all sizes.
-use crate::bytes::hex;
-use crate::streams::{Manner, SMOOTH};
-use crate::talk::{Expected, PLAIN, Setting, comes_to, talk};
+use crate::port::bytes::hex;
+use crate::port::streams::{Manner, SMOOTH};
+use crate::port::talk::{Expected, PLAIN, Setting, comes_to, talk};
 use lynx_names::Memory;
 use lynx_port::Served;
 use std::alloc::Global;

@@ -1,7 +1,7 @@
 //! A talk of a client with a desk of one chain.
-use crate::bytes::hex;
-use crate::desk::OneChain;
-use crate::streams::{Manner, SMOOTH, Sink, Source};
+use crate::port::bytes::hex;
+use crate::port::desk::OneChain;
+use crate::port::streams::{Manner, SMOOTH, Sink, Source};
 use lynx_names::Memory;
 use lynx_port::{PortFault, Served, serve};
 use std::alloc::Global;

@@ -1,8 +1,8 @@
 //! Requests that come in one read.
-use crate::bytes::hex;
-use crate::desk::OneChain;
-use crate::streams::{Manner, SMOOTH, Sink, Source};
-use crate::talk::{Expected, PLAIN, Setting, comes_to};
+use crate::port::bytes::hex;
+use crate::port::desk::OneChain;
+use crate::port::streams::{Manner, SMOOTH, Sink, Source};
+use crate::port::talk::{Expected, PLAIN, Setting, comes_to};
 use lynx_codec::DecodeFault;
 use lynx_names::Memory;
 use lynx_port::{PortFault, Served, serve};

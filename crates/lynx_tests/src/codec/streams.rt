@@ -1,7 +1,7 @@
 //! Streams of many items, in pieces of many sizes.
-use crate::bytes::hex;
-use crate::encodings::ENCODINGS;
-use crate::feeding::next;
+use crate::codec::bytes::hex;
+use crate::codec::encodings::ENCODINGS;
+use crate::codec::feeding::next;
 use lynx_codec::{DecodeFault, Feed};
 use std::alloc::Global;
 

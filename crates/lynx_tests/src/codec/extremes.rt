@@ -1,7 +1,7 @@
 //! Each kind of item with its least fields, and with its greatest.
-use crate::bytes::runs;
-use crate::feeding::is_encoding;
-use crate::items::ItemParts;
+use crate::codec::bytes::runs;
+use crate::codec::feeding::is_encoding;
+use crate::codec::items::ItemParts;
 use lynx_codec::DecodeFault;
 use lynx_fixtures::parts::{
     AnswerParts, BegunParts, EntryParts, HopParts, MessageParts, RefusedParts, RequestParts,

@@ -1,6 +1,6 @@
 //! The checker beside a plain enumeration of all walks of a few visits.
-use crate::small::small_set;
-use crate::walks::{given, judged};
+use crate::checker::small::small_set;
+use crate::checker::walks::{given, judged};
 use lynx_graph::{Visit, Walk, walk_holds};
 use lynx_names::{Memory, ProgramId};
 use lynx_set::ChainSet;

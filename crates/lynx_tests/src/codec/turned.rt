@@ -1,8 +1,8 @@
 //! Encodings with one byte of each value: the feed gives what the slow reading of the rules does.
-use crate::bytes::hex;
-use crate::encodings::ENCODINGS;
-use crate::feeding::next;
-use crate::slow::{Slow, read_slowly};
+use crate::codec::bytes::hex;
+use crate::codec::encodings::ENCODINGS;
+use crate::codec::feeding::next;
+use crate::codec::slow::{Slow, read_slowly};
 use lynx_codec::{DecodeFault, Feed};
 use std::alloc::Global;
 

@@ -2,7 +2,7 @@
 ghost use Rattle.std.specs.Prelude.{IfNone, IfOk};
 ghost use Rattle.lynx_codec.specs.Feeding.{Waits};
 
-use crate::items::{ItemParts, item};
+use crate::codec::items::{ItemParts, item};
 use lynx_codec::{DecodeFault, Feed, Item, encode};
 use std::alloc::Global;
 

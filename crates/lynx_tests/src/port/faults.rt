@@ -1,6 +1,6 @@
 //! Each fault of what a client sends, and want of memory.
-use crate::streams::{Manner, SMOOTH};
-use crate::talk::{Expected, PLAIN, Setting, comes_to};
+use crate::port::streams::{Manner, SMOOTH};
+use crate::port::talk::{Expected, PLAIN, Setting, comes_to};
 use lynx_codec::DecodeFault;
 use lynx_port::PortFault;
 

@@ -1,5 +1,5 @@
 //! Sets of as many programs and hops as there may be.
-use crate::verdicts::gives;
+use crate::checker::verdicts::gives;
 use lynx_check::Verdict;
 use lynx_draw::{Extent, draw};
 use lynx_fixtures::texts::set_of;

@@ -1,8 +1,8 @@
 //! Readers and writers that fail at each place, and input that ends at each.
-use crate::bytes::hex;
-use crate::streams::{Manner, SMOOTH};
-use crate::talk::{PLAIN, Setting, talk};
-use crate::worked::{ENDS, INPUT, WRITTEN};
+use crate::port::bytes::hex;
+use crate::port::streams::{Manner, SMOOTH};
+use crate::port::talk::{PLAIN, Setting, talk};
+use crate::port::worked::{ENDS, INPUT, WRITTEN};
 use lynx_codec::DecodeFault;
 use lynx_names::Memory;
 use lynx_port::{PortFault, Served};

@@ -1,5 +1,5 @@
 //! Worked verdicts, and walks that offend or don't.
-use crate::walks::{Hops, are_visits, given, judged, walk};
+use crate::checker::walks::{Hops, are_visits, given, judged, walk};
 use lynx_fixtures::texts::{
     CROSSING, EMPTY_SET, LATE_AND_MARK, ONE_ORIGIN_JOINS, ONE_ORIGIN_ONLY, ONE_ORIGIN_SETS,
     PAY_AND_NOTE, TRIP, set_of,

@@ -1,6 +1,6 @@
 //! Pictures: a whole one, and walks that a verdict may name and the checker never gives.
-use crate::expected::PAY_AND_NOTE_LINES;
-use crate::walks::judged;
+use crate::checker::expected::PAY_AND_NOTE_LINES;
+use crate::checker::walks::judged;
 use lynx_check::Verdict;
 use lynx_draw::{Extent, draw};
 use lynx_fixtures::texts::{PAY_AND_NOTE, TRIP, set_of};

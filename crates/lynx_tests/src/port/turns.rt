@@ -1,6 +1,6 @@
 //! Connections that would go on for ever.
-use crate::desk::OneChain;
-use crate::streams::{SMOOTH, Sink, Source};
+use crate::port::desk::OneChain;
+use crate::port::streams::{SMOOTH, Sink, Source};
 use lynx_port::{PortFault, serve};
 use std::alloc::Global;
 use std::io;

@@ -1,7 +1,7 @@
 //! Worked encodings, byte for byte.
-use crate::bytes::hex;
-use crate::feeding::is_encoding;
-use crate::items::ItemParts;
+use crate::codec::bytes::hex;
+use crate::codec::feeding::is_encoding;
+use crate::codec::items::ItemParts;
 use lynx_codec::DecodeFault;
 use lynx_fixtures::parts::{AnswerParts, EntryParts, RefusedParts, RequestParts};
 use lynx_fixtures::payments::{ARRIVED, SEED, SEEDED, SENT};

@@ -1,7 +1,7 @@
 //! Walks of blocks that offend or don't, and why sets are accepted.
-use crate::small::small_set;
-use crate::verdicts::CHAINED;
-use crate::walks::{given, judged};
+use crate::checker::small::small_set;
+use crate::checker::verdicts::CHAINED;
+use crate::checker::walks::{given, judged};
 use lynx_check::{Reason, Verdict, search_walk};
 use lynx_fixtures::texts::{
     CROSSING, EMPTY_SET, ONE_ORIGIN_JOINS, ONE_ORIGIN_SETS, PAY_AND_NOTE, TRIP, set_of,

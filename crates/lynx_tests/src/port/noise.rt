@@ -1,6 +1,6 @@
 //! Bytes that are no items.
-use crate::desk::OneChain;
-use crate::streams::{SMOOTH, Sink};
+use crate::port::desk::OneChain;
+use crate::port::streams::{SMOOTH, Sink};
 use lynx_port::{PortFault, serve};
 use std::alloc::Global;
 use std::cmp::min;

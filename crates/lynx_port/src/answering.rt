@@ -1,6 +1,5 @@
 //! Answers the frames of a feed in order.
-ghost use Rattle.std.specs.Prelude.{◌≡◌, ◌≤◌, ◌<◌, ◌+◌, ◌^◌, ◌++◌, ℕ, List, [], ◌∷◌, length, Some, None, Ok, IfOk, IfErr, OnOk, IfSome, IfNone};
-ghost use Rattle.std.specs.List.{flat_map, AllByRecursion};
+ghost use Rattle.std.specs.Prelude.{◌≡◌, ◌≤◌, ◌<◌, ◌+◌, ◌^◌, ◌++◌, ℕ, List, length, Some, None, Ok, IfOk, IfErr, OnOk, IfSome, IfNone};
 ghost use Rattle.lynx_codec.specs.Encoding.{encoding};
 ghost use Rattle.lynx_codec.specs.Front.{front};
 ghost use Rattle.lynx_codec.specs.Ranges.{IsItem};
@@ -8,11 +7,10 @@ ghost use Rattle.lynx_codec.specs.Feeding.{Gives, Waits};
 ghost use Rattle.lynx_port.specs.Desks.{Replies};
 ghost use Rattle.lynx_port.specs.Talks.{Answered, ended_by};
 ghost use Rattle.lynx_port.specs.Exits.{Stopped};
-ghost use Rattle.lynx_port.specs.inner.Steps.{NoFrame, WritesReply, WritesReplies, GoesOn, as_frames};
+ghost use Rattle.lynx_port.specs.inner.Steps.{NoFrame, WritesReply, GoesOn};
 
 use crate::desk::Desk;
 use crate::fault::PortFault;
-use crate::limits::MAX_TOGETHER;
 use crate::replying::encoding_for;
 use crate::together::{answer_together, take_requests};
 use crate::writing::write_encoding;
@@ -42,7 +40,7 @@ fn next_frame(alloc: Global, feed: &mut Feed) -> Result<Option<Item>, PortFault>
 }
 
 /// Asks the desk of one frame, and writes the answer.
-fn answer_frame<W: Write, D: Desk>(
+pub(crate) fn answer_frame<W: Write, D: Desk>(
     alloc: Global,
     frame: Item,
     writer: &mut W,
@@ -59,31 +57,6 @@ fn answer_frame<W: Write, D: Desk>(
 {
     let encoding = encoding_for(alloc, frame, desk)?;
     write_encoding(writer, encoding.as_slice(), turns)
-}
-
-/// Asks the desk of a request and those behind it, and writes the answers. One that is alone goes
-/// as other frames do: no list is made for it.
-fn answer_requests<W: Write, D: Desk>(
-    alloc: Global,
-    first: Request,
-    others: Vec<Request>,
-    writer: &mut W,
-    desk: &mut D,
-    turns: &mut u32,
-) -> Result<(), PortFault>
-    requires few { length others.items < MAX_TOGETHER }
-    requires are_items { AllByRecursion IsItem (as_frames (first ∷ others.items)) }
-    ensures turns { turns.new ≤ turns.old }
-    ensures answered { OnOk result (WritesReplies (Replies D.begins D.looks) desk.old desk.new
-        (W.contents writer.old) (W.contents writer.new) (as_frames (first ∷ others.items))) }
-    ensures fault { IfErr result (λ fault. (more : List ℕ) →
-        Stopped D.begins D.looks desk.old desk.new (W.contents writer.old) (W.contents writer.new)
-        (flat_map encoding (as_frames (first ∷ others.items)) ++ more) ⊥ fault) }
-{
-    if others.is_empty() {
-        return answer_frame(alloc, Item::Request(first), writer, desk, turns);
-    }
-    answer_together(alloc, first, others, writer, desk, turns)
 }
 
 /// Answers a request that was taken from the feed, and those that stand behind it. The frame
@@ -112,7 +85,7 @@ fn answer_leading<W: Write, D: Desk>(
     let mut others = Vec::new(alloc);
     let other = take_requests(alloc, feed, &mut others)?;
     let count = 1 + others.len() as u64;
-    answer_requests(alloc, first, others, writer, desk, turns)?;
+    answer_together(alloc, first, others, writer, desk, turns)?;
     *answers += count;
     Ok(other)
 }

@@ -8,6 +8,7 @@ ghost use Rattle.lynx_port.specs.Desks.{Replies};
 ghost use Rattle.lynx_port.specs.Exits.{Stopped};
 ghost use Rattle.lynx_port.specs.inner.Steps.{as_frames, Takes, AreReplies, WritesReplies};
 
+use crate::answering::answer_frame;
 use crate::desk::Desk;
 use crate::fault::PortFault;
 use crate::limits::MAX_TOGETHER;
@@ -78,7 +79,8 @@ fn encodings_for_all<D: Desk>(
     Ok(bytes)
 }
 
-/// Asks the desk of a request and those behind it together, and writes the answers together.
+/// Asks the desk of a request and those behind it together, and writes the answers together. One
+/// that is alone goes as other frames do: no list is made for it.
 pub fn answer_together<W: Write, D: Desk>(
     alloc: Global,
     first: Request,
@@ -96,6 +98,9 @@ pub fn answer_together<W: Write, D: Desk>(
         Stopped D.begins D.looks desk.old desk.new (W.contents writer.old) (W.contents writer.new)
         (flat_map encoding (as_frames (first ∷ others.items)) ++ more) ⊥ fault) }
 {
+    if others.is_empty() {
+        return answer_frame(alloc, Item::Request(first), writer, desk, turns);
+    }
     let encodings = encodings_for_all(alloc, first, others, desk)?;
     write_encoding(writer, encodings.as_slice(), turns)
 }

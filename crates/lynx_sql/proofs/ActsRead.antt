@@ -22,8 +22,9 @@ use Rattle.sqlite_catalog.specs.Listing.{IsSound}
 use Rattle.sqlite.specs.Kind.TheVariants.{Integer, Blob as BlobKind}
 use Rattle.sqlite.specs.Program.{overlay}
 use Rattle.sqlite.specs.Query.{IsAnswer, output, output_cmp, page, Output}
-use Rattle.sqlite.specs.State.{State, Shown}
-use Rattle.sqlite.proofs.Callers.{reads_as}
+use Rattle.sqlite.specs.State.{State}
+use Rattle.sqlite.specs.Listing.{understood}
+use Rattle.sqlite.proofs.Callers.{IsPlain, reads_as}
 use Rattle.lynx_sql.specs.declared.acts.Acted.{Acted}
 use Rattle.lynx_sql.specs.declared.version.StoreVersion.TheVariants.{Two}
 use Rattle.lynx_sql.specs.Contents.{Contents}
@@ -34,7 +35,7 @@ use Rattle.lynx_sql.specs.Shown.{natural}
 use Rattle.lynx_sql.specs.Steps.{Keeps}
 use Rattle.lynx_sql.proofs.Understood.{places_query, places_is, places_plain, rising}
 use Rattle.lynx_sql.proofs.RowLemmas.{lower_id}
-use Rattle.lynx_sql.proofs.ReadLemmas.{picks}
+use Rattle.lynx_sql.proofs.ReadLemmas.{picks, HasShown, OnlyReads}
 use Rattle.lynx_sql.proofs.StoredBack.{left_true, right_true}
 use Rattle.lynx_sql.proofs.CellsBack.{int_of, no_null}
 use Rattle.lynx_sql.proofs.Versions.{one_version}
@@ -80,17 +81,22 @@ answers db rows acts places a h placed =
     sorted_unique (output_cmp places_query) places_total (map out_of acts) a.ordered (strict acts placed.rise) same a.sorted in
     a.shown ∙ ap (λ os. page places_query [] (map (λ (o : Output). o.1) os)) ordered ∙ shown_outs acts
 
-pub places_shown : (old new : State) (rows : List Row) (contents : Contents) → old.now.schema ≡ store_schema Two → old.now ≡ old.committed → Keeps old contents
-    → Shown places_text [] old new rows → rows ≡ map shown_act (acts_in contents.acted)
-places_shown old new rows contents has settled keeps h =
-    go contents.acted (one_version (version_of contents.acted) Two (sym keeps.schema ∙ has))
-    (subst (λ d. HoldsActed (d.trees acted_tree) contents.acted) (sym settled) keeps.tables.acted) keeps.tables.placed
+-- in a store of version 2 the query only reads
+pub places_only_read : (s : State) → s.now.schema ≡ store_schema Two → OnlyReads s places_text
+places_only_read s second version is = subst (λ v. IsPlain (understood (store_schema v) places_text)) (one_version Two version (sym second ∙ is)) places_plain
+
+pub places_answer : (old new : State) (rows : List Row) → old.now.schema ≡ store_schema Two → HasShown places_text old new rows → IsAnswer places_query (overlay old.now.trees []) [] rows
+places_answer old new rows second it = (reads_as places_text [] old new (store_schema Two) second _ places_is.0 places_plain places_is.1 rows it.3).answer Null
+
+pub places_shown : (old new : State) (rows : List Row) → old.now.schema ≡ store_schema Two → HasShown places_text old new rows → (contents : Contents) → Keeps old contents
+    → rows ≡ map shown_act (acts_in contents.acted)
+places_shown old new rows second it contents keeps =
+    go contents.acted (one_version (version_of contents.acted) Two (sym keeps.schema ∙ second))
+    (subst (λ d. HoldsActed (d.trees acted_tree) contents.acted) (sym (it.1 keeps.is_open)) keeps.tables.acted) keeps.tables.placed
   where
     go : {n : ℕ} (kept : Option (List Acted)) → version_of kept ≡ Two → HoldsActed (old.now.trees acted_tree) kept → ArePlaced (acts_in kept) n → rows ≡ map shown_act (acts_in kept)
     go None two held placed = absurd (let e = two in cc)
-    go {n} (Some acts) two held placed =
-        let got = reads_as places_text [] old new (store_schema Two) has _ places_is.0 places_plain places_is.1 rows h in
-        answers old.now.trees rows acts n (got.answer Null) held placed
+    go {n} (Some acts) two held placed = answers old.now.trees rows acts n (places_answer old new rows second it) held placed
 
 -- ---- what is shown is kept
 

@@ -25,3 +25,4 @@ pub mod AfterQuery
 pub mod KeptBack
 pub mod SameTable
 pub mod SchemaLemmas
+pub mod TransactionLemmas

@@ -18,19 +18,18 @@ use Rattle.sqlite.specs.Query.{IsAnswer, output, output_cmp, page, Output}
 use Rattle.sqlite.specs.Command.TheVariants.{Select}
 use Rattle.sqlite.specs.Schema.{Schema}
 use Rattle.sqlite.specs.Listing.{understood, reads_listing}
-use Rattle.sqlite.specs.State.{State, IsUnchanged, Shown, ShowsRows, Survives, CommitsShowing}
+use Rattle.sqlite.specs.State.{State, IsLive, IsUnchanged, Shown, ShowsRows, Survives, CommitsShowing}
 use Rattle.sqlite.specs.Clock.{timed}
 use Rattle.sqlite.proofs.Callers.{IsPlain, reads_as, never_commits}
 use Rattle.sqlite.proofs.StateLemmas.{survives_weaker}
 use Rattle.lynx_cells.specs.Database.{Database}
 use Rattle.lynx_sql.specs.declared.version.StoreVersion.{StoreVersion}
 use Rattle.lynx_sql.specs.Tables.{store_schema, IsStoreSchema, cell_tree, entry_tree, meta_tree}
-use Rattle.lynx_sql.specs.Acts.{version_of}
 use Rattle.lynx_sql.specs.Rows.{meta_rows, shown_meta, entry_row, entry_rows, shown_entries}
 use Rattle.lynx_sql.specs.Texts.{titles_text, entries_text, cells_text}
 use Rattle.lynx_sql.specs.Cells.{Stored, cell_row, shown_cell, HoldsCells, ShowsCells}
 use Rattle.std.proofs.lemmas.List.Sorted.{IsPermutation-map}
-use Rattle.lynx_sql.specs.Steps.{Keeps, Holds}
+use Rattle.lynx_sql.specs.Steps.{Keeps}
 use Rattle.lynx_sql.specs.Contents.{Title, Contents}
 use Rattle.lynx_sql.proofs.RowLemmas.{lower_id}
 use Rattle.lynx_sql.proofs.Understood.{titles_query, titles_is, titles_plain, entries_query, entries_is, entries_plain, cells_query, cells_is, cells_plain, rising}
@@ -46,12 +45,16 @@ shown_unchanged sql params old new rows plain h =
 pub leaves_as_before : (sql : List ℕ) (params : Row) (old new : State) → IsPlain (understood old.now.schema sql) → Survives old new (CommitsShowing sql params old) → Survives old new (λ _. ⊥)
 leaves_as_before sql params old new plain = survives_weaker old new _ _ (λ _ db. never_commits sql params old db plain)
 
-pub keeps_on : (old new : State) (contents : Contents) → IsUnchanged old new → Keeps old contents → Keeps new contents
-keeps_on old new contents same keeps = record {
-  is_open = same.0.is_open;
-  schema = ap (λ d. d.schema) same.0.now_is ∙ keeps.schema;
-  tables = subst (λ trees. Holds trees contents) (sym (ap (λ d. d.trees) same.0.committed_is)) keeps.tables;
-}
+-- A query has shown its rows, outside a transaction, over the tables of a store.
+abbrev pub HasShown : List ℕ → State → State → List Row → Type 0
+HasShown text old new rows = IsLive old × (IsTrue old.is_open → old.now ≡ old.committed) × IsStoreSchema old.now.schema × Shown text [] old new rows
+
+-- Where the store has these tables, the text is that of a query that only reads.
+abbrev pub OnlyReads : State → List ℕ → Type 0
+OnlyReads s text = (version : StoreVersion) → s.now.schema ≡ store_schema version → IsPlain (understood (store_schema version) text)
+
+pub plain_in : (s : State) (text : List ℕ) → IsStoreSchema s.now.schema → OnlyReads s text → IsPlain (understood s.now.schema text)
+plain_in s text has plain = subst (λ schema. IsPlain (understood schema text)) (sym has.is) (plain has.version has.is)
 
 -- ---- entries
 
@@ -91,15 +94,14 @@ answers db rows bodies a has =
     let ordered : a.ordered ≡ outs 0 bodies = sorted_unique entry_cmp total (outs 0 bodies) a.ordered (strict 0 bodies) (subst (λ k. IsPermutation k a.ordered) kept a.same) a.sorted in
     a.shown ∙ ap (λ os. page entries_query [] (map (λ (o : Output). o.1) os)) ordered ∙ shown_outs 0 bodies
 
-pub entries_shown : (old new : State) (rows : List Row) (contents : Contents) → old.now ≡ old.committed → Keeps old contents
-    → Shown entries_text [] old new rows → rows ≡ shown_entries 0 contents.bodies
-entries_shown old new rows contents settled keeps h =
-    let version = version_of contents.acted in
-    let got = reads_as entries_text [] old new (store_schema version) keeps.schema _ (entries_is version).0 (entries_plain version) (entries_is version).1 rows h in
-    answers old.now.trees rows contents.bodies (got.answer Null) (ap (λ d. d.trees entry_tree) settled ∙ keeps.tables.entries)
+pub entries_answer : (old new : State) (rows : List Row) → HasShown entries_text old new rows → IsAnswer entries_query (overlay old.now.trees []) [] rows
+entries_answer old new rows it =
+    let version = it.2.version in
+    (reads_as entries_text [] old new (store_schema version) it.2.is _ (entries_is version).0 (entries_plain version) (entries_is version).1 rows it.3).answer Null
 
-pub plain_in : (s : State) → IsStoreSchema s.now.schema → IsPlain (understood s.now.schema entries_text)
-plain_in s has = subst (λ schema. IsPlain (understood schema entries_text)) (sym has.is) (entries_plain has.version)
+pub entries_shown : (old new : State) (rows : List Row) → HasShown entries_text old new rows → (contents : Contents) → Keeps old contents → rows ≡ shown_entries 0 contents.bodies
+entries_shown old new rows it contents keeps =
+    answers old.now.trees rows contents.bodies (entries_answer old new rows it) (ap (λ d. d.trees entry_tree) (it.1 keeps.is_open) ∙ keeps.tables.entries)
 
 pub if_ok : {A E : Type 0} {P Q : A → Type 0} (r : Result A E) → ((x : A) → P x → Q x) → IfOk r P → IfOk r Q
 if_ok (Ok x) f p = f x p
@@ -110,9 +112,6 @@ on_if_ok (Ok x) f p = f x p
 on_if_ok (Err e) f p = tt
 
 -- ---- cells
-
-pub cells_plain_in : (s : State) → IsStoreSchema s.now.schema → IsPlain (understood s.now.schema cells_text)
-cells_plain_in s has = subst (λ schema. IsPlain (understood schema cells_text)) (sym has.is) (cells_plain has.version)
 
 staged_cells : (stored : List Stored) → map (λ (o : Output). o.1) (map (output cells_query) (flat_map picks (map cell_row stored))) ≡ map shown_cell stored
 staged_cells [] = refl
@@ -132,18 +131,17 @@ cell_answers db rows cells a h =
       found = h.found;
     }
 
-pub cells_shown : (old new : State) (rows : List Row) (contents : Contents) → old.now ≡ old.committed → Keeps old contents
-    → Shown cells_text [] old new rows → ShowsCells rows contents.cells
-cells_shown old new rows contents settled keeps h =
-    let version = version_of contents.acted in
-    let got = reads_as cells_text [] old new (store_schema version) keeps.schema _ (cells_is version).0 (cells_plain version) (cells_is version).1 rows h in
-    cell_answers old.now.trees rows contents.cells (got.answer Null)
-    (subst (λ d. HoldsCells (d.trees cell_tree) contents.cells) (sym settled) keeps.tables.cells)
+pub cells_answer : (old new : State) (rows : List Row) → HasShown cells_text old new rows → IsAnswer cells_query (overlay old.now.trees []) [] rows
+cells_answer old new rows it =
+    let version = it.2.version in
+    (reads_as cells_text [] old new (store_schema version) it.2.is _ (cells_is version).0 (cells_plain version) (cells_is version).1 rows it.3).answer Null
+
+pub cells_shown : (old new : State) (rows : List Row) → HasShown cells_text old new rows → (contents : Contents) → Keeps old contents → ShowsCells rows contents.cells
+cells_shown old new rows it contents keeps =
+    cell_answers old.now.trees rows contents.cells (cells_answer old new rows it)
+    (subst (λ d. HoldsCells (d.trees cell_tree) contents.cells) (sym (it.1 keeps.is_open)) keeps.tables.cells)
 
 -- ---- the title
-
-pub titles_plain_in : (s : State) → IsStoreSchema s.now.schema → IsPlain (understood s.now.schema titles_text)
-titles_plain_in s has = subst (λ schema. IsPlain (understood schema titles_text)) (sym has.is) (titles_plain has.version)
 
 abbrev title_outs : Title → List Output
 title_outs title =
@@ -169,16 +167,13 @@ title_answers db rows title a has =
     sorted_unique (output_cmp titles_query) title_total (title_outs title) a.ordered (title_strict title) (subst (λ k. IsPermutation k a.ordered) kept a.same) a.sorted in
     a.shown ∙ ap (λ os. page titles_query [] (map (λ (o : Output). o.1) os)) ordered
 
-pub title_shown : (old new : State) (rows : List Row) (contents : Contents) → old.now ≡ old.committed → Keeps old contents
-    → Shown titles_text [] old new rows → rows ≡ shown_meta contents.title
-title_shown old new rows contents settled keeps h =
-    let version = version_of contents.acted in
-    let got = reads_as titles_text [] old new (store_schema version) keeps.schema _ (titles_is version).0 (titles_plain version) (titles_is version).1 rows h in
-    title_answers old.now.trees rows contents.title (got.answer Null) (ap (λ d. d.trees meta_tree) settled ∙ keeps.tables.meta)
+pub titles_answer : (old new : State) (rows : List Row) → HasShown titles_text old new rows → IsAnswer titles_query (overlay old.now.trees []) [] rows
+titles_answer old new rows it =
+    let version = it.2.version in
+    (reads_as titles_text [] old new (store_schema version) it.2.is _ (titles_is version).0 (titles_plain version) (titles_is version).1 rows it.3).answer Null
 
 -- the query shows the title that `meta` holds
-pub title_read : (old new : State) (rows : List Row) (version : StoreVersion) (title : Title) → old.now.schema ≡ store_schema version → old.now ≡ old.committed
-    → old.committed.trees meta_tree ≡ meta_rows title → Shown titles_text [] old new rows → rows ≡ shown_meta title
-title_read old new rows version title has settled holds h =
-    let got = reads_as titles_text [] old new (store_schema version) has _ (titles_is version).0 (titles_plain version) (titles_is version).1 rows h in
-    title_answers old.now.trees rows title (got.answer Null) (ap (λ d. d.trees meta_tree) settled ∙ holds)
+pub title_read : (old new : State) (rows : List Row) → HasShown titles_text old new rows → (title : Title) → IsTrue old.is_open
+    → old.committed.trees meta_tree ≡ meta_rows title → rows ≡ shown_meta title
+title_read old new rows it title up holds =
+    title_answers old.now.trees rows title (titles_answer old new rows it) (ap (λ d. d.trees meta_tree) (it.1 up) ∙ holds)

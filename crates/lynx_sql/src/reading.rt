@@ -1,36 +1,40 @@
 //! The rows of a store, read back.
-ghost use Rattle.std.specs.Prelude.{◌≡◌, ◌≤◌, ℕ, List, Option, map, length, IfOk, OnOk};
+ghost use Rattle.std.specs.Prelude.{◌≡◌, ◌≤◌, ℕ, List, [], Option, map, length, IsTrue, IfOk, OnOk};
 ghost use Rattle.sqlite_trees.specs.View.{doubt};
 ghost use Rattle.sqlite.specs.Tree.{Trees};
 ghost use Rattle.sqlite.specs.Held.{state};
-ghost use Rattle.sqlite.specs.State.{HasCleanDisk};
+ghost use Rattle.sqlite.specs.State.{HasCleanDisk, IsLive, Shown};
+ghost use Rattle.sqlite.specs.Given.{IsPlain};
+ghost use Rattle.sqlite.specs.Listing.{understood};
 ghost use Rattle.lynx_sql.specs.Contents.{Title, Contents};
-ghost use Rattle.lynx_sql.specs.Rows.{meta_rows, shown_meta, entry_rows, shown_entries};
+ghost use Rattle.lynx_sql.specs.Rows.{meta_rows, shown_meta};
 ghost use Rattle.lynx_sql.specs.Steps.{Keeps};
-ghost use Rattle.lynx_sql.specs.Cells.{HoldsCells};
 ghost use Rattle.lynx_sql.specs.declared.acts.Acted.{Acted};
 ghost use Rattle.lynx_sql.specs.declared.version.StoreVersion.{StoreVersion};
 ghost use Rattle.lynx_sql.specs.Acts.{HoldsActs, HoldsActed, ShowActed, ArePlaced, shown_act, acts_in, version_of};
-ghost use Rattle.lynx_sql.specs.Tables.{store_schema, acted_tree, cell_tree, entry_tree, meta_tree};
-ghost use Rattle.lynx_sql.specs.Shown.{AreCells, cells_in};
+ghost use Rattle.lynx_sql.specs.Tables.{store_schema, IsStoreSchema, acted_tree, meta_tree};
+ghost use Rattle.lynx_sql.specs.Shown.{AreCells};
 ghost use Rattle.lynx_sql.specs.Reading.{IsStore, SameTables, ShowRows};
 
 use crate::rising::Rising;
 use crate::schema::{is_first, is_second, is_store};
-use sqlite::{Connection, Error, ErrorCode, Row};
+use sqlite::{Alter, Connection, Error, ErrorCode, Row};
 
-/// The texts of `meta` by number: each a number and a text.
-fn read_title<S: Rising>(conn: &mut Connection<S>) -> Result<Vec<Row>, Error>
+/// The rows that a query shows of a store, outside a transaction. An error where the database has
+/// not the tables of a store.
+fn read_store<S: Alter>(conn: &mut Connection<S>, text: &str) -> Result<Vec<Row>, Error>
+    // In a store the query only reads, whichever version it is of.
+    requires { (version : StoreVersion)
+        → (state S.Store conn.old).now.schema ≡ store_schema version
+        → IsPlain (understood (store_schema version) text.now) }
     ensures clean { doubt (state S.Store conn.old).is_clean
         ≤ doubt (state S.Store conn.new).is_clean }
-    ensures ok { HasCleanDisk (state S.Store conn.new) → IfOk result (λ rows. (contents : Contents)
-        → Keeps (state S.Store conn.old) contents → rows.items ≡ shown_meta contents.title) }
-    ensures back { HasCleanDisk (state S.Store conn.new) → IfOk result (λ rows. (title : Title)
-        → rows.items ≡ shown_meta title
-        → (state S.Store conn.new).committed.trees meta_tree ≡ meta_rows title) }
-    ensures shown { HasCleanDisk (state S.Store conn.new) → IfOk result (λ rows. (title : Title)
-        → (state S.Store conn.old).committed.trees meta_tree ≡ meta_rows title
-        → rows.items ≡ shown_meta title) }
+    ensures shown { HasCleanDisk (state S.Store conn.new) → IfOk result (λ rows.
+        IsLive (state S.Store conn.old)
+        × (IsTrue (state S.Store conn.old).is_open
+        → (state S.Store conn.old).now ≡ (state S.Store conn.old).committed)
+        × IsStoreSchema (state S.Store conn.old).now.schema
+        × Shown text.now [] (state S.Store conn.old) (state S.Store conn.new) rows.items) }
     ensures store { HasCleanDisk (state S.Store conn.new)
         → OnOk result (IsStore (state S.Store conn.new)) }
     ensures same { HasCleanDisk (state S.Store conn.new)
@@ -41,54 +45,7 @@ fn read_title<S: Rising>(conn: &mut Connection<S>) -> Result<Vec<Row>, Error>
     if !conn.is_autocommit() || !is_store(conn.schema()) {
         return Err(Error::SqliteFailure(ErrorCode::NotADatabase));
     }
-    conn.query_all("SELECT id, txt FROM meta ORDER BY id", &[])
-}
-
-/// The entries by place: each a place and a body.
-fn read_entries<S: Rising>(conn: &mut Connection<S>) -> Result<Vec<Row>, Error>
-    ensures clean { doubt (state S.Store conn.old).is_clean
-        ≤ doubt (state S.Store conn.new).is_clean }
-    ensures ok { HasCleanDisk (state S.Store conn.new) → IfOk result (λ rows. (contents : Contents)
-        → Keeps (state S.Store conn.old) contents → rows.items ≡ shown_entries 0 contents.bodies) }
-    ensures back { HasCleanDisk (state S.Store conn.new)
-        → IfOk result (λ rows. (bodies : List (List ℕ))
-        → rows.items ≡ shown_entries 0 bodies
-        → (state S.Store conn.new).committed.trees entry_tree ≡ entry_rows 0 bodies) }
-    ensures store { HasCleanDisk (state S.Store conn.new)
-        → OnOk result (IsStore (state S.Store conn.new)) }
-    ensures same { HasCleanDisk (state S.Store conn.new)
-        → OnOk result (SameTables (state S.Store conn.old) (state S.Store conn.new)) }
-    ensures stop { HasCleanDisk (state S.Store conn.new) → (db : Trees)
-        → (state S.Store conn.new).may_leave db → (state S.Store conn.old).may_leave db }
-{
-    if !conn.is_autocommit() || !is_store(conn.schema()) {
-        return Err(Error::SqliteFailure(ErrorCode::NotADatabase));
-    }
-    conn.query_all("SELECT place, body FROM entry ORDER BY place", &[])
-}
-
-/// The cells by table, then key: each a table, a key and a value.
-fn read_cells<S: Rising>(conn: &mut Connection<S>) -> Result<Vec<Row>, Error>
-    ensures clean { doubt (state S.Store conn.old).is_clean
-        ≤ doubt (state S.Store conn.new).is_clean }
-    ensures ok { HasCleanDisk (state S.Store conn.new) → IfOk result (λ rows. (contents : Contents)
-        → Keeps (state S.Store conn.old) contents → cells_in rows.items ≡ contents.cells) }
-    ensures formed { HasCleanDisk (state S.Store conn.new)
-        → IfOk result (λ rows. (contents : Contents)
-        → Keeps (state S.Store conn.old) contents → AreCells rows.items) }
-    ensures back { HasCleanDisk (state S.Store conn.new) → IfOk result (λ rows. AreCells rows.items
-        → HoldsCells ((state S.Store conn.new).committed.trees cell_tree) (cells_in rows.items)) }
-    ensures store { HasCleanDisk (state S.Store conn.new)
-        → OnOk result (IsStore (state S.Store conn.new)) }
-    ensures same { HasCleanDisk (state S.Store conn.new)
-        → OnOk result (SameTables (state S.Store conn.old) (state S.Store conn.new)) }
-    ensures stop { HasCleanDisk (state S.Store conn.new) → (db : Trees)
-        → (state S.Store conn.new).may_leave db → (state S.Store conn.old).may_leave db }
-{
-    if !conn.is_autocommit() || !is_store(conn.schema()) {
-        return Err(Error::SqliteFailure(ErrorCode::NotADatabase));
-    }
-    conn.query_all("SELECT tab, k, v FROM cell ORDER BY tab, k", &[])
+    conn.query_all(text, &[])
 }
 
 /// The hops by place, in a store of version 2: each an origin, an index, a hop and a place.
@@ -112,12 +69,12 @@ fn read_places<S: Rising>(conn: &mut Connection<S>) -> Result<Vec<Row>, Error>
     ensures stop { HasCleanDisk (state S.Store conn.new) → (db : Trees)
         → (state S.Store conn.new).may_leave db → (state S.Store conn.old).may_leave db }
 {
-    if !conn.is_autocommit() || !is_second(conn.schema()) {
+    if !is_second(conn.schema()) {
         return Err(Error::SqliteFailure(ErrorCode::NotADatabase));
     }
-    conn.query_all(
+    read_store(
+        conn,
         "SELECT origin, idx, hop, place FROM acted ORDER BY place",
-        &[],
     )
 }
 
@@ -188,9 +145,12 @@ pub fn read_rows<S: Rising>(conn: &mut Connection<S>) -> Result<StoredRows, Erro
         → (state S.Store conn.new).may_leave db → (state S.Store conn.old).may_leave db }
 {
     let acted = read_acted(conn)?;
-    let title = read_title(conn)?;
-    let entries = read_entries(conn)?;
-    let cells = read_cells(conn)?;
+    // The texts of `meta` by number: each a number and a text.
+    let title = read_store(conn, "SELECT id, txt FROM meta ORDER BY id")?;
+    // The entries by place: each a place and a body.
+    let entries = read_store(conn, "SELECT place, body FROM entry ORDER BY place")?;
+    // The cells by table, then key: each a table, a key and a value.
+    let cells = read_store(conn, "SELECT tab, k, v FROM cell ORDER BY tab, k")?;
     Ok(StoredRows {
         title,
         entries,

@@ -90,6 +90,26 @@ abbrev pub KeepsNothing : State → Owner → Type 0
 KeepsNothing s owner =
     (count : ℕ) (kept : KeptState) → count < 2 ^ 32 → IsKept s owner count kept → ⊥
 
+-- nothing is kept for any owner
+abbrev pub HoldsNothing : State → Type 0
+HoldsNothing s = (owner : Owner) (count : ℕ) (kept : KeptState) → IsKept s owner count kept → ⊥
+
+-- nothing is kept for any server of any set
+abbrev pub KeepsNothingForAny : State → Type 0
+KeepsNothingForAny s =
+    (server : ℕ) (chains : Set) → IsServerOf server chains
+    → KeepsNothing s (owner_for server chains)
+
+-- what is kept stays kept, whoever owns it
+abbrev pub StaysKept : State → State → Type 0
+StaysKept old new =
+    (owner : Owner) (count : ℕ) (kept : KeptState) → IsKept old owner count kept
+    → IsKept new owner count kept
+
+-- a stop leaves nothing that it could not leave before
+abbrev pub LeavesNoMore : State → State → Type 0
+LeavesNoMore old new = (db : Trees) → new.may_leave db → old.may_leave db
+
 -- the title that `meta` holds
 abbrev pub HasTitle : State → Title → Type 0
 HasTitle s title = s.committed.trees meta_tree ≡ meta_rows title

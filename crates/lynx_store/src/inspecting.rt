@@ -6,13 +6,12 @@ ghost use Rattle.lynx_set.specs.Set.{Set};
 ghost use Rattle.lynx_sql.specs.Contents.{Title};
 ghost use Rattle.sqlite_trees.specs.View.{doubt};
 ghost use Rattle.std.specs.Fmt.{decimal};
-ghost use Rattle.sqlite.specs.Tree.{Trees};
 ghost use Rattle.sqlite.specs.Held.{state};
 ghost use Rattle.lynx_keep.specs.Kept.{KeptState, kept_in};
 ghost use Rattle.lynx_set.specs.Text.{text_of};
 ghost use Rattle.lynx_store.specs.Heading.{owner_in};
 ghost use Rattle.lynx_store.specs.Premise.{IsUndisturbed};
-ghost use Rattle.lynx_store.specs.Stored.{HasTitle, IsKept, IsOfNoVersion, IsOther, IsServerOf, KeepsNothing, Owner, ShowsTitle, Tells, owner_for, title_for, version_text};
+ghost use Rattle.lynx_store.specs.Stored.{HasTitle, HoldsNothing, IsKept, IsOfNoVersion, IsOther, IsServerOf, KeepsNothingForAny, LeavesNoMore, Owner, StaysKept, ShowsTitle, Tells, owner_for, title_for, version_text};
 
 use crate::fault::StoreFault;
 use crate::heading::{Heading, texts_of, version_for, version_text};
@@ -162,16 +161,13 @@ pub fn inspect<S: Rising>(alloc: Global, conn: &mut Connection<S>) -> Result<Ins
     // It stays kept, whatever fault there is but one of the database.
     ensures same { IsUndisturbed (state S.Store conn.new)
         → IfErr result (λ fault. fault ≢ StoreFault.Store
-        → (owner : Owner) (count : ℕ) (kept : KeptState)
-        → IsKept (state S.Store conn.old) owner count kept
-        → IsKept (state S.Store conn.new) owner count kept) }
+        → StaysKept (state S.Store conn.old) (state S.Store conn.new)) }
     // The server is one of the set's.
     ensures set { IfOk result (λ held. IsServerOf held.server held.set) }
     // A store is called damaged only where nothing is kept for any server of any set, and of
     // another version only where its `meta` says so; it is of no other set.
     ensures damaged { IsUndisturbed (state S.Store conn.new) → IsErrOf result StoreFault.Damaged
-        → (server : ℕ) (chains : Set) → IsServerOf server chains
-        → KeepsNothing (state S.Store conn.old) (owner_for server chains) }
+        → KeepsNothingForAny (state S.Store conn.old) }
     ensures other_version { IsUndisturbed (state S.Store conn.new)
         → IsErrOf result StoreFault.OtherVersion
         → IsOfNoVersion (HasTitle (state S.Store conn.old)) }
@@ -179,10 +175,9 @@ pub fn inspect<S: Rising>(alloc: Global, conn: &mut Connection<S>) -> Result<Ins
     // A store of either version is called of no other.
     ensures other { IsUndisturbed (state S.Store conn.new)
         → IfErr result (λ fault. fault ≡ StoreFault.OtherVersion
-        → (owner : Owner) (count : ℕ) (kept : KeptState)
-        → IsKept (state S.Store conn.old) owner count kept → ⊥) }
-    ensures stop { IsUndisturbed (state S.Store conn.new) → (db : Trees)
-        → (state S.Store conn.new).may_leave db → (state S.Store conn.old).may_leave db }
+        → HoldsNothing (state S.Store conn.old)) }
+    ensures stop { IsUndisturbed (state S.Store conn.new)
+        → LeavesNoMore (state S.Store conn.old) (state S.Store conn.new) }
 {
     if !is_store(conn.schema()) {
         return Err(StoreFault::Damaged);

@@ -4,13 +4,12 @@ ghost use Rattle.std.specs.List.{AllByRecursion};
 ghost use Rattle.lynx_keep.specs.Stored.{HasEncoding};
 ghost use Rattle.lynx_set.specs.Set.{Set};
 ghost use Rattle.sqlite_trees.specs.View.{doubt};
-ghost use Rattle.sqlite.specs.Tree.{Trees};
 ghost use Rattle.sqlite.specs.Held.{state};
 ghost use Rattle.lynx_keep.specs.Kept.{KeptState};
 ghost use Rattle.lynx_sql.specs.Tables.{IsStoreSchema};
 ghost use Rattle.lynx_store.specs.Premise.{IsUndisturbed};
 ghost use Rattle.lynx_store.specs.Salvages.{IsLongestShown, Salvages};
-ghost use Rattle.lynx_store.specs.Stored.{HasTitle, IsKept, IsOfNoVersion, IsServerOf, KeepsNothing, Owner, ShowsTitle, owner_for, title_for};
+ghost use Rattle.lynx_store.specs.Stored.{HasTitle, HoldsNothing, IsKept, IsOfNoVersion, IsServerOf, KeepsNothingForAny, LeavesNoMore, Owner, StaysKept, ShowsTitle, owner_for, title_for};
 
 use crate::fault::StoreFault;
 use crate::inspecting::{heading_in, owner_of};
@@ -92,16 +91,13 @@ pub fn salvage<S: Rising>(alloc: Global, conn: &mut Connection<S>) -> Result<Sal
     ensures few { IfOk result (λ held. length held.entries.items < 2 ^ 32) }
     // It stays kept, whatever comes out but a fault of the database.
     ensures same { IsUndisturbed (state S.Store conn.new) → result ≢ Err StoreFault.Store
-        → (owner : Owner) (count : ℕ) (kept : KeptState)
-        → IsKept (state S.Store conn.old) owner count kept
-        → IsKept (state S.Store conn.new) owner count kept }
+        → StaysKept (state S.Store conn.old) (state S.Store conn.new) }
     // The server is one of the set's.
     ensures set { IfOk result (λ held. IsServerOf held.server held.set) }
     // A store is called damaged only where nothing is kept for any server of any set, and of
     // another version only where its `meta` says so; it is of no other set.
     ensures damaged { IsUndisturbed (state S.Store conn.new) → IsErrOf result StoreFault.Damaged
-        → (server : ℕ) (chains : Set) → IsServerOf server chains
-        → KeepsNothing (state S.Store conn.old) (owner_for server chains) }
+        → KeepsNothingForAny (state S.Store conn.old) }
     ensures other_version { IsUndisturbed (state S.Store conn.new)
         → IsErrOf result StoreFault.OtherVersion
         → IsOfNoVersion (HasTitle (state S.Store conn.old)) }
@@ -109,10 +105,9 @@ pub fn salvage<S: Rising>(alloc: Global, conn: &mut Connection<S>) -> Result<Sal
     // A store of either version is called of no other.
     ensures other { IsUndisturbed (state S.Store conn.new)
         → IfErr result (λ fault. fault ≡ StoreFault.OtherVersion
-        → (owner : Owner) (count : ℕ) (kept : KeptState)
-        → IsKept (state S.Store conn.old) owner count kept → ⊥) }
-    ensures stop { IsUndisturbed (state S.Store conn.new) → (db : Trees)
-        → (state S.Store conn.new).may_leave db → (state S.Store conn.old).may_leave db }
+        → HoldsNothing (state S.Store conn.old)) }
+    ensures stop { IsUndisturbed (state S.Store conn.new)
+        → LeavesNoMore (state S.Store conn.old) (state S.Store conn.new) }
 {
     if !is_store(conn.schema()) {
         return Err(StoreFault::Damaged);

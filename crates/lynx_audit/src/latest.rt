@@ -3,8 +3,9 @@ ghost use Rattle.std.specs.Prelude.{◌≡◌, IfOk, OnOk};
 ghost use Rattle.std.specs.BTreeMap.{get};
 ghost use Rattle.std.specs.Option.{option_or};
 ghost use Rattle.lynx_names.specs.declared.chain.ChainId.{ChainId};
+ghost use Rattle.lynx_report.specs.Lasts.{told_at, told_of};
 ghost use Rattle.lynx_report.specs.Owed.{chain_cmp};
-ghost use Rattle.lynx_audit.specs.Latest.{latest_at, latest_for, latest_in, latest_of};
+ghost use Rattle.lynx_audit.specs.Latest.{latest_in, latest_of};
 
 use lynx_entry::Entry;
 use lynx_names::{ChainId, Memory, ProgramId, Stamp};
@@ -40,7 +41,7 @@ fn latest_in(entry: &Entry) -> Option<(ChainId, Latest)>
 
 /// The same of the entry at that place.
 fn latest_at(world: &World, place: usize) -> Option<(ChainId, Latest)>
-    ensures { result ≡ latest_at world.now.list place }
+    ensures { result ≡ told_at latest_in world.now.list place }
 {
     match world.entry(place) {
         Some(listed) => latest_in(listed.entry),
@@ -54,7 +55,7 @@ fn note(
     latest: Option<(ChainId, Latest)>,
 ) -> Result<(), Memory>
     ensures { OnOk result ((chain : ChainId) → get chain_cmp chains.new chain
-        ≡ option_or (latest_for chain latest) (get chain_cmp chains.old chain)) }
+        ≡ option_or (told_of chain latest) (get chain_cmp chains.old chain)) }
 {
     if let Some((chain, last)) = latest {
         chains.insert(chain, last)?;

@@ -1,5 +1,6 @@
 pub mod Asked
 pub mod Charted
+pub mod Lasts
 pub mod Owing
 pub mod Printed
 pub mod Reaching

@@ -29,7 +29,8 @@ use Rattle.lynx_report.specs.Owed.{AreTheOwed, IsOwed, chain_cmp, owed_cmp}
 use Rattle.lynx_report.specs.declared.owed.OwedHop.{OwedHop}
 use Rattle.lynx_report.specs.declared.reached.Reached.{Reached}
 use Rattle.lynx_report.specs.inner.Reached.{left_of, reached_of}
-use Rattle.lynx_report.proofs.Reaching.{reached_of-legal, reached_with, tied_chains}
+use Rattle.lynx_report.proofs.Lasts.{tied_chains}
+use Rattle.lynx_report.proofs.Reaching.{reached_of-legal, reached_with}
 
 -- ---- what is in lists
 

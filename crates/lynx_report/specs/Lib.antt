@@ -1,6 +1,7 @@
 pub mod Charts
 pub mod Checks
 pub mod Drawings
+pub mod Lasts
 pub mod Options
 pub mod Owed
 pub mod Refusals

@@ -3,8 +3,9 @@ ghost use Rattle.std.specs.Prelude.{◌≡◌, IfOk, OnOk};
 ghost use Rattle.std.specs.BTreeMap.{get};
 ghost use Rattle.std.specs.Option.{option_or};
 ghost use Rattle.lynx_names.specs.declared.chain.ChainId.{ChainId};
+ghost use Rattle.lynx_report.specs.Lasts.{told_at, told_of};
 ghost use Rattle.lynx_report.specs.Owed.{chain_cmp};
-ghost use Rattle.lynx_report.specs.inner.Reached.{reached_at, reached_for, reached_in, reached_of};
+ghost use Rattle.lynx_report.specs.inner.Reached.{reached_in, reached_of};
 
 use lynx_entry::Entry;
 use lynx_names::{ChainId, Memory, ProgramId};
@@ -40,7 +41,7 @@ fn reached_in(entry: &Entry) -> Option<(ChainId, Reached)>
 
 /// The same of the entry at that place.
 fn reached_at(world: &World, place: usize) -> Option<(ChainId, Reached)>
-    ensures { result ≡ reached_at world.now.list place }
+    ensures { result ≡ told_at reached_in world.now.list place }
 {
     match world.entry(place) {
         Some(listed) => reached_in(listed.entry),
@@ -54,7 +55,7 @@ fn note(
     reached: Option<(ChainId, Reached)>,
 ) -> Result<(), Memory>
     ensures { OnOk result ((chain : ChainId) → get chain_cmp chains.new chain
-        ≡ option_or (reached_for chain reached) (get chain_cmp chains.old chain)) }
+        ≡ option_or (told_of chain reached) (get chain_cmp chains.old chain)) }
 {
     if let Some((chain, far)) = reached {
         chains.insert(chain, far)?;

@@ -2,10 +2,11 @@ use Rattle.std.proofs.Common.{◌∙◌, Option, ap, sym}
 use Rattle.std.specs.BTreeMap.{get}
 use Rattle.std.specs.Option.{option_or}
 use Rattle.lynx_names.specs.declared.chain.ChainId.{ChainId}
+use Rattle.lynx_report.specs.Lasts.{told_at, told_of}
 use Rattle.lynx_report.specs.Owed.{chain_cmp}
+use Rattle.lynx_report.proofs.Lasts.{last_of-more}
 use Rattle.lynx_audit.specs.declared.latest.Latest.{Latest}
-use Rattle.lynx_audit.specs.Latest.{latest_at, latest_for}
-use Rattle.lynx_audit.proofs.Lasts.{latest_of-more}
+use Rattle.lynx_audit.specs.Latest.{latest_in}
 use Rattle.lynx_audit.proofs.latest.latest_chains.Goals as goal
 
 pub loop-place-preserved : goal.loop-place-preserved
@@ -14,6 +15,6 @@ loop-place-preserved c =
     let place = c.loop-place.place in
     λ chain.
     c.in_ok-note.ensures chain
-    ∙ ap (λ (r : Option (ChainId × Latest)). option_or (latest_for chain r) (get chain_cmp c.loop-place.chains chain)) c.latest_at.ensures
-    ∙ ap (option_or (latest_for chain (latest_at list place))) (c.loop-place.invariant chain)
-    ∙ sym (latest_of-more list place chain)
+    ∙ ap (λ (r : Option (ChainId × Latest)). option_or (told_of chain r) (get chain_cmp c.loop-place.chains chain)) c.latest_at.ensures
+    ∙ ap (option_or (told_of chain (told_at latest_in list place))) (c.loop-place.invariant chain)
+    ∙ sym (last_of-more latest_in list place chain)

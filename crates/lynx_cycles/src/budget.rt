@@ -16,8 +16,9 @@ impl Budget {
         self.left = self.left.saturating_sub(steps);
     }
 
-    pub(crate) fn left(&self) -> u64 {
-        self.left
+    /// How many of so many steps were taken.
+    pub(crate) fn taken_of(&self, steps: u64) -> u64 {
+        steps.saturating_sub(self.left)
     }
 
     pub(crate) fn is_spent(&self) -> bool {

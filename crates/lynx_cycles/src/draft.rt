@@ -1,10 +1,16 @@
 //! A circle of chains on its way.
 use crate::facts::Facts;
-use crate::graph::{HopGraph, HopOf};
 use crate::joints::Joint;
-use lynx_names::{Memory, ServerId};
+use lynx_names::Memory;
 use lynx_set::Key;
 use std::alloc::Global;
+
+/// A hop of a chain, both by their numbers.
+#[derive(Clone, Copy)]
+pub(crate) struct HopOf {
+    pub chain: usize,
+    pub hop: usize,
+}
 
 /// A key of a chain: a number, or an argument.
 #[derive(Clone, Copy, PartialEq, Eq)]
@@ -13,172 +19,122 @@ pub(crate) struct KeyOf {
     pub key: Key,
 }
 
-/// Two keys that have to be equal.
-#[derive(Clone, Copy)]
-pub(crate) struct Tie {
-    pub left: KeyOf,
-    pub right: KeyOf,
-}
-
-/// Two chains of one origin that stand next to each other in the circle, the first begun first.
-#[derive(Clone, Copy)]
-pub(crate) struct Pair {
-    pub first: usize,
-    pub second: usize,
-}
-
-/// Chains, and what has to be so that they make a circle.
+/// Chains each of which conflicts with the next. Once the last does with the first it is a circle.
 #[derive(Drop)]
 pub(crate) struct Draft {
     /// The program of each chain.
     pub chains: Vec<usize>,
-    /// The hops, with the conflicts and the rules of order.
-    pub graph: HopGraph,
-    pub ties: Vec<Tie>,
-    /// The pairs that conflicts have to link.
-    pub pairs: Vec<Pair>,
     /// The chains in an order of their begins, of which that at each origin counts.
     pub begins: Vec<usize>,
+    /// By which conflict each chain comes before the next.
+    pub joints: Vec<Joint>,
+    /// The hop by which the first chain is entered, which is left by an earlier one.
+    pub entered: usize,
 }
 
 impl Draft {
-    /// No chains.
-    pub(crate) fn new(alloc: Global) -> Draft {
-        Draft {
-            chains: Vec::new(alloc),
-            graph: HopGraph::new(alloc),
-            ties: Vec::new(alloc),
-            pairs: Vec::new(alloc),
-            begins: Vec::new(alloc),
-        }
+    /// One chain.
+    pub(crate) fn new(alloc: Global, program: usize, entered: usize) -> Result<Draft, Memory> {
+        Ok(Draft {
+            chains: vec![in alloc; program]?,
+            begins: vec![in alloc; 0]?,
+            joints: Vec::new(alloc),
+            entered,
+        })
     }
 
-    pub(crate) fn copy(&self) -> Result<Draft, Memory> {
+    /// The same, whose last chain comes before the first by the joint.
+    pub(crate) fn closed(&self, joint: &Joint) -> Result<Draft, Memory> {
+        let mut joints = self.joints.clone()?;
+        joints.push(*joint)?;
         Ok(Draft {
             chains: self.chains.clone()?,
-            graph: self.graph.copy()?,
-            ties: self.ties.clone()?,
-            pairs: self.pairs.clone()?,
             begins: self.begins.clone()?,
+            joints,
+            entered: self.entered,
         })
+    }
+
+    /// The same with a chain more, before which the last one comes by the joint. Its begin stands
+    /// at that place.
+    pub(crate) fn longer(&self, joint: &Joint, place: usize) -> Result<Draft, Memory> {
+        let mut longer = self.closed(joint)?;
+        let place = place.min(longer.begins.len());
+        longer.begins.insert(place, longer.chains.len())?;
+        longer.chains.push(joint.program)?;
+        Ok(longer)
     }
 
     /// How many steps a look at it counts: about in proportion to the time that it takes.
     pub(crate) fn cost(&self) -> u64 {
-        (self.chains.len() as u64 / 2).max(1)
+        (self.chains.len() as u64).saturating_mul(2)
     }
 
-    /// The number of the last chain.
-    pub(crate) fn last(&self) -> usize {
-        self.chains.len().saturating_sub(1)
+    pub(crate) fn is_closed(&self) -> bool {
+        self.joints.len() == self.chains.len()
     }
 
     pub(crate) fn program(&self, chain: usize) -> usize {
         self.chains.get(chain).copied().unwrap_or(0)
     }
 
-    /// Whether a chain is of a program of that origin.
-    pub(crate) fn has_origin(&self, facts: &Facts<'_>, origin: Option<ServerId>) -> bool {
-        self.chains
-            .iter()
-            .any(|program| facts.origin(*program) == origin)
+    /// The program of the last chain.
+    pub(crate) fn last(&self) -> usize {
+        self.chains.last().copied().unwrap_or(0)
     }
 
-    /// Adds a chain that is begun last.
-    pub(crate) fn add_chain(&mut self, facts: &Facts<'_>, program: usize) -> Result<(), Memory> {
-        let number = self.chains.len();
-        self.add_chain_at(facts, program, number)
+    /// The chain behind that one, the first behind the last.
+    pub(crate) fn next(&self, chain: usize) -> usize {
+        let next = chain.saturating_add(1);
+        if next < self.chains.len() { next } else { 0 }
     }
 
-    /// Adds a chain whose begin is of that number among those of its origin, or the last.
-    pub(crate) fn add_chain_at(
-        &mut self,
-        facts: &Facts<'_>,
-        program: usize,
-        number: usize,
-    ) -> Result<(), Memory> {
-        let chain = self.chains.len();
-        let at = self.place_of(facts, facts.origin(program), number);
-        self.graph.add_chain(facts.hops(program))?;
-        self.chains.push(program)?;
-        for place in 0..self.begins.len() {
-            let other = self.begins.get(place).copied().unwrap_or(0);
-            if place < at {
-                self.add_turns(facts, other, chain);
-            } else {
-                self.add_turns(facts, chain, other);
-            }
-        }
-        let at = at.min(self.begins.len());
-        self.begins.insert(at, chain)?;
-        Ok(())
-    }
-
-    /// The first chain is through at each server before the second acts there, where they are of
-    /// one origin.
-    fn add_turns(&mut self, facts: &Facts<'_>, first: usize, second: usize) {
-        let left = self.program(first);
-        let right = self.program(second);
-        for turn in facts.turns(left, right) {
-            self.graph.add(turn.last_of(first), turn.first_of(second));
-        }
-    }
-
-    /// Where in the order of begins the chain of that number among those of the origin stands, the
-    /// end where there are no more than that.
-    fn place_of(&self, facts: &Facts<'_>, origin: Option<ServerId>, number: usize) -> usize {
-        let mut met = 0usize;
-        for (place, chain) in self.begins.iter().enumerate() {
-            if facts.origin(self.program(*chain)) == origin {
-                if met == number {
-                    return place;
+    /// The keys that have to be equal to that one, itself first.
+    pub(crate) fn equal_keys(&self, alloc: Global, key: KeyOf) -> Result<Vec<KeyOf>, Memory> {
+        let mut equal = vec![in alloc; key]?;
+        for _ in 0..self.joints.len() {
+            let count = equal.len();
+            for (chain, joint) in self.joints.iter().enumerate() {
+                let left = KeyOf {
+                    chain,
+                    key: joint.left_key,
+                };
+                let right = KeyOf {
+                    chain: self.next(chain),
+                    key: joint.key,
+                };
+                if equal.contains(&left) && !equal.contains(&right) {
+                    equal.push(right)?;
+                } else if equal.contains(&right) && !equal.contains(&left) {
+                    equal.push(left)?;
                 }
-                met = met.saturating_add(1);
+            }
+            if equal.len() == count {
+                break;
             }
         }
-        self.begins.len()
+        Ok(equal)
     }
 
-    /// How many chains are of programs of that origin.
-    pub(crate) fn count_of(&self, facts: &Facts<'_>, origin: Option<ServerId>) -> usize {
-        self.chains
-            .iter()
-            .filter(|program| facts.origin(**program) == origin)
-            .count()
+    /// Which numbers of the pool all of these keys may be.
+    pub(crate) fn numbers_of(&self, facts: &Facts<'_>, keys: &[KeyOf]) -> u128 {
+        let mut numbers = u128::MAX;
+        for key in keys {
+            numbers &= facts.numbers_of(self.program(key.chain), key.key);
+        }
+        numbers
     }
 
-    /// Adds a chain that is begun last, and makes a pair of it and the one before it.
-    pub(crate) fn add_pair(&mut self, facts: &Facts<'_>, program: usize) -> Result<(), Memory> {
-        let first = self.last();
-        self.add_chain(facts, program)?;
-        let second = self.last();
-        self.pairs.push(Pair { first, second })?;
-        Ok(())
-    }
-
-    /// Adds the conflict by which the one chain is left by that hop, and the other entered.
-    pub(crate) fn join(
-        &mut self,
-        chain: usize,
-        left: usize,
-        to: usize,
-        joint: &Joint,
-    ) -> Result<(), Memory> {
-        let entered = HopOf {
-            chain: to,
-            hop: joint.hop,
+    /// Whether a number is left for the keys of the last joint.
+    pub(crate) fn has_numbers(&self, alloc: Global, facts: &Facts<'_>) -> Result<bool, Memory> {
+        let Some(joint) = self.joints.last() else {
+            return Ok(true);
         };
-        self.graph.add(HopOf { chain, hop: left }, entered);
-        self.ties.push(Tie {
-            left: KeyOf {
-                chain,
-                key: joint.left_key,
-            },
-            right: KeyOf {
-                chain: to,
-                key: joint.key,
-            },
-        })?;
-        Ok(())
+        let key = KeyOf {
+            chain: self.joints.len().saturating_sub(1),
+            key: joint.left_key,
+        };
+        let equal = self.equal_keys(alloc, key)?;
+        Ok(self.numbers_of(facts, equal.as_slice()) != 0)
     }
 }

@@ -1,38 +1,34 @@
 //! What the search asks of a set, worked out once.
-use crate::pool::likely_numbers;
+use crate::pool::Pool;
 use crate::program_facts::ProgramFacts;
-use crate::turns::{Turn, all_turns};
 use lynx_names::limits::MAX_PROGRAMS;
 use lynx_names::{Memory, ProgramId, ServerId};
-use lynx_set::ChainSet;
+use lynx_set::{ChainSet, Key};
 use std::alloc::Global;
 
+/// Programs go by their numbers in the set.
 #[derive(Drop)]
 pub(crate) struct Facts<'a> {
     pub set: &'a ChainSet,
     pub programs: Vec<ProgramFacts>,
-    /// Numbers that arguments are likely to be, the likeliest first.
-    pub pool: Vec<u64>,
-    /// For each two programs of one origin their turns, by the first and then by the second.
-    turns: Vec<Vec<Vec<Turn>>>,
+    pub pool: Pool,
 }
 
 impl<'a> Facts<'a> {
     pub(crate) fn of(alloc: Global, set: &'a ChainSet) -> Result<Facts<'a>, Memory> {
+        let pool = Pool::of(alloc, set)?;
         let mut programs = Vec::new(alloc);
         for number in 0..MAX_PROGRAMS {
             if let Some(id) = ProgramId::new(number) {
                 if let Some(program) = set.program(id) {
-                    programs.push(ProgramFacts::of(alloc, set, id, program)?)?;
+                    programs.push(ProgramFacts::of(alloc, set, &pool, id, program)?)?;
                 }
             }
         }
-        let turns = all_turns(alloc, programs.as_slice())?;
         Ok(Facts {
             set,
             programs,
-            turns,
-            pool: likely_numbers(alloc, set)?,
+            pool,
         })
     }
 
@@ -52,20 +48,11 @@ impl<'a> Facts<'a> {
         self.programs.get(program)?.origin()
     }
 
-    /// How many origins there are, at most.
-    pub(crate) fn origins(&self) -> usize {
-        usize::from(self.set.servers())
-    }
-
-    /// Where a chain of the first program, begun before one of the second at one origin, has to be
-    /// through. None where they are of two origins.
-    pub(crate) fn turns(&self, first: usize, second: usize) -> &[Turn] {
-        match self.turns.get(first) {
-            Some(rows) => match rows.get(second) {
-                Some(turns) => turns.as_slice(),
-                None => &[],
-            },
-            None => &[],
+    /// Which numbers of the pool the program's key may be.
+    pub(crate) fn numbers_of(&self, program: usize, key: Key) -> u128 {
+        match self.programs.get(program) {
+            Some(facts) => facts.numbers_of(&self.pool, key),
+            None => 0,
         }
     }
 }

@@ -1,9 +1,7 @@
 //! Which hops may conflict, and the keys that are then equal.
 use crate::budget::Budget;
 use crate::facts::Facts;
-use crate::numbers::can_be_equal;
 use crate::program_facts::ProgramFacts;
-use lynx_foot::Foot;
 use lynx_names::Memory;
 use lynx_set::Key;
 use std::alloc::Global;
@@ -24,65 +22,100 @@ pub(crate) struct Joint {
 }
 
 impl Joint {
-    fn is_of_numbers(&self) -> bool {
-        matches!(
-            (self.left_key, self.key),
-            (Key::Literal(_), Key::Literal(_))
-        )
-    }
-
     /// Whether it leaves no later, enters no earlier, and asks for no other keys.
     fn asks_less(&self, other: &Joint) -> bool {
         self.left_hop <= other.left_hop
             && self.hop >= other.hop
-            && (self.is_of_numbers() || (self.left_key == other.left_key && self.key == other.key))
+            && self.left_key == other.left_key
+            && self.key == other.key
     }
 }
 
-/// The joints by which each hop of each program is left.
+/// The joints by which each program is left, and how many lead from one program to another.
 #[derive(Drop)]
 pub(crate) struct Joints {
-    by_hop: Vec<Vec<Vec<Joint>>>,
+    by_program: Vec<Vec<Joint>>,
+    /// By the program that is entered last, and then by the one that is left first.
+    distances: Vec<Vec<Option<usize>>>,
 }
 
 impl Joints {
     pub(crate) fn of(alloc: Global, facts: &Facts<'_>) -> Result<Joints, Memory> {
-        let mut by_hop = Vec::new(alloc);
+        let mut by_program = Vec::new(alloc);
         let mut looks = Budget::new(MAX_LOOKS);
         for left in facts.programs.iter() {
-            let mut rows: Vec<Vec<Joint>> = Vec::new(alloc);
-            for _ in 0..left.hops() {
-                rows.push(Vec::new(alloc))?;
-            }
+            let mut joints = Vec::new(alloc);
             for right in facts.programs.iter() {
-                if left.can_begin && right.can_begin {
-                    for joint in joints_between(alloc, left, right, &mut looks)?.iter() {
-                        if let Some(row) = rows.get_mut(joint.left_hop) {
-                            row.push(*joint)?;
-                        }
-                    }
+                if left.can_begin() && right.can_begin() {
+                    let mut found = joints_between(alloc, facts, left, right, &mut looks)?;
+                    joints.append(&mut found)?;
                 }
             }
-            by_hop.push(rows)?;
+            by_program.push(joints)?;
         }
-        Ok(Joints { by_hop })
+        let mut distances = Vec::new(alloc);
+        for to in 0..by_program.len() {
+            distances.push(distances_to(alloc, by_program.as_slice(), to)?)?;
+        }
+        Ok(Joints {
+            by_program,
+            distances,
+        })
     }
 
-    /// The joints by which that hop of the program is left.
-    pub(crate) fn at(&self, program: usize, hop: usize) -> &[Joint] {
-        match self.by_hop.get(program) {
-            Some(rows) => match rows.get(hop) {
-                Some(row) => row.as_slice(),
-                None => &[],
-            },
+    /// How many joints lead from the one program to the other, at least. None where no joints do.
+    pub(crate) fn distance(&self, from: usize, to: usize) -> Option<usize> {
+        *self.distances.get(to)?.get(from)?
+    }
+
+    /// The joints by which the program is left.
+    pub(crate) fn of_program(&self, program: usize) -> &[Joint] {
+        match self.by_program.get(program) {
+            Some(joints) => joints.as_slice(),
             None => &[],
         }
+    }
+}
+
+/// How many joints lead from each program to that one, at least.
+fn distances_to(
+    alloc: Global,
+    by_program: &[Vec<Joint>],
+    to: usize,
+) -> Result<Vec<Option<usize>>, Memory> {
+    let mut distances: Vec<Option<usize>> = vec![in alloc; None; by_program.len()]?;
+    for distance in 1..=by_program.len() {
+        let mut has_grown = false;
+        for (program, joints) in by_program.iter().enumerate() {
+            let leads = joints.iter().any(|joint| {
+                distance == 1 && joint.program == to
+                    || is_nearer(distances.as_slice(), joint.program, distance)
+            });
+            if let Some(slot) = distances.get_mut(program) {
+                if leads && slot.is_none() {
+                    *slot = Some(distance);
+                    has_grown = true;
+                }
+            }
+        }
+        if !has_grown {
+            break;
+        }
+    }
+    Ok(distances)
+}
+
+fn is_nearer(distances: &[Option<usize>], program: usize, distance: usize) -> bool {
+    match distances.get(program) {
+        Some(Some(known)) => *known < distance,
+        _ => false,
     }
 }
 
 /// The joints from the one program to the other, without those than which another asks less.
 fn joints_between(
     alloc: Global,
+    facts: &Facts<'_>,
     left: &ProgramFacts,
     right: &ProgramFacts,
     looks: &mut Budget,
@@ -91,15 +124,17 @@ fn joints_between(
     for (left_hop, server) in left.servers.iter().enumerate() {
         for (hop, other) in right.servers.iter().enumerate() {
             if *server == *other {
-                add_joints(left, left_hop, right, hop, &mut found, looks)?;
+                add_joints(facts, left, left_hop, right, hop, &mut found, looks)?;
             }
         }
     }
     Ok(found)
 }
 
-/// Adds those of two hops at one server.
+/// Adds those of two hops at one server: their feet are of one cell, with some arguments, and don't
+/// commute.
 fn add_joints(
+    facts: &Facts<'_>,
     left: &ProgramFacts,
     left_hop: usize,
     right: &ProgramFacts,
@@ -108,8 +143,12 @@ fn add_joints(
     looks: &mut Budget,
 ) -> Result<(), Memory> {
     for foot in left.feet_at(left_hop) {
+        let numbers = left.numbers_of(&facts.pool, foot.key);
         for other in right.feet_at(hop) {
-            if may_collide(left, foot, right, other) {
+            if foot.table == other.table
+                && !foot.kind.commutes(other.kind)
+                && numbers & right.numbers_of(&facts.pool, other.key) != 0
+            {
                 let joint = Joint {
                     left_hop,
                     left_key: foot.key,
@@ -122,18 +161,6 @@ fn add_joints(
         }
     }
     Ok(())
-}
-
-/// Whether the feet are of one cell, with some arguments, and don't commute.
-fn may_collide(left: &ProgramFacts, foot: &Foot, right: &ProgramFacts, other: &Foot) -> bool {
-    foot.table == other.table
-        && !foot.kind.commutes(other.kind)
-        && can_be_equal(
-            foot.key,
-            left.values.as_slice(),
-            other.key,
-            right.values.as_slice(),
-        )
 }
 
 /// Adds the joint where none asks less, in the place of those than which it asks less.

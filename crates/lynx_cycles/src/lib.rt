@@ -5,29 +5,17 @@
 
 pub use making::made_events;
 
-mod arguments;
-mod best;
 mod budget;
-mod call;
 mod circles;
-mod classes;
 mod draft;
 mod facts;
-mod graph;
-mod growing;
-mod helpers;
-mod hop_set;
+mod helping;
 mod joints;
-mod linking;
 pub mod making;
-mod needs;
-mod numbers;
-mod passing;
-mod play;
+mod playing;
 mod pool;
 mod program_facts;
-mod rounds;
 mod run;
+mod schedule;
+mod search;
 mod sparing;
-mod starts;
-mod turns;

@@ -1,8 +1,8 @@
 //! The events of a run that ends with a cycle.
 use crate::facts::Facts;
 use crate::joints::Joints;
-use crate::rounds::Search;
 use crate::run::Run;
+use crate::search::find;
 use lynx_entry::{Event, Request};
 use lynx_names::{ChainId, ClientId, Memory, ServerId, Stamp, TryCopy};
 use lynx_set::ChainSet;
@@ -13,8 +13,8 @@ use std::alloc::Global;
 /// not that there is none.
 ///
 /// The effort is how many steps of the search for circles are made, at most, and twice the begins
-/// that are tried. A step is a look at two hops that may conflict; it counts once for each two
-/// chains of the circle so far. 200,000 steps take a second at most.
+/// that are tried. A step is a look at two hops that may conflict; it counts twice for each
+/// chain so far. 200,000 steps take a second at most.
 pub fn made_events(
     alloc: Global,
     set: &ChainSet,
@@ -22,11 +22,7 @@ pub fn made_events(
 ) -> Result<Option<Vec<Event>>, Memory> {
     let facts = Facts::of(alloc, set)?;
     let joints = Joints::of(alloc, &facts)?;
-    let found = {
-        let mut search = Search::new(alloc, &facts, &joints, effort)?;
-        search.find(alloc)?
-    };
-    match found {
+    match find(alloc, &facts, &joints, effort)? {
         Some(run) => Ok(Some(events_of(alloc, &facts, &run)?)),
         None => Ok(None),
     }

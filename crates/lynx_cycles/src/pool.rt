@@ -1,82 +1,118 @@
-//! Numbers that arguments are likely to be.
+//! The numbers that the search tries as keys and arguments.
 use lynx_names::Memory;
-use lynx_set::{Action, ChainSet, Hop, Key, Operand};
+use lynx_set::{Action, ChainSet, Key, Operand};
 use std::alloc::Global;
 
-/// How many numbers of the set's text are taken.
-const MAX_LITERALS: usize = 12;
+/// How many numbers are tried, at most: a mask has a bit for each.
+const MOST_NUMBERS: usize = 128;
 
-/// Some small numbers, and those that the set's text names, with their neighbours, each once.
-pub(crate) fn likely_numbers(alloc: Global, set: &ChainSet) -> Result<Vec<u64>, Memory> {
-    let mut pool = Vec::new(alloc);
-    for number in [1, 0, 2, 100] {
-        pool.push(number)?;
-    }
-    let mut literals = literals_of(alloc, set)?;
-    literals.sort_unstable();
-    let mut taken = 0usize;
-    let mut last = None;
-    for literal in literals.as_slice() {
-        if taken < MAX_LITERALS && last != Some(*literal) {
-            add_with_neighbours(&mut pool, *literal)?;
-            taken = taken.saturating_add(1);
-            last = Some(*literal);
+/// Some numbers, each once, the likeliest first. A mask stands for some of them, by a bit for each.
+#[derive(Drop)]
+pub(crate) struct Pool {
+    numbers: Vec<u64>,
+}
+
+impl Pool {
+    /// Some small numbers, and those that the set names: the first ones of its shards and the ends
+    /// of ranges too, so that numbers which may be equal have one in common here.
+    pub(crate) fn of(alloc: Global, set: &ChainSet) -> Result<Pool, Memory> {
+        let mut pool = Pool {
+            numbers: Vec::new(alloc),
+        };
+        for number in [1, 0, 2, 100] {
+            pool.add(number)?;
         }
-    }
-    Ok(pool)
-}
-
-fn add_with_neighbours(pool: &mut Vec<u64>, number: u64) -> Result<(), Memory> {
-    add_once(pool, number)?;
-    if let Some(above) = number.checked_add(1) {
-        add_once(pool, above)?;
-    }
-    if let Some(below) = number.checked_sub(1) {
-        add_once(pool, below)?;
-    }
-    Ok(())
-}
-
-/// Adds the number where it isn't there.
-pub(crate) fn add_once(numbers: &mut Vec<u64>, number: u64) -> Result<(), Memory> {
-    if !numbers.iter().any(|other| *other == number) {
-        numbers.push(number)?;
-    }
-    Ok(())
-}
-
-/// All numbers that the actions of the set name.
-fn literals_of(alloc: Global, set: &ChainSet) -> Result<Vec<u64>, Memory> {
-    let mut literals = Vec::new(alloc);
-    for (_, program) in set.programs() {
-        for hop in program.hops.as_slice() {
-            add_literals(&mut literals, hop)?;
-        }
-    }
-    Ok(literals)
-}
-
-fn add_literals(literals: &mut Vec<u64>, hop: &Hop) -> Result<(), Memory> {
-    for action in hop.actions.as_slice() {
-        if let Some((_, Key::Literal(key))) = action.cell() {
-            literals.push(key)?;
-        }
-        let (left, right) = operands_of(action);
-        for operand in [left, right] {
-            if let Some(Operand::Number(number)) = operand {
-                literals.push(number)?;
+        for (_, program) in set.programs() {
+            for hop in program.hops.as_slice() {
+                for action in hop.actions.as_slice() {
+                    pool.add_action(action)?;
+                }
+            }
+            for range in program.ranges.as_slice() {
+                pool.add(range.interval.low)?;
+                pool.add(range.interval.high)?;
             }
         }
+        for shards in set.shards().tables() {
+            for shard in shards.as_slice() {
+                pool.add(shard.low)?;
+            }
+        }
+        Ok(pool)
     }
-    Ok(())
-}
 
-fn operands_of(action: &Action) -> (Option<Operand>, Option<Operand>) {
-    match *action {
-        Action::Get { .. } => (None, None),
-        Action::Update { value, .. } => (Some(value), None),
-        Action::Let { left, right, .. } | Action::Need { left, right, .. } => {
-            (Some(left), Some(right))
+    /// Adds the key of an action, and its numbers with their neighbours.
+    fn add_action(&mut self, action: &Action) -> Result<(), Memory> {
+        if let Some((_, Key::Literal(key))) = action.cell() {
+            self.add(key)?;
+        }
+        let operands = match *action {
+            Action::Get { .. } => [None, None],
+            Action::Update { value, .. } => [Some(value), None],
+            Action::Let { left, right, .. } | Action::Need { left, right, .. } => {
+                [Some(left), Some(right)]
+            }
+        };
+        for operand in operands {
+            if let Some(Operand::Number(number)) = operand {
+                self.add(number)?;
+                self.add(number.saturating_add(1))?;
+                self.add(number.saturating_sub(1))?;
+            }
+        }
+        Ok(())
+    }
+
+    /// Adds the number where it isn't there and there is room.
+    fn add(&mut self, number: u64) -> Result<(), Memory> {
+        if self.numbers.len() < MOST_NUMBERS && !self.numbers.contains(&number) {
+            self.numbers.push(number)?;
+        }
+        Ok(())
+    }
+
+    pub(crate) fn numbers(&self) -> &[u64] {
+        self.numbers.as_slice()
+    }
+
+    /// The mask of that number, of no number where it isn't there.
+    pub(crate) fn mask_of(&self, number: u64) -> u128 {
+        match self.numbers.iter().position(|other| *other == number) {
+            Some(place) => bit(place),
+            None => 0,
         }
     }
+
+    /// A number of the mask for an argument: in the first draw, and by half of the others, the
+    /// first, else one of them by chance. 0 where there is none.
+    pub(crate) fn pick(&self, mask: u128, draw: u64, argument: usize) -> u64 {
+        let bits = mixed(draw.wrapping_mul(64).wrapping_add(argument as u64));
+        let skipped = if draw == 0 || bits % 2 == 0 {
+            0
+        } else {
+            (bits >> 32) as usize % (mask.count_ones() as usize).max(1)
+        };
+        let picked = self
+            .numbers
+            .iter()
+            .enumerate()
+            .filter(|(place, _)| mask & bit(*place) != 0)
+            .nth(skipped);
+        match picked {
+            Some((_, number)) => *number,
+            None => 0,
+        }
+    }
+}
+
+/// A bit for a place below 128.
+pub(crate) fn bit(place: usize) -> u128 {
+    1u128 << (place % 128)
+}
+
+/// Bits that look like random ones.
+fn mixed(bits: u64) -> u64 {
+    let turned = (bits ^ bits >> 30).wrapping_mul(0xbf58_476d_1ce4_e5b9);
+    let turned = (turned ^ turned >> 27).wrapping_mul(0x94d0_49bb_1331_11eb);
+    turned ^ turned >> 31
 }

@@ -1,9 +1,8 @@
 //! What the search asks of a program.
-use crate::needs::cut_by_needs;
-use crate::numbers::{ALL, common};
+use crate::pool::{Pool, bit};
 use lynx_foot::{Foot, footprint};
-use lynx_names::{Memory, ProgramId, ServerId, TableId};
-use lynx_set::{ChainSet, Interval, Key, Program, range_of};
+use lynx_names::{Memory, ProgramId, ServerId};
+use lynx_set::{ChainSet, Key, Program, range_of};
 use std::alloc::Global;
 
 #[derive(Drop)]
@@ -13,16 +12,15 @@ pub(crate) struct ProgramFacts {
     pub servers: Vec<ServerId>,
     /// The feet of each hop, each once.
     pub feet: Vec<Vec<Foot>>,
-    /// The numbers that each argument may have.
-    pub values: Vec<Vec<Interval>>,
-    /// False where the program can never begin.
-    pub can_begin: bool,
+    /// Which numbers of the pool each argument may be.
+    pub arguments: Vec<u128>,
 }
 
 impl ProgramFacts {
     pub(crate) fn of(
         alloc: Global,
         set: &ChainSet,
+        pool: &Pool,
         id: ProgramId,
         program: &Program,
     ) -> Result<ProgramFacts, Memory> {
@@ -32,19 +30,47 @@ impl ProgramFacts {
             servers.push(hop.server)?;
             feet.push(feet_of(alloc, set, id, place)?)?;
         }
-        let mut values = ranges_of(alloc, program)?;
-        for (server, feet) in servers.iter().zip(feet.iter()) {
-            cut_by_shards(alloc, set, *server, feet.as_slice(), &mut values)?;
-        }
-        let is_fair = cut_by_needs(alloc, program, &mut values)?;
-        let can_begin = is_fair && values.iter().all(|numbers| !numbers.is_empty());
-        Ok(ProgramFacts {
+        let mut facts = ProgramFacts {
             program: id,
             servers,
             feet,
-            values,
-            can_begin,
+            arguments: Vec::new(alloc),
+        };
+        for parameter in 0..program.parameters.min(255) {
+            let numbers = facts.numbers_for(set, pool, program, parameter as u8);
+            facts.arguments.push(numbers)?;
+        }
+        Ok(facts)
+    }
+
+    /// Of the pool those in the parameter's range for which the server of each hop keeps the cell,
+    /// where the parameter is its key.
+    fn numbers_for(&self, set: &ChainSet, pool: &Pool, program: &Program, parameter: u8) -> u128 {
+        let range = range_of(program.ranges.as_slice(), parameter);
+        let mut mask = 0;
+        for (place, number) in pool.numbers().iter().enumerate() {
+            let is_in_range = range.is_none_or(|range| range.holds(*number));
+            if is_in_range && self.are_kept(set, parameter, *number) {
+                mask |= bit(place);
+            }
+        }
+        mask
+    }
+
+    /// Whether the servers of the hops keep the cells whose key is the parameter, where it is that
+    /// number.
+    fn are_kept(&self, set: &ChainSet, parameter: u8, number: u64) -> bool {
+        self.servers.iter().zip(self.feet.iter()).all(|(server, feet)| {
+            feet.iter().all(|foot| {
+                foot.key != Key::Param(parameter)
+                    || set.shards().server_of(foot.table, number) == *server
+            })
         })
+    }
+
+    /// False where an argument can be no number.
+    pub(crate) fn can_begin(&self) -> bool {
+        self.arguments.iter().all(|numbers| *numbers != 0)
     }
 
     pub(crate) fn hops(&self) -> usize {
@@ -67,15 +93,20 @@ impl ProgramFacts {
         self.servers.iter().position(|other| *other == server)
     }
 
-    /// The last hop at the server.
-    pub(crate) fn last_at(&self, server: ServerId) -> Option<usize> {
-        let mut last = None;
-        for (hop, other) in self.servers.iter().enumerate() {
-            if *other == server {
-                last = Some(hop);
-            }
+    /// Whether a chain that did so many hops has none left at the server.
+    pub(crate) fn is_through(&self, done: usize, server: ServerId) -> bool {
+        !self.servers.iter().skip(done).any(|other| *other == server)
+    }
+
+    /// Which numbers of the pool the key may be.
+    pub(crate) fn numbers_of(&self, pool: &Pool, key: Key) -> u128 {
+        match key {
+            Key::Literal(number) => pool.mask_of(number),
+            Key::Param(parameter) => match self.arguments.get(usize::from(parameter)) {
+                Some(numbers) => *numbers,
+                None => 0,
+            },
         }
-        last
     }
 }
 
@@ -88,62 +119,9 @@ fn feet_of(
 ) -> Result<Vec<Foot>, Memory> {
     let mut feet: Vec<Foot> = Vec::new(alloc);
     for foot in footprint(alloc, set, program, hop)?.iter() {
-        if !feet.iter().any(|other| *other == *foot) {
+        if !feet.contains(foot) {
             feet.push(*foot)?;
         }
     }
     Ok(feet)
-}
-
-/// The range of each parameter.
-fn ranges_of(alloc: Global, program: &Program) -> Result<Vec<Vec<Interval>>, Memory> {
-    let mut values = Vec::new(alloc);
-    for parameter in 0..program.parameters.min(255) {
-        let range = range_of(program.ranges.as_slice(), parameter as u8).unwrap_or(ALL);
-        let mut numbers = Vec::new(alloc);
-        numbers.push(range)?;
-        values.push(numbers)?;
-    }
-    Ok(values)
-}
-
-/// Of the numbers of parameters that are keys at the server those stay that it keeps.
-fn cut_by_shards(
-    alloc: Global,
-    set: &ChainSet,
-    server: ServerId,
-    feet: &[Foot],
-    values: &mut Vec<Vec<Interval>>,
-) -> Result<(), Memory> {
-    for foot in feet {
-        if let Key::Param(parameter) = foot.key {
-            if let Some(numbers) = values.get_mut(usize::from(parameter)) {
-                let kept = shards_at(alloc, set, foot.table, server)?;
-                let cut = common(alloc, numbers.as_slice(), kept.as_slice())?;
-                *numbers = cut;
-            }
-        }
-    }
-    Ok(())
-}
-
-/// The keys of the table that the server keeps.
-fn shards_at(
-    alloc: Global,
-    set: &ChainSet,
-    table: TableId,
-    server: ServerId,
-) -> Result<Vec<Interval>, Memory> {
-    let mut kept = Vec::new(alloc);
-    if let Some(shards) = set.shards().tables().get(table.index()) {
-        for shard in shards.as_slice() {
-            if shard.server == server {
-                kept.push(Interval {
-                    low: shard.low,
-                    high: shard.high,
-                })?;
-            }
-        }
-    }
-    Ok(kept)
 }

@@ -1,9 +1,9 @@
 //! A run so far: the cells, the chains, and the hops that were done.
+use crate::draft::HopOf;
 use crate::facts::Facts;
-use crate::graph::HopOf;
 use lynx_cells::{Cells, Changes};
 use lynx_hops::run::{HopFault, run_hop};
-use lynx_names::{Memory, ProgramId, ServerId, TryCopy, Values};
+use lynx_names::{Memory, ProgramId, TryCopy, Values};
 use std::alloc::Global;
 
 /// A chain that began.
@@ -15,35 +15,20 @@ pub(crate) struct Begun {
     pub results: Vec<Values>,
 }
 
-impl Begun {
-    fn copy(&self, alloc: Global) -> Result<Begun, Memory> {
-        let mut results = Vec::new(alloc);
-        for values in self.results.iter() {
-            results.push(values.copy(alloc)?)?;
-        }
-        Ok(Begun {
-            program: self.program,
-            args: self.args.copy(alloc)?,
-            results,
-        })
-    }
-}
-
-/// What came of a hop.
-#[derive(Drop)]
-enum Ran {
-    Done { results: Values, changes: Changes },
-    /// The number of the need that isn't met.
+/// What came of a hop that was tried.
+#[derive(Clone, Copy)]
+pub(crate) enum Acted {
+    Done,
+    /// The need of this number isn't met.
     Refused(u8),
+    /// It isn't the chain's turn, or it owes no hop.
+    Waits,
 }
 
-/// What came of a begin that was tried.
-#[derive(Drop)]
-pub(crate) enum Tried {
-    /// The run after it. The chain that began is the last.
-    Begun(Run),
-    /// How near it came: more needs were met, or 0 where it wasn't its turn.
-    Refused(u16),
+impl Acted {
+    pub(crate) fn is_done(self) -> bool {
+        matches!(self, Acted::Done)
+    }
 }
 
 /// Of a run what decides the next step.
@@ -64,149 +49,78 @@ impl Run {
         }
     }
 
-    pub(crate) fn copy(&self, alloc: Global) -> Result<Run, Memory> {
-        let mut chains = Vec::new(alloc);
-        for begun in self.chains.iter() {
-            chains.push(begun.copy(alloc)?)?;
-        }
-        Ok(Run {
-            cells: copy_of(alloc, &self.cells)?,
-            chains,
-            steps: self.steps.clone()?,
-        })
-    }
-
-    /// Whether of the chains before that one, of programs of this origin, each is through at the
-    /// server.
-    fn are_through(
-        &self,
+    /// A chain of the program begins, the last of the run. Where it can't, the run stays as it is.
+    pub(crate) fn begin(
+        &mut self,
+        alloc: Global,
         facts: &Facts<'_>,
-        before: usize,
-        origin: Option<ServerId>,
-        server: ServerId,
-    ) -> bool {
-        self.chains.iter().take(before).all(|begun| {
-            facts.origin(begun.program) != origin
-                || match facts.program(begun.program) {
-                    Some(program) => program
-                        .last_at(server)
-                        .is_none_or(|last| last < begun.results.len()),
-                    None => true,
-                }
-        })
+        program: usize,
+        args: &Values,
+    ) -> Result<Acted, Memory> {
+        let chain = self.chains.len();
+        self.chains.push(Begun {
+            program,
+            args: args.copy(alloc)?,
+            results: Vec::new(alloc),
+        })?;
+        let acted = self.act(alloc, facts, chain)?;
+        if !acted.is_done() {
+            self.chains.truncate(chain);
+        }
+        Ok(acted)
     }
 
-    /// The next hop of the chain is done. False where the chain owes none, or it isn't its turn.
+    /// The next hop of the chain is done, if it can be.
     pub(crate) fn act(
         &mut self,
         alloc: Global,
         facts: &Facts<'_>,
         chain: usize,
-    ) -> Result<bool, Memory> {
-        let Some((hop, ran)) = self.next_of(alloc, facts, chain)? else {
-            return Ok(false);
+    ) -> Result<Acted, Memory> {
+        let Some(program) = self.ready(facts, chain) else {
+            return Ok(Acted::Waits);
         };
-        match ran {
-            Ran::Done { results, changes } => {
-                self.note(chain, hop, results, &changes)?;
-                Ok(true)
-            }
-            Ran::Refused(_) => Ok(false),
-        }
-    }
-
-    /// The next hop of the chain, and what comes of it, None where it isn't its turn.
-    fn next_of(
-        &self,
-        alloc: Global,
-        facts: &Facts<'_>,
-        chain: usize,
-    ) -> Result<Option<(usize, Ran)>, Memory> {
         let Some(begun) = self.chains.get(chain) else {
-            return Ok(None);
-        };
-        let Some(program) = facts.program(begun.program) else {
-            return Ok(None);
+            return Ok(Acted::Waits);
         };
         let hop = begun.results.len();
-        let Some(server) = program.servers.get(hop).copied() else {
-            return Ok(None);
-        };
-        if !self.are_through(facts, chain, program.origin(), server) {
-            return Ok(None);
-        }
         let args = begun.args.as_slice();
         let earlier = begun.results.as_slice();
-        let ran = self.ran(alloc, facts, program.program, hop, args, earlier)?;
-        Ok(Some((hop, ran)))
-    }
-
-    /// What comes of a hop.
-    fn ran(
-        &self,
-        alloc: Global,
-        facts: &Facts<'_>,
-        program: ProgramId,
-        hop: usize,
-        args: &[u64],
-        earlier: &[Values],
-    ) -> Result<Ran, Memory> {
         match run_hop(alloc, facts.set, program, hop, args, earlier, &self.cells) {
             Ok(ran) => {
                 let (results, changes) = ran.spend();
-                Ok(Ran::Done { results, changes })
+                self.note(HopOf { chain, hop }, results, &changes)?;
+                Ok(Acted::Done)
             }
-            Err(HopFault::Refused(need)) => Ok(Ran::Refused(need)),
+            Err(HopFault::Refused(need)) => Ok(Acted::Refused(need)),
             Err(HopFault::Memory) => Err(Memory),
         }
     }
 
-    /// The hop is done.
-    fn note(
-        &mut self,
-        chain: usize,
-        hop: usize,
-        results: Values,
-        changes: &Changes,
-    ) -> Result<(), Memory> {
-        self.cells.stage(changes)?;
-        self.cells.apply(changes);
-        if let Some(begun) = self.chains.get_mut(chain) {
-            begun.results.push(results)?;
-        }
-        self.steps.push(HopOf { chain, hop })?;
-        Ok(())
+    /// The chain's program, where it owes a hop and each earlier chain of its origin is through at
+    /// that hop's server.
+    fn ready(&self, facts: &Facts<'_>, chain: usize) -> Option<ProgramId> {
+        let begun = self.chains.get(chain)?;
+        let program = facts.program(begun.program)?;
+        let server = *program.servers.get(begun.results.len())?;
+        let is_turn = self.chains.iter().take(chain).all(|earlier| {
+            facts.program(earlier.program).is_none_or(|other| {
+                other.origin() != program.origin()
+                    || other.is_through(earlier.results.len(), server)
+            })
+        });
+        if is_turn { Some(program.program) } else { None }
     }
 
-    /// The run after a begin of the program. This one stays as it is.
-    pub(crate) fn begin(
-        &self,
-        alloc: Global,
-        facts: &Facts<'_>,
-        program: usize,
-        args: &Values,
-    ) -> Result<Tried, Memory> {
-        let Some(found) = facts.program(program) else {
-            return Ok(Tried::Refused(0));
-        };
-        let chain = self.chains.len();
-        let origin = found.origin();
-        if !origin.is_some_and(|server| self.are_through(facts, chain, origin, server)) {
-            return Ok(Tried::Refused(0));
+    /// The hop is done.
+    fn note(&mut self, step: HopOf, results: Values, changes: &Changes) -> Result<(), Memory> {
+        self.cells.stage(changes)?;
+        self.cells.apply(changes);
+        if let Some(begun) = self.chains.get_mut(step.chain) {
+            begun.results.push(results)?;
         }
-        match self.ran(alloc, facts, found.program, 0, args.as_slice(), &[])? {
-            Ran::Done { results, changes } => {
-                let mut run = self.copy(alloc)?;
-                run.chains.push(Begun {
-                    program,
-                    args: args.copy(alloc)?,
-                    results: Vec::new(alloc),
-                })?;
-                run.note(chain, 0, results, &changes)?;
-                Ok(Tried::Begun(run))
-            }
-            Ran::Refused(need) => Ok(Tried::Refused(u16::from(need).saturating_add(1))),
-        }
+        self.steps.push(step)?;
+        Ok(())
     }
 
     /// The chains that aren't among those run as far as turns let them.
@@ -219,7 +133,7 @@ impl Run {
         for _ in 0..self.chains.len().saturating_mul(8) {
             let mut has_acted = false;
             for chain in 0..self.chains.len() {
-                if !circle.iter().any(|other| *other == chain) && self.act(alloc, facts, chain)? {
+                if !circle.contains(&chain) && self.act(alloc, facts, chain)?.is_done() {
                     has_acted = true;
                 }
             }
@@ -229,15 +143,11 @@ impl Run {
         }
         Ok(())
     }
-}
 
-fn copy_of(alloc: Global, cells: &Cells) -> Result<Cells, Memory> {
-    let mut changes = Changes::new(alloc);
-    for (table, key, value) in cells.list(alloc)?.iter() {
-        changes.put(*table, *key, *value)?;
+    /// Whether no chain owes a hop.
+    pub(crate) fn is_whole(&self, facts: &Facts<'_>) -> bool {
+        self.chains
+            .iter()
+            .all(|begun| begun.results.len() == facts.hops(begun.program))
     }
-    let mut copied = Cells::new(alloc);
-    copied.stage(&changes)?;
-    copied.apply(&changes);
-    Ok(copied)
 }

@@ -39,8 +39,9 @@ def head(lines, at, in_trait):
 def heads_of(crate):
     """Of a crate's functions the head, by the impl or trait that they are of and by name."""
     found = {}
-    for name in sorted(os.listdir(os.path.join(TOP, "crates", crate, "src"))):
-        lines, owner = read(f"crates/{crate}/src/{name}").split("\n"), ""
+    sources = os.path.join(TOP, "crates", crate, "src")
+    for path in sorted(os.path.join(folder, name) for folder, _, files in os.walk(sources) for name in files):
+        lines, owner = read(path).split("\n"), ""
         for at, line in enumerate(lines):
             owner = line.rstrip(" {") if OWNER.match(line) else "" if line.startswith("}") else owner
             function = FUNCTION.match(line)

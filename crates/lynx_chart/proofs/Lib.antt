@@ -1,4 +1,4 @@
 pub mod Rests
 pub mod Drawn
-pub mod Whole
 pub mod Linked
+pub mod Filled

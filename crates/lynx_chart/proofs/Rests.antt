@@ -1,5 +1,5 @@
 -- What is left of a list, one element on.
-use Rattle.std.proofs.Common.{◌≡◌, ℕ, zero, suc, ◌+◌, ◌<◌, List, [], ◌∷◌, ◌++◌, length, drop, slice_get, Option, Some, None, refl, sym, ap, ◌∙◌, add-one, append_assoc, arith}
+use Rattle.std.proofs.Common.{◌≡◌, ℕ, zero, suc, ◌+◌, ◌<◌, List, [], ◌∷◌, ◌++◌, length, drop, slice_get, Option, Some, None, refl, sym, ap, ◌∙◌, append_assoc, arith}
 use Rattle.std.specs.List.{cons_option, filter_map, flat_map, range_with_len}
 use Rattle.std.specs.Option.{option_and_then, option_or}
 use Rattle.std.proofs.lemmas.List.{append-nil, drop_more}
@@ -70,10 +70,3 @@ kept_next own x rest before after left whole is more so_far =
 pub range_further : {X : Type 0} (f : ℕ → List X) (a n m : ℕ) → a + n ≡ m → flat_map f (range_with_len a (suc n)) ≡ flat_map f (range_with_len a n) ++ f m
 range_further f a zero m at = append-nil (f a) ∙ ap f (omega (arith, at))
 range_further f a (suc n) m at = ap (λ later. f a ++ later) (range_further f (a + 1) n m (omega (arith, at))) ∙ sym (append_assoc (f a) (flat_map f (range_with_len (a + 1) n)) (f m))
-
--- what is written of a number comes behind what is written of those before it
-pub number_written : (f : ℕ → List ℕ) (a n more m : ℕ) (before mid after : List ℕ) → a + n ≡ m → n + 1 ≡ more → mid ≡ before ++ flat_map f (range_with_len a n) → after ≡ mid ++ f m →
-    after ≡ before ++ flat_map f (range_with_len a more)
-number_written f a n more m before mid after at next so_far wrote =
-    wrote ∙ ap (λ w. w ++ f m) so_far ∙ append_assoc before (flat_map f (range_with_len a n)) (f m)
-    ∙ ap (λ t. before ++ t) (sym (range_further f a n m at) ∙ ap (λ k. flat_map f (range_with_len a k)) (sym (add-one n) ∙ next))

@@ -1,5 +1,5 @@
 -- The whole chart of a run.
-use Rattle.std.specs.Prelude.{ℕ, List, ◌++◌, codes, decimal, length}
+use Rattle.std.specs.Prelude.{ℕ, List, [], ◌∷◌, ◌++◌, decimal, length}
 use Rattle.std.specs.List.{flat_map}
 use Rattle.lynx_set.specs.Set.{Set}
 use Rattle.lynx_entry.specs.declared.event.Outcome.{Outcome}
@@ -14,16 +14,16 @@ use Rattle.lynx_chart.specs.Messages.{rows_with, sent_in}
 use Rattle.lynx_chart.specs.Restarts.{all_restarts}
 use Rattle.lynx_chart.specs.Rows.{stamps_of}
 use Rattle.lynx_chart.specs.Shapes.{Shape, drawn}
+use Rattle.lynx_chart.specs.Values.{filled}
+use Rattle.lynx_chart.specs.declared.templates.TheConstants.{DESCRIBED, ENDS, OPENING}
 
 -- its first line, by its width and height
 abbrev pub opening : ℕ → ℕ → List ℕ
 opening width height =
-    codes "<svg xmlns=\"http://www.w3.org/2000/svg\" width=\"" ++ decimal width
-    ++ codes "\" height=\"" ++ decimal height ++ codes "\" viewBox=\"0 0 " ++ decimal width
-    ++ codes " " ++ decimal height ++ codes "\">\n"
+    filled OPENING.now (decimal width ∷ decimal height ∷ decimal width ∷ decimal height ∷ [])
 
 abbrev pub described : List ℕ → List ℕ
-described line = codes "<desc>" ++ line ++ codes "</desc>\n"
+described line = filled DESCRIBED.now (line ∷ [])
 
 -- what comes before its shapes: the last line of the run as a whole, and how all is drawn
 abbrev pub head_of : ℕ → ℕ → Explained → List ℕ
@@ -60,7 +60,7 @@ rows_of by = rows_with (length by.stamps) by.messages
 abbrev pub chart_by : Given → List Placed → List Outcome → List ℕ
 chart_by by list outcomes =
     head_of by.set.servers (rows_of by) by.explained
-    ++ (drawn (all_shapes by (rows_of by) list outcomes) ++ codes "</svg>\n")
+    ++ (drawn (all_shapes by (rows_of by) list outcomes) ++ ENDS.now)
 
 abbrev pub chart_of : Set → List Placed → List Outcome → Explained → List ℕ
 chart_of set list outcomes explained =

@@ -4,10 +4,10 @@ use Rattle.std.specs.List.{flat_map, range_with_len}
 use Rattle.lynx_order.specs.declared.explained.Explained.{Explained}
 use Rattle.lynx_order.specs.declared.explained.Explained.TheVariants.{Order, Cycle}
 use Rattle.lynx_lines.specs.Printed.{chains_text}
-use Rattle.lynx_chart.specs.Captions.{cycle_words, order_words, legend_first, legend_second, legend_third}
 use Rattle.lynx_chart.specs.Places.{chains_of, word_of}
 use Rattle.lynx_chart.specs.Shapes.{Shape, Note, Column, Head}
 use Rattle.lynx_chart.specs.Spots.{top_of}
+use Rattle.lynx_chart.specs.declared.captions.TheConstants.{CYCLE_WORDS, ORDER_WORDS, LEGEND_FIRST, LEGEND_SECOND, LEGEND_THIRD}
 
 -- the last line of the run
 abbrev pub last_line : Explained → List ℕ
@@ -15,13 +15,13 @@ last_line explained = word_of explained ++ chains_text (chains_of explained)
 
 -- what it means
 abbrev pub saying : Explained → List ℕ
-saying (Order chains) = order_words
-saying (Cycle chains) = cycle_words
+saying (Order chains) = ORDER_WORDS.now
+saying (Cycle chains) = CYCLE_WORDS.now
 
 abbrev pub notes : Explained → List Shape
 notes explained =
-    Note 0 (last_line explained) ∷ Note 1 (saying explained) ∷ Note 2 legend_first
-    ∷ Note 3 legend_second ∷ Note 4 legend_third ∷ []
+    Note 0 (last_line explained) ∷ Note 1 (saying explained) ∷ Note 2 LEGEND_FIRST.now
+    ∷ Note 3 LEGEND_SECOND.now ∷ Note 4 LEGEND_THIRD.now ∷ []
 
 -- the width of a chart of so many servers, and the height of one of so many rows
 abbrev pub width_of : ℕ → ℕ

@@ -2,6 +2,7 @@ pub mod Captions
 pub mod Texts
 pub mod Places
 pub mod Spots
+pub mod Values
 pub mod Shapes
 pub mod Rows
 pub mod Labels

@@ -16,3 +16,8 @@ abbrev pub fitted : ℕ → List ℕ → List ℕ
 fitted most text =
     if nat_le (length text) most then escaped text else escaped (take (most - 2) text)
     ++ codes ".."
+
+-- a line of what a box tells when one points at it, where there is one
+abbrev pub title_line : List ℕ → List ℕ
+title_line [] = []
+title_line (first ∷ line) = escaped (first ∷ line) ++ 10 ∷ []

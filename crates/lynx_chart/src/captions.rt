@@ -1,147 +1,92 @@
 //! The texts of a chart that are the same in each.
 
 ghost use Rattle.std.specs.Prelude.{◌≡◌, ◌++◌, OnOk};
-ghost use Rattle.lynx_chart.specs.Captions.{box_style, chain_style, crosses, cycle_words, dark_style, legend_first, legend_second, legend_third, line_style, order_words, page_style, tips, style_text};
+ghost use Rattle.lynx_chart.specs.Captions.{style_text};
 
 use lynx_names::Memory;
 
 /// How the page is drawn.
-#[tactic(auto, unfolding(crate::specs::Captions::page_style))]
-pub(crate) fn page_style() -> &'static [u8]
-    ensures { result.now ≡ page_style }
-{
-    b"<style>\n\
+pub(crate) const PAGE_STYLE: &[u8] = b"<style>\n\
       svg{background:#ffffff;color:#333333;font:11px \"DejaVu Sans Mono\",Menlo,Consolas,monospace}\n\
       text{fill:currentColor}\n\
       path,use{fill:none;stroke:currentColor}\n\
       marker path{fill:currentColor;stroke:none}\n\
       .column{stroke:#999999;stroke-dasharray:1 4}\n\
-      .head{font-weight:bold;text-anchor:middle}\n"
-}
+      .head{font-weight:bold;text-anchor:middle}\n";
 
 /// How boxes are drawn.
-#[tactic(auto, unfolding(crate::specs::Captions::box_style))]
-pub(crate) fn box_style() -> &'static [u8]
-    ensures { result.now ≡ box_style }
-{
-    b".box use,.owed use{fill:inherit;stroke:#555555}\n\
+pub(crate) const BOX_STYLE: &[u8] = b".box use,.owed use{fill:inherit;stroke:#555555}\n\
       .box text{fill:#000000}\n\
       .at{text-anchor:end;opacity:0.7}\n\
       .refusal,.owed{fill:#ffffff}\n\
-      .owed use{stroke:currentColor;stroke-dasharray:5 3}\n"
-}
+      .owed use{stroke:currentColor;stroke-dasharray:5 3}\n";
 
 /// How lines are drawn.
-#[tactic(auto, unfolding(crate::specs::Captions::line_style))]
-pub(crate) fn line_style() -> &'static [u8]
-    ensures { result.now ≡ line_style }
-{
-    b".message{marker-end:url(#tip)}\n\
+pub(crate) const LINE_STYLE: &[u8] = b".message{marker-end:url(#tip)}\n\
       .held{stroke-dasharray:6 4}\n\
       .again{stroke-width:0.5}\n\
       .restart{stroke-width:3;stroke-dasharray:2 2}\n\
       .link path{stroke:#cc0000;stroke-width:2;marker-end:url(#end)}\n\
       #end path,.link text{fill:#cc0000}\n\
-      .link text{text-anchor:end;paint-order:stroke;stroke:#ffffff;stroke-width:4px}\n"
-}
+      .link text{text-anchor:end;paint-order:stroke;stroke:#ffffff;stroke-width:4px}\n";
 
 /// How the chain is drawn at which one points.
-#[tactic(auto, unfolding(crate::specs::Captions::chain_style))]
-pub(crate) fn chain_style() -> &'static [u8]
-    ensures { result.now ≡ chain_style }
-{
-    b".chain:hover path,.chain:hover use{stroke-width:3}\n\
-      svg:has(.chain:hover) .chain:not(:hover){opacity:0.3}\n"
-}
+pub(crate) const CHAIN_STYLE: &[u8] = b".chain:hover path,.chain:hover use{stroke-width:3}\n\
+      svg:has(.chain:hover) .chain:not(:hover){opacity:0.3}\n";
 
 /// How all is drawn where one prefers it dark.
-#[tactic(auto, unfolding(crate::specs::Captions::dark_style))]
-pub(crate) fn dark_style() -> &'static [u8]
-    ensures { result.now ≡ dark_style }
-{
-    b"@media (prefers-color-scheme:dark){\n\
+pub(crate) const DARK_STYLE: &[u8] = b"@media (prefers-color-scheme:dark){\n\
       svg{background:#1c1c1c;color:#dddddd}\n\
       .owed{fill:#1c1c1c}\n\
       .link path{stroke:#ff7777}\n\
       #end path,.link text{fill:#ff7777}\n\
       .link text{stroke:#1c1c1c}\n\
       }\n\
-      </style>\n"
-}
+      </style>\n";
 
 /// The tips of arrows.
-#[tactic(auto, unfolding(crate::specs::Captions::tips))]
-pub(crate) fn tips() -> &'static [u8]
-    ensures { result.now ≡ tips }
-{
-    b"<defs>\n\
+pub(crate) const TIPS: &[u8] = b"<defs>\n\
       <marker id=\"tip\" viewBox=\"0 0 8 8\" refX=\"8\" refY=\"4\" markerWidth=\"8\" markerHeight=\"8\"\n\
       \x20markerUnits=\"userSpaceOnUse\" orient=\"auto\"><path d=\"M0,0L8,4L0,8z\"/></marker>\n\
       <marker id=\"end\" viewBox=\"0 0 8 8\" refX=\"8\" refY=\"4\" markerWidth=\"10\" markerHeight=\"10\"\n\
-      \x20markerUnits=\"userSpaceOnUse\" orient=\"auto\"><path d=\"M0,0L8,4L0,8z\"/></marker>\n"
-}
+      \x20markerUnits=\"userSpaceOnUse\" orient=\"auto\"><path d=\"M0,0L8,4L0,8z\"/></marker>\n";
 
 /// The crosses of what was lost or dropped, and the frame of a box.
-#[tactic(auto, unfolding(crate::specs::Captions::crosses))]
-pub(crate) fn crosses() -> &'static [u8]
-    ensures { result.now ≡ crosses }
-{
-    b"<path id=\"right\" d=\"M0,0h20m-5,-5l10,10m0,-10l-10,10\"/>\n\
+pub(crate) const CROSSES: &[u8] = b"<path id=\"right\" d=\"M0,0h20m-5,-5l10,10m0,-10l-10,10\"/>\n\
       <path id=\"left\" d=\"M0,0h-20m-5,-5l10,10m0,-10l-10,10\"/>\n\
       <rect id=\"box\" x=\"-8\" y=\"-15\" width=\"200\" height=\"62\"/>\n\
-      </defs>\n"
-}
+      </defs>\n";
 
 /// How a run is explained by an order, in words.
-#[tactic(auto, unfolding(crate::specs::Captions::order_words))]
-pub(crate) fn order_words() -> &'static [u8]
-    ensures { result.now ≡ order_words }
-{
-    b"One after another in this order, without a break, the chains give the same results."
-}
+pub(crate) const ORDER_WORDS: &[u8] =
+    b"One after another in this order, without a break, the chains give the same results.";
 
 /// Why none explains it, in words.
-#[tactic(auto, unfolding(crate::specs::Captions::cycle_words))]
-pub(crate) fn cycle_words() -> &'static [u8]
-    ensures { result.now ≡ cycle_words }
-{
-    b"By the red lines each chain comes before the next, and the last before the first."
-}
+pub(crate) const CYCLE_WORDS: &[u8] =
+    b"By the red lines each chain comes before the next, and the last before the first.";
 
 /// How the chart is read.
-#[tactic(auto, unfolding(crate::specs::Captions::legend_first))]
-pub(crate) fn legend_first() -> &'static [u8]
-    ensures { result.now ≡ legend_first }
-{
-    b"Down a column a server's entries stand by their stamps. An arrow is a message: dashed"
-}
+pub(crate) const LEGEND_FIRST: &[u8] =
+    b"Down a column a server's entries stand by their stamps. An arrow is a message: dashed";
 
 /// The same, further.
-#[tactic(auto, unfolding(crate::specs::Captions::legend_second))]
-pub(crate) fn legend_second() -> &'static [u8]
-    ensures { result.now ≡ legend_second }
-{
-    b"where it was held, thin where it came again, with a cross where it was lost or dropped."
-}
+pub(crate) const LEGEND_SECOND: &[u8] =
+    b"where it was held, thin where it came again, with a cross where it was lost or dropped.";
 
 /// The same, further.
-#[tactic(auto, unfolding(crate::specs::Captions::legend_third))]
-pub(crate) fn legend_third() -> &'static [u8]
-    ensures { result.now ≡ legend_third }
-{
-    b"A dashed box is a hop that is owed. The colour of a chain is its place."
-}
+pub(crate) const LEGEND_THIRD: &[u8] =
+    b"A dashed box is a hop that is owed. The colour of a chain is its place.";
 
 /// Writes how all is drawn.
 pub(crate) fn put_style(out: &mut Vec<u8>) -> Result<(), Memory>
     ensures { OnOk result (out.new.items ≡ out.old.items ++ style_text) }
 {
-    out.extend_from_slice(page_style())?;
-    out.extend_from_slice(box_style())?;
-    out.extend_from_slice(line_style())?;
-    out.extend_from_slice(chain_style())?;
-    out.extend_from_slice(dark_style())?;
-    out.extend_from_slice(tips())?;
-    out.extend_from_slice(crosses())?;
+    out.extend_from_slice(PAGE_STYLE)?;
+    out.extend_from_slice(BOX_STYLE)?;
+    out.extend_from_slice(LINE_STYLE)?;
+    out.extend_from_slice(CHAIN_STYLE)?;
+    out.extend_from_slice(DARK_STYLE)?;
+    out.extend_from_slice(TIPS)?;
+    out.extend_from_slice(CROSSES)?;
     Ok(())
 }

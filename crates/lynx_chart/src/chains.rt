@@ -178,7 +178,7 @@ fn put_chain(
     ensures { OnOk result (out.new.items ≡ out.old.items ++ drawn (chain_shapes (given by.now)
         (drop from by.now.world.now.list) chain.now)) }
 {
-    put_opens(out, place_colour(place_of(by.explained, chain)))?;
+    put_opens(alloc, out, place_colour(place_of(by.explained, chain)))?;
     put_acts(alloc, out, by, chain, from)?;
     put_arrows(alloc, out, by.world.set(), by.notices, by.messages, chain)?;
     put_closes(out)?;

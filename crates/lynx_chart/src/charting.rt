@@ -1,7 +1,7 @@
 //! The whole chart.
 ghost use Rattle.std.specs.Prelude.{◌≡◌, ◌++◌, IfOk, OnOk};
 ghost use Rattle.lynx_order.specs.Explained.{CycleIsRight};
-ghost use Rattle.lynx_chart.specs.Charts.{all_shapes, chart_of, described, event_shapes, head_of, opening};
+ghost use Rattle.lynx_chart.specs.Charts.{all_shapes, chart_of, event_shapes, head_of};
 ghost use Rattle.lynx_chart.specs.Drawings.{given};
 ghost use Rattle.lynx_chart.specs.Meetings.{AreMet};
 ghost use Rattle.lynx_chart.specs.Shapes.{drawn};
@@ -14,32 +14,13 @@ use crate::links::put_links;
 use crate::messages::{rows_with, sent_in};
 use crate::restarts::put_restarts;
 use crate::rows::{row_behind, stamps_of};
+use crate::templates::{DESCRIBED, ENDS, OPENING};
+use crate::values::{Value, put_filled};
 use lynx_entry::Outcome;
 use lynx_names::Memory;
 use lynx_order::Explained;
 use lynx_world::World;
 use std::alloc::Global;
-
-/// Writes the first line, by the chart's width and height.
-fn put_opening(alloc: Global, out: &mut Vec<u8>, width: u64, height: u64) -> Result<(), Memory>
-    ensures { OnOk result (out.new.items ≡ out.old.items ++ opening width height) }
-{
-    let text = format!(in alloc;
-        "<svg xmlns=\"http://www.w3.org/2000/svg\" width=\"{width}\" height=\"{height}\" viewBox=\"0 0 {width} {height}\">\n"
-    )?;
-    out.extend_from_slice(text.as_bytes())?;
-    Ok(())
-}
-
-/// Writes the last line of the run as a whole, which no browser shows.
-fn put_described(out: &mut Vec<u8>, line: &[u8]) -> Result<(), Memory>
-    ensures { OnOk result (out.new.items ≡ out.old.items ++ described line.now) }
-{
-    out.extend_from_slice(b"<desc>".as_slice())?;
-    out.extend_from_slice(line)?;
-    out.extend_from_slice(b"</desc>\n".as_slice())?;
-    Ok(())
-}
 
 /// Writes what comes before the shapes.
 fn put_top(
@@ -52,9 +33,10 @@ fn put_top(
     ensures { OnOk result (out.new.items ≡ out.old.items ++ head_of servers rows explained.now) }
 {
     let last = last_line(alloc, explained)?;
-    let (width, height) = (width_of(servers), height_of(rows));
-    put_opening(alloc, out, width, height)?;
-    put_described(out, last.as_slice())?;
+    let width = Value::Number(width_of(servers));
+    let height = Value::Number(height_of(rows));
+    put_filled(alloc, out, OPENING, &[width, height, width, height])?;
+    put_filled(alloc, out, DESCRIBED, &[Value::Plain(last.as_slice())])?;
     put_style(out)?;
     Ok(())
 }
@@ -131,6 +113,6 @@ pub fn chart(
     let mut out = Vec::new(alloc);
     put_top(alloc, &mut out, servers, rows, explained)?;
     put_shapes(alloc, &mut out, &by, rows, outcomes)?;
-    out.extend_from_slice(b"</svg>\n".as_slice())?;
+    out.extend_from_slice(ENDS)?;
     Ok(out)
 }

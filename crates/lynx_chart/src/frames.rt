@@ -5,7 +5,7 @@ ghost use Rattle.lynx_names.specs.declared.limits.TheConstants.{MAX_SERVERS};
 ghost use Rattle.lynx_chart.specs.Frames.{block_heads, columns, frame, heads, height_of, last_line, lower_heads, notes, saying, upper_heads, width_of};
 ghost use Rattle.lynx_chart.specs.Shapes.{drawn};
 
-use crate::captions::{cycle_words, legend_first, legend_second, legend_third, order_words};
+use crate::captions::{CYCLE_WORDS, LEGEND_FIRST, LEGEND_SECOND, LEGEND_THIRD, ORDER_WORDS};
 use crate::lines::{put_column, put_head, put_note};
 use crate::places::{chains_of, word_of};
 use crate::spot::top_of;
@@ -28,8 +28,8 @@ fn saying(explained: &Explained) -> &'static [u8]
     ensures { result.now ≡ saying explained.now }
 {
     match explained {
-        Explained::Order(_) => order_words(),
-        Explained::Cycle(_) => cycle_words(),
+        Explained::Order(_) => ORDER_WORDS,
+        Explained::Cycle(_) => CYCLE_WORDS,
     }
 }
 
@@ -44,9 +44,9 @@ pub(crate) fn put_notes(
     let last = last_line(alloc, explained)?;
     put_note(alloc, out, 0, last.as_slice())?;
     put_note(alloc, out, 1, saying(explained))?;
-    put_note(alloc, out, 2, legend_first())?;
-    put_note(alloc, out, 3, legend_second())?;
-    put_note(alloc, out, 4, legend_third())?;
+    put_note(alloc, out, 2, LEGEND_FIRST)?;
+    put_note(alloc, out, 3, LEGEND_SECOND)?;
+    put_note(alloc, out, 4, LEGEND_THIRD)?;
     Ok(())
 }
 

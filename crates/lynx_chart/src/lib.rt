@@ -22,4 +22,6 @@ mod restarts;
 mod routes;
 mod rows;
 mod spot;
+mod templates;
 mod texts;
+mod values;

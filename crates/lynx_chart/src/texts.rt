@@ -1,6 +1,6 @@
 //! Texts as they stand in a chart.
 ghost use Rattle.std.specs.Prelude.{◌≡◌, ◌++◌, ◌≤◌, ◌^◌, ◌<◌, OnOk};
-ghost use Rattle.lynx_chart.specs.Texts.{escape, escaped, fitted};
+ghost use Rattle.lynx_chart.specs.Texts.{escape, escaped, fitted, title_line};
 
 use lynx_names::Memory;
 
@@ -39,4 +39,18 @@ pub(crate) fn put_fitted(out: &mut Vec<u8>, most: usize, text: &[u8]) -> Result<
     put_escaped(out, &text[..shown])?;
     out.extend_from_slice(b"..".as_slice())?;
     Ok(())
+}
+
+/// Writes a line of what a box tells when one points at it, where there is one.
+pub(crate) fn put_title_line(out: &mut Vec<u8>, line: &[u8]) -> Result<(), Memory>
+    ensures { OnOk result (out.new.items ≡ out.old.items ++ title_line line.now) }
+{
+    match line {
+        [] => Ok(()),
+        [_, ..] => {
+            put_escaped(out, line)?;
+            out.push(b'\n')?;
+            Ok(())
+        }
+    }
 }

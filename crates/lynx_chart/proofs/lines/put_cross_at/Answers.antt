@@ -1,8 +1,0 @@
-use Rattle.std.proofs.Common.{◌≡◌, ◌++◌, ap, ◌∙◌, append_assoc}
-use Rattle.lynx_chart.specs.Shapes.{cross_at}
-use Rattle.lynx_chart.proofs.lines.put_cross_at.Goals as goal
-
-pub returns : goal.returns
-returns c =
-    let text : c.as_bytes.result.now ≡ cross_at c.args.side.now c.args.x c.args.y = c.as_bytes.ensures.value ∙ c.in_ok-text.ensures.ok ∙ simp append_assoc in
-    c.in_ok-extend_from_slice.ensures.items ∙ ap (λ t. c.args.out.now.items ++ t) text

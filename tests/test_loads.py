@@ -133,7 +133,7 @@ def test_clusters(bench, servers, threads, across):
     ("cluster", REFUSED), ("port", UNCALLED), ("set", [["0"], ["17"], ["x"]])) for words in refused])
 def test_refused_words(bench, work, words):
     out, err, status = end_of([bench, work, *words])
-    assert (out, err.startswith("lynx_bench: "), status) == ("", True, 2)
+    assert (out, err.startswith("error: "), status) == ("", True, 2)
 
 
 def test_idle(bench):

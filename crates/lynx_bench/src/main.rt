@@ -1,21 +1,10 @@
-//! `lynx_bench WORK COUNT`: does some work so many times, to be timed from outside. `encode` and
-//! `feed PIECE` write and read so many bytes of encodings, `store FOLDER` pays so many times over
-//! two stores there (`:memory:`: in memory), `open-store FOLDER` opens the first of them so many
-//! times, `weave SHAPE` weaves so many entries of two servers (`2`), of sixteen (`16`), or of one
-//! (`adds`, `alternating`, `cells`, `cycle`), and `explain SHAPE` then explains the world; `cut
-//! SHAPE` finds how much fits together once the first server has lost the latter half.
-//!
-//! Two kinds of work are of a cluster in memory, with a thread for each server:
-//! `cluster SERVERS THREADS COUNT [ACROSS]` pays so many times by so many threads, ACROSS of 100
-//! times from one server to another (without it always), and prints how long that took, and how
-//! many messages came again whose hop was done; `idle SERVERS SECONDS` has the cluster do nothing.
-//!
-//! `set SERVERS` prints the set of such a cluster. `port PORT CONNECTIONS IN_FLIGHT SECONDS
-//! [SERVERS]` begins chains of one hop at a service over it (of one server, if not told), by so
-//! many connections with so many begins in flight each. It prints how many a second, and within
-//! what time half of them, 99 of 100 and 999 of 1,000 were answered.
+//! `lynx_bench WORK ..`: does some work so many times, to be timed from outside. `--help` tells
+//! which works there are. Those of a cluster are of one in memory, with a thread for each server;
+//! the load at a port is of a service over the set that `set` prints.
 #![tactic(auto)]
 
+use clap::ArgMatches;
+use clap::error::ErrorKind;
 use std::net::{Net, TcpListener, TcpStream};
 use std::process::ExitCode;
 use std::rt::Env;
@@ -24,6 +13,7 @@ use std::{env, fmt};
 mod caller;
 mod chains;
 mod clusters;
+mod commands;
 mod encodings;
 mod fault;
 mod idling;
@@ -40,12 +30,16 @@ mod stores;
 mod texts;
 mod words;
 
+use commands::command;
 use fault::Fault;
 use lynx_cluster::Host;
 use measure::measure;
 use port::call_service;
 use texts::set_text;
-use words::{Job, asked};
+use words::{Job, job_of};
+
+/// The status of faulty words.
+const BAD_WORDS: u8 = 2;
 
 /// Prints the line of why nothing was done, and gives the status.
 fn refuse(rt: &HostRuntime, fault: Fault) -> u8 {
@@ -75,23 +69,42 @@ fn print_set(rt: &HostRuntime, servers: u8) -> u8 {
     }
 }
 
+/// Does what the matched words ask for, and gives the status.
+fn do_matches<R: Host + Net<Listener = TcpListener, Stream = TcpStream>>(
+    host: &HostRuntime,
+    rt: R,
+    matches: &ArgMatches,
+) -> u8 {
+    match job_of(matches) {
+        Some(Job::Work { work, count }) => report(host, measure(host, work, count)),
+        Some(Job::Cluster(work)) => report(host, work.run(rt, host.alloc())),
+        Some(Job::Set { servers }) => print_set(host, servers),
+        Some(Job::Port(load)) => report(host, call_service(&rt, host.alloc(), load)),
+        None => BAD_WORDS,
+    }
+}
+
+/// Prints what the parser says, help or a fault of the words, and gives the status.
+fn print_help(rt: &HostRuntime, said: &clap::Error) -> u8 {
+    if said.kind() == ErrorKind::OutOfMemory {
+        return refuse(rt, Fault::Memory);
+    }
+    let _ = said.print(rt);
+    if said.use_stderr() { BAD_WORDS } else { 0 }
+}
+
 /// Does what the words ask for, and gives the status.
 fn obey<R: Host + Net<Listener = TcpListener, Stream = TcpStream>>(
     host: &HostRuntime,
     rt: R,
     words: &[String],
 ) -> u8 {
-    match asked(words) {
-        Some(Job::Work { work, count }) => report(host, measure(host, work, count)),
-        Some(Job::Cluster(work)) => report(host, work.run(rt, host.alloc())),
-        Some(Job::Set { servers }) => print_set(host, servers),
-        Some(Job::Port(load)) => report(host, call_service(&rt, host.alloc(), load)),
-        None => {
-            let _ = eprintln!(host;
-                "lynx_bench: begin, deliver, open, encode, feed and the size of a piece, store or open-store and a folder, or weave, cut or explain and 2, 16, adds, alternating, cells or cycle; and a count; or cluster, servers (1 to 16), threads (1 to 255), a count and, if not 100, how many of 100 payments go to another server; or idle, servers and seconds; or set and servers; or port, a port, connections (1 to 255), begins in flight (1 to 65535), seconds and, if not 1, servers"
-            );
-            2
-        }
+    let Ok(command) = command(host.alloc()) else {
+        return refuse(host, Fault::Memory);
+    };
+    match command.try_get_matches_from(words) {
+        Ok(matches) => do_matches(host, rt, &matches),
+        Err(said) => print_help(host, &said),
     }
 }
 

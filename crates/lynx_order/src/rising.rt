@@ -53,15 +53,36 @@ impl Greatest {
         }
     }
 
+    /// The greatest rank of the chains that touched the cell in that way.
+    fn of(self, kind: Kind) -> usize
+        ensures { result ≡ greatest_of self kind }
+    {
+        match kind {
+            Kind::Getting => self.getting,
+            Kind::Setting => self.setting,
+            Kind::Adding => self.adding,
+            Kind::Raising => self.raising,
+        }
+    }
+
+    /// Whether a touch of the one kind, of a chain of that rank, may stand behind those of the
+    /// other.
+    fn passes(self, other: Kind, kind: Kind, rank: usize) -> bool
+        ensures { IsTrue result → IsTrue (not (commute other kind))
+            → greatest_of self other ≤ rank }
+    {
+        other.commutes(kind) || self.of(other) <= rank
+    }
+
     /// Whether no rank of a way that doesn't commute with that one is above this rank.
     fn allows(self, kind: Kind, rank: usize) -> bool
         ensures { IsTrue result → (other : AnyKind) → IsTrue (not (commute other kind))
             → greatest_of self other ≤ rank }
     {
-        (Kind::Getting.commutes(kind) || self.getting <= rank)
-            && (Kind::Setting.commutes(kind) || self.setting <= rank)
-            && (Kind::Adding.commutes(kind) || self.adding <= rank)
-            && (Kind::Raising.commutes(kind) || self.raising <= rank)
+        self.passes(Kind::Getting, kind, rank)
+            && self.passes(Kind::Setting, kind, rank)
+            && self.passes(Kind::Adding, kind, rank)
+            && self.passes(Kind::Raising, kind, rank)
     }
 }
 

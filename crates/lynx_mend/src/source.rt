@@ -90,10 +90,10 @@ impl Source {
     /// The first line of the text that the changes make.
     fn version_line(&self, first: &Trial, second: Option<&Trial>) -> &'static [u8] {
         let is_second = second.is_some_and(|trial| trial.is_second);
-        if first.is_second || is_second || self.version == Version::Two {
-            b"lynx 2\n"
-        } else {
-            b"lynx 1\n"
+        match self.version {
+            Version::One if first.is_second || is_second => b"lynx 2\n",
+            Version::One => b"lynx 1\n",
+            Version::Two => b"lynx 2\n",
         }
     }
 

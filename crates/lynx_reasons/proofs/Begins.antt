@@ -43,11 +43,11 @@ use Rattle.lynx_rules.specs.Checks.{are_keys_placed, is_action_at, is_key_at, re
 use Rattle.lynx_rules.specs.Lawful.{IsLawful, is_record_of, record_of}
 use Rattle.lynx_rules.specs.Tables.{tables_of}
 use Rattle.lynx_rules.specs.Visits.{is_origin}
-use Rattle.lynx_never.specs.declared.never.NeverAt.{NeverAt}
-use Rattle.lynx_never.specs.Never.{actions_to, first_never, is_argument, is_false, is_home, is_key_home, is_left, is_never, is_stuck, stops, with_server}
-use Rattle.lynx_never.specs.Never.{action_places}
-use Rattle.lynx_never.proofs.Below.{some_below-from}
-use Rattle.lynx_never.proofs.Firsts.{find-true}
+use Rattle.lynx_reasons.specs.declared.never.first.NeverAt.{NeverAt}
+use Rattle.lynx_reasons.specs.Begins.{actions_to, first_never, is_argument, is_false, is_home, is_key_home, is_left, is_never, is_stuck, stops, with_server}
+use Rattle.lynx_reasons.specs.Begins.{action_places}
+use Rattle.lynx_reasons.proofs.Below.{some_below-from}
+use Rattle.lynx_reasons.proofs.Firsts.{find-true}
 use Rattle.lynx_reasons.specs.Never.{EachIsLawful}
 
 -- ---- lists of which all pass

@@ -9,3 +9,8 @@ pub mod Joinings
 pub mod Sifting
 pub mod Accepts
 pub mod Begins
+pub mod Below
+pub mod Starts
+pub mod Least
+pub mod Numbers
+pub mod Firsts

@@ -3,6 +3,7 @@ pub mod Meets
 pub mod Groups
 pub mod Reasons
 pub mod Busy
+pub mod Begins
 pub mod Never
 pub mod Late
 pub mod Mixed

@@ -8,8 +8,8 @@ use Rattle.lynx_set.specs.Set.{Set}
 use Rattle.lynx_entry.specs.declared.entry.Entry.{Entry}
 use Rattle.lynx_entry.specs.Entry.{History}
 use Rattle.lynx_rules.specs.Lawful.{IsLawful}
-use Rattle.lynx_never.specs.declared.never.NeverAt.{NeverAt}
-use Rattle.lynx_never.specs.Never.{first_never}
+use Rattle.lynx_reasons.specs.declared.never.first.NeverAt.{NeverAt}
+use Rattle.lynx_reasons.specs.Begins.{first_never}
 use Rattle.lynx_reasons.specs.HopLines.{line_of}
 
 -- the line of the set's text on which an action stands: the first of a hop stands behind the hop

@@ -19,7 +19,7 @@ pub mod lines;
 mod meets;
 pub mod mending;
 mod mixed;
-mod never;
+pub mod never;
 mod search;
 mod sift;
 pub mod summaries;

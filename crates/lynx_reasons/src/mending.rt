@@ -7,11 +7,11 @@ ghost use Rattle.lynx_set.specs.Rules.{IsSet};
 
 use crate::hop_lines::line_of;
 use crate::never::action_line;
+use crate::never::first::NeverAt;
 use lynx_foot::{Foot, Kind, Reach, reach_of, reaches_may_collide};
 use lynx_graph::{Edge, Place, conflict_edges, program_of};
 use lynx_late::hops_abroad;
 use lynx_names::{Memory, ProgramId};
-use lynx_never::NeverAt;
 use lynx_set::{Action, ChainSet, Key, Name};
 use lynx_text::printing::put_word;
 use std::alloc::Global;

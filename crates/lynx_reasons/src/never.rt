@@ -7,12 +7,16 @@ ghost use Rattle.lynx_set.specs.Rules.{IsSet};
 ghost use Rattle.lynx_reasons.specs.Never.{action_line, never_line, never_lines, never_text};
 
 use crate::hop_lines::line_of;
+use first::{NeverAt, first_never};
 use lynx_graph::{Place, program_of};
 use lynx_names::{Memory, ProgramId};
-use lynx_never::{NeverAt, first_never};
 use lynx_set::ChainSet;
 use lynx_text::printing::{put_number, put_word};
 use std::alloc::Global;
+
+pub mod first;
+mod left;
+mod needs;
 
 /// The line of the set's text on which the action stands, counted from 1.
 pub(crate) fn action_line(set: &ChainSet, program: ProgramId, at: NeverAt) -> usize

@@ -10,6 +10,7 @@ mod arguments;
 mod begins;
 mod choices;
 mod courses;
+mod cycles;
 mod drawn;
 mod events;
 pub mod fault;

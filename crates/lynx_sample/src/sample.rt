@@ -8,12 +8,12 @@ ghost use Rattle.lynx_sample.specs.Samples.{BeginsSample, IsSample, IsSampleOver
 ghost use Rattle.lynx_sample.specs.inner.Found.{NotFoundFor};
 
 use crate::choices::Choices;
+use crate::cycles::made_events;
 use crate::drawn::drawn_script;
 use crate::fault::SampleFault;
 use crate::judged::is_sample;
 use crate::script::script_text;
 use lynx_check::{Verdict, check};
-use lynx_cycles::made_events;
 use lynx_report::{read_set, write_bytes};
 use lynx_set::ChainSet;
 use std::alloc::Global;

@@ -1,2 +1,0 @@
-pub mod Never
-pub mod inner

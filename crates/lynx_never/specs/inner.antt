@@ -1,2 +1,0 @@
--- Definitions that no public clause cites: they serve the functions within.
-pub mod Lefts

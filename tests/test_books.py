@@ -9,7 +9,7 @@ import time
 
 import pytest
 from serving import PAYMENT, Room, WatchedService, free_port
-from test_languages import TURNED, Driver, begun, made, page, path_asked, reader, recorded  # noqa: F401
+from test_languages import TURNED, Driver, Go, begun, made, page, path_asked, reader, recorded  # noqa: F401
 
 BUSY, MEMORY, STOPPED = b"\x07", b"\x0a", b"\x09"
 
@@ -188,6 +188,16 @@ def test_earlier_process(tally, reader):  # noqa: F811
         tally.is_same("in other books", bank.ask("begin 5@1 seed 100", "closed"), [fault(5), closed(5)])
         tally.is_same("in these", bank.ask("begin 6@2 seed 100"), [begun("0:0", 1, "-", 6)])
         tally.is_same("what was asked", (books.old.asked, books.new.asked), ([], [6]))
+
+
+def test_no_books(tally, made):  # noqa: F811
+    """A process in Go stored 0, which is what a client at a port has for its books: that says nothing of where it asked. An
+    answer that is lost over the change of books is that of the old ones all the same."""
+    with Room(PAYMENT) as room, Carried(room) as books, books.driver(made(Go)) as bank:
+        bank.ask("begin - seed 100")
+        books.old.losing[5] = books.turn
+        tally.is_same("the answer is lost", bank.ask("begin 5@0 pay 30", "closed"), [fault(5), closed(5)])
+        tally.is_same("what was asked", (books.old.asked, books.new.asked), ([1, 5], []))
 
 
 def test_lost_in_vain(tally, reader):  # noqa: F811

@@ -1,13 +1,13 @@
 """Clients at a running `lynx serve`: by single bytes, by `lynx ask`, by clients/python over connections that are lost on
 purpose, and the example of a service, in a browser too. The bytes and lines that are wanted are spelled here from
 docs/FORMATS.md, apart from the program."""
-import contextlib
-import io
+import http.server
 import json
 import os
 import pty
 import random
 import select
+import signal
 import socket
 import stat
 import struct
@@ -17,6 +17,7 @@ import threading
 import time
 import urllib.request
 
+import pytest
 from serving import PAYMENT, TOP, Room, Service, WatchedService, bound_by_modes, end_of, free_port, wait_until
 import lynx
 
@@ -787,14 +788,7 @@ def page(port, path, data=None, key=None):
 
 
 def test_documented(tally, program):
-    """The model of docs/OPERATING.md, and the dozen lines of docs/CLIENTS.md."""
-    with open(os.path.join(TOP, "docs", "OPERATING.md")) as page:
-        code, _, behind = page.read().partition("```python\n")[2].partition("```")
-    told = io.StringIO()
-    with contextlib.redirect_stdout(told):
-        exec(code, {})
-    tally.holds("what the model of docs/OPERATING.md prints", told.getvalue() == "".join(
-        line[4:] + "\n" for line in behind.partition("It prints\n\n")[2].partition("\n\n")[0].splitlines()))
+    """The dozen lines of docs/CLIENTS.md."""
     with open(os.path.join(TOP, "docs", "CLIENTS.md")) as page:
         code = page.read().partition("```python\n")[2].partition("```")[0]
     with Room(PAYMENT) as room, Service(program, room) as service:
@@ -848,6 +842,65 @@ def clicked(tally, port, room):
         click("#slow")
 
 
+def test_deaf(tally, program):
+    """A client of the example that hangs up once it has asked: its request ran, and was answered to nobody."""
+    sys.path.insert(0, os.path.join(TOP, "examples", "service"))
+    from bank import Deaf
+    with Room(PAYMENT) as room, Service(program, room):
+        with lynx.Client(room.stores, client=1) as bank:
+            with pytest.raises(lynx.Lost) as lost:
+                Deaf(room.stores, client=1, tries=1).begin("seed", 100, number=7)
+            tally.is_same("its number", lost.value.number, 7)
+            tally.holds("its begin", wait_until(lambda: bank.begin("seed", 100, number=7).again))
+
+
+def test_interrupted(tally, program):
+    """An answer that comes behind an interrupt is not taken for that of the next request."""
+    with Room(PAYMENT) as room, Service(program, room) as service, lynx.Client(room.stores) as bank:
+        bank.begin("seed", 100)
+        service.ran.send_signal(signal.SIGSTOP)
+        answer, bank._answer = bank._answer, interrupted
+        with pytest.raises(KeyboardInterrupt):
+            bank.begin("pay", 30)
+        bank._answer = answer
+        threading.Timer(0.5, service.ran.send_signal, [signal.SIGCONT]).start()
+        tally.holds("another payment is refused", isinstance(bank.begin("pay", 1000), lynx.Refused))
+        tally.holds("under its number the first one is told", bank.begin("pay", 30, number=2).again)
+
+
+def interrupted(_):
+    """In the place of an answer: Ctrl-C."""
+    raise KeyboardInterrupt
+
+
+def test_taken_port(tally, program):
+    """What answers at the port where a killed service told its set is another program: that is another set."""
+    with Room(PAYMENT) as room, WatchedService(program, room) as service, lynx.Client(room.stores) as bank:
+        bank.begin("seed", 100)
+        service.kill()
+        with http.server.HTTPServer(("127.0.0.1", bank.status), Stranger) as stranger:
+            thread = threading.Thread(target=stranger.serve_forever)
+            thread.start()
+            for ask in (lambda: bank.begin("seed", 1), lambda: bank.read("acct", 0)):
+                with pytest.raises(lynx.OtherSet):
+                    ask()
+            stranger.shutdown()
+            thread.join()
+        tally.holds("neither was asked", True)
+
+
+class Stranger(http.server.BaseHTTPRequestHandler):
+    """Answers whatever it is asked with a page."""
+
+    def do_GET(self):
+        self.send_response(200)
+        self.end_headers()
+        self.wfile.write(b"<html>another program</html>\n")
+
+    def log_message(self, *_):
+        pass
+
+
 def test_example(tally, program):
     """The example of a payment service, by HTTP and in a browser."""
     with Room(PAYMENT) as room:
@@ -871,6 +924,7 @@ def test_example(tally, program):
             refused = page(port, "/payments", {"from": "ada", "to": "eve", "amount": 9999}, "k3")
             tally.is_same("too much", (refused[0], json.loads(refused[1])["error"]), (402, "not enough: need free >= n"))
             tally.is_same("no such account", page(port, "/payments", {"from": "zoe", "to": "bob", "amount": 1}, "k4")[0], 404)
+            tally.is_same("no account at all", page(port, "/payments", {"from": [], "to": "bob", "amount": 1}, "k4")[0], 404)
             tally.is_same("no amount", page(port, "/payments", {"from": "ada", "to": "bob", "amount": -1}, "k5")[0], 400)
 
             def state():

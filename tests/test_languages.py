@@ -425,18 +425,18 @@ def test_unanswered(tally, language, program):
             tally.is_same("the end", service.end(), ("closed\norder 0:0 0:1 0:2\n", "", 0))
 
 
-def test_no_service(tally, language, program):
+def test_no_service(tally, reader, program):
     """Folders without a service, and a service of another set."""
     with Room(PAYMENT) as room:
-        with Driver(language, "folder", room.stores, 1, 2, 10) as bank:
+        with Driver(reader, "folder", room.stores, 1, 2, 10) as bank:
             tally.is_same("no service", bank.first, "fault NoService no-service -")
         with open(os.path.join(room.stores, "service"), "w", encoding="ascii") as file:
             file.write("listening\n")
-        with Driver(language, "folder", room.stores, 1, 2, 10) as bank:
+        with Driver(reader, "folder", room.stores, 1, 2, 10) as bank:
             tally.is_same("a file that tells nothing", bank.first, "fault NoService no-service -")
-        with Service(program, room) as service, Driver(language, "folder", room.stores, 1, 2, 10) as bank:
+        with Service(program, room) as service, Driver(reader, "folder", room.stores, 1, 2, 10) as bank:
             tally.is_same("before", bank.ask("begin - seed 100"), [begun("0:0", 1, "-", 1)])
-            with Driver(language, "folder", room.stores, 2, 2, 10) as other:
+            with Driver(reader, "folder", room.stores, 2, 2, 10) as other:
                 tally.is_same("the end", other.ask("shut"), ["shut"])
             service.end()
             tally.is_same("gone", bank.ask("begin - seed 1", "look 0:0 0 0", "shut"),
@@ -447,7 +447,7 @@ def test_no_service(tally, language, program):
             with Service(program, room) as turned:
                 tally.is_same("another set", bank.ask("begin - pay 30", "look 0:0 0 0"),
                               ["fault OtherSet other-set 3", "fault OtherSet other-set -"])
-                with Driver(language, "folder", room.stores, 2, 2, 10) as other:
+                with Driver(reader, "folder", room.stores, 2, 2, 10) as other:
                     tally.is_same("the end of another", other.ask("shut"), ["shut"])
                 tally.is_same("nothing ran", turned.end(), ("closed\norder -\n", "", 0))
 

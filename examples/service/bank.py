@@ -76,6 +76,13 @@ class Store:
             self.begin()
 
 
+class Deaf(lynx.Client):
+    """A client that asks, and hangs up before it is answered."""
+
+    def _answer(self, wanted):
+        raise ConnectionError("it hung up")
+
+
 class Bank:
     """The payments of this service, by a client of Lynx that its threads take turns with."""
 
@@ -91,11 +98,8 @@ class Bank:
         """Begins a chain. One who `loses` the answer goes before it comes, and asks again under the same number."""
         with self.lock:
             if loses:
-                deaf = lynx.Client(self.folder, client=CLIENT, tries=1)
-                deaf.look("0:0", 0)
-                deaf.socket.shutdown(socket.SHUT_RD)
                 try:
-                    deaf.begin(program, *args, number=number)
+                    Deaf(self.folder, client=CLIENT, tries=1).begin(program, *args, number=number)
                 except lynx.Lost:
                     time.sleep(0.2)
             answer = self.client.begin(program, *args, number=number)

@@ -86,7 +86,7 @@ class Handler(BaseHTTPRequestHandler):
             return self.answer(400, {"error": "a header Idempotency-Key is wanted"})
         if isinstance(amount, bool) or not isinstance(amount, int) or not 0 < amount < 2 ** 63:
             return self.answer(400, {"error": "an amount is a whole number above 0"})
-        if any(given.get(name) not in ACCOUNTS for name in names):
+        if any(not isinstance(given.get(name), str) or given[name] not in ACCOUNTS for name in names):
             return self.answer(404, {"error": "no such account"})
         if given.get("from") == given["to"]:
             return self.answer(400, {"error": "one account pays another"})

@@ -610,9 +610,9 @@ func (c *Client) Begin(program string, arguments ...uint64) (*Begun, error) {
 }
 
 // SentIn notes that an earlier process asked under this number in these books: it is asked in no others, but is
-// ErrBooksClosed there.
+// ErrBooksClosed there. Books 0, which a client at a port has, say nothing of that.
 func (c *Client) SentIn(number, books uint64) {
-	if _, sent := c.unknown[number]; !sent {
+	if _, sent := c.unknown[number]; !sent && books != 0 {
 		c.unknown[number] = books
 	}
 }

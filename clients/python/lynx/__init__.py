@@ -554,6 +554,8 @@ class Client:
         while True:
             try:
                 found = self._tried(lambda: self._looked_once(body, books, named), self._drop)
+            except LynxError:
+                raise
             except OSError as fault:
                 raise Lost(str(fault)) from fault
             if found is not None:
@@ -647,10 +649,13 @@ class Client:
 
     def shut(self) -> None:
         """Has the service end: it takes no more clients, checks all that it told, and says whether it stood. Raises
-        Lost where it couldn't be asked, and ByeLost where it was and its bye didn't come."""
+        NoService where the folder tells of none, Lost where it couldn't be asked, and ByeLost where it was and its bye
+        didn't come."""
         try:
             self._sent(SHUT)
             self._answer(BYE).end()
+        except LynxError:
+            raise
         except OSError as fault:
             raise ByeLost(f'bye lost: {fault}') from fault
         finally:
@@ -667,6 +672,8 @@ class Client:
             except OSError as fault:
                 self._drop()
                 if attempt + 1 == self.tries:
+                    if isinstance(fault, LynxError):
+                        raise
                     raise Lost(str(fault)) from fault
                 time.sleep(min(0.02 * 2 ** min(attempt + 1, 6), 1.0))
 
@@ -755,8 +762,12 @@ class Client:
         return asked
 
     def _exchange(self, tag: int, body: bytes, wanted: int) -> _Body:
-        self._send(tag, body)
-        return self._answer(wanted)
+        try:
+            self._send(tag, body)
+            return self._answer(wanted)
+        except BaseException:
+            self._drop()  # an answer that comes later, as behind an interrupt, is that of no other request
+            raise
 
     def _find(self) -> Optional[_Notice]:
         """Looks again where the service over the folder listens, and where its set is told: a kill leaves what the folder
@@ -784,7 +795,11 @@ class Client:
 
     def _compare(self, text: str) -> None:
         """The set that is served is this client's, or goes on from it."""
-        if text != self.set_text and not extends(text, self.set_text):
+        try:
+            is_own = text == self.set_text or extends(text, self.set_text)
+        except (IndexError, ValueError):  # no set: another program has the port
+            is_own = False
+        if not is_own:
             raise OtherSet()
 
     def _ready(self, books: Optional[int] = None, number: Optional[int] = None, chain: Optional[Chain] = None) -> None:

@@ -556,6 +556,35 @@ def test_left_over_notice(tally, program, room):
         tally.is_same("nothing ran there", service.end(), ("closed\norder -\n", "", 0))
 
 
+# A service that is asked for its end in the moment that is given, answers nobody from then on, and ends with 4 three seconds later.
+ENDING = """#!/bin/sh
+[ "$1" = serve ] || { [ ! -e "$STUB" ] && echo > "$STUB"; exit; }
+echo listening
+until [ -e "$STUB" ]; do sleep 0.1; done
+sleep 3
+exit 4
+"""
+
+
+def test_second_signal(tally, room):
+    """deploy/container/serve.sh: who sends a signal once more, while the service audits, neither ends it nor hides its status."""
+    script, folder = os.path.join(TOP, "deploy", "container", "serve.sh"), os.path.join(room.path, "bin")
+    os.mkdir(folder)
+    with open(os.path.join(folder, "lynx"), "w", encoding="ascii") as file:
+        file.write(ENDING)
+    os.chmod(file.name, 0o755)
+    env = dict(os.environ, PATH=f"{folder}:{os.environ['PATH']}", STUB=os.path.join(room.path, "asked"))
+    with subprocess.Popen(["sh", script, room.set, room.stores, "1"], stdin=subprocess.DEVNULL, stdout=subprocess.PIPE, env=env, text=True) as ran:
+        tally.is_same("it listens", ran.stdout.readline(), "listening\n")
+        for _ in range(2):
+            ran.send_signal(signal.SIGTERM)
+            tally.holds("it is asked for its end", wait_until(lambda: os.path.exists(env["STUB"])))
+            time.sleep(1)
+        since = time.monotonic()
+        tally.is_same("its status", ran.wait(20), 4)
+        tally.holds("nobody waited for another answer", time.monotonic() - since < 5)
+
+
 @pytest.mark.parametrize("sent, to_all", ((signal.SIGTERM, False), (signal.SIGINT, True), (signal.SIGHUP, True)))
 def test_signals(tally, program, room, sent, to_all):
     """deploy/container/serve.sh: on a signal, which a terminal sends to all its processes, a service ends well."""

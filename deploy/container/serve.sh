@@ -3,9 +3,12 @@
 # or do nothing where it is process 1. A service that still opens its stores can't be asked for its end, so it is asked
 # again for a minute.
 (trap '' INT HUP; exec lynx serve "$@") &
-service=$! dir=$2 status=0
+service=$! dir=$2 status=0 asked=
 # shellcheck disable=SC2317  # the trap calls it
 shut() {
+    # Asked once: a service that ends answers nobody, and a second signal must not end its audit.
+    [ -z "$asked" ] || return
+    asked=1
     for _ in $(seq 120); do
         echo shut | lynx ask "$dir" > /dev/null 2>&1 && return
         kill -0 "$service" 2> /dev/null || return
@@ -18,4 +21,8 @@ while kill -0 "$service" 2> /dev/null; do
     wait "$service"
     status=$?
 done
+# One that ended while the trap ran was reaped there, and the shell still has its status.
+wait "$service" 2> /dev/null
+last=$?
+[ "$last" = 127 ] || status=$last
 exit "$status"

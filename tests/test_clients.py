@@ -361,19 +361,19 @@ ASKED_HINTS = [
     ("lok 0:0 1", """  standard input:2: lok 0:0 1
                     ^^^
   no line of what is asked begins with lok; did you mean look?
-  what can stand here: begin, look, quit, shut
+  what can stand here: begin, look, read, find, quit, shut
 """),
     ("deliver 0:0 1", """  standard input:2: deliver 0:0 1
                     ^^^^^^^
   no line of what is asked begins with deliver; one of scripts does
-  what can stand here: begin, look, quit, shut
+  what can stand here: begin, look, read, find, quit, shut
 """),
     ("pay 30", """  standard input:2: pay 30
                     ^^^
   no line of what is asked begins with pay
   pay is a program: a begin asks for a chain of it
   the line is: begin CLIENT NUMBER PROGRAM ARG..
-  what can stand here: begin, look, quit, shut
+  what can stand here: begin, look, read, find, quit, shut
 """),
 ]
 

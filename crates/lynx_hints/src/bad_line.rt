@@ -28,7 +28,7 @@ pub(crate) fn put_bad_line(out: &mut String, site: &Site<'_>) -> Marked {
         (1, Some(verb)) => put_misplaced(out, site, verb)?,
         (_, Some(Verb::Let)) => put_operator(out, site.word)?,
         (_, Some(Verb::Need)) => put_relation(out, site.word)?,
-        (_, Some(Verb::Range)) => put_interval(out, site.word)?,
+        (_, Some(Verb::Range | Verb::Read)) => put_interval(out, site.word)?,
         (_, Some(_)) => {
             write!(out, "  {} is no chain: ", site.word)?;
             out.push_str("one is ORIGIN:INDEX, as 0:3, with one colon\n")?;

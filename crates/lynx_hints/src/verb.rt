@@ -38,13 +38,15 @@ pub(crate) enum Verb {
     /// A begin without its server.
     Request,
     Look,
+    Read,
+    Find,
     Quit,
     Shut,
 }
 
 /// The words of the line of each verb, and how many there are; at least, where the line is open.
 /// Those of a set stand in the order in which they are told.
-pub(crate) const LINES: [(Verb, &str, usize); 23] = [
+pub(crate) const LINES: [(Verb, &str, usize); 25] = [
     (Verb::Servers, "servers N", 2),
     (Verb::Table, "table NAME", 2),
     (Verb::Shard, "shard LO HI SERVER", 4),
@@ -74,6 +76,8 @@ pub(crate) const LINES: [(Verb, &str, usize); 23] = [
         "look ORIGIN:INDEX HOP, with wait behind it or without",
         3,
     ),
+    (Verb::Read, "read TABLE KEY, or FROM..TO for KEY", 3),
+    (Verb::Find, "find CLIENT NUMBER", 3),
     (Verb::Quit, "quit", 1),
     (Verb::Shut, "shut", 1),
 ];
@@ -125,7 +129,9 @@ impl Verb {
         match self {
             Verb::Begin | Verb::Deliver | Verb::Lose | Verb::Wake | Verb::Restart =>
                 LineKind::Script,
-            Verb::Request | Verb::Look | Verb::Quit | Verb::Shut => LineKind::Asked,
+            Verb::Request | Verb::Look | Verb::Read | Verb::Find | Verb::Quit | Verb::Shut => {
+                LineKind::Asked
+            }
             _ => LineKind::Set,
         }
     }
@@ -158,7 +164,7 @@ impl Verb {
         match (self, word) {
             (Verb::Hop, _) => Role::Server,
             (_, 2) if self.has_chain() || self.kind() == LineKind::Script => Role::Server,
-            (Verb::Get, 3) => Role::Table,
+            (Verb::Read, 2) | (Verb::Get, 3) => Role::Table,
             (Verb::Get, 4) => Role::Key,
             (Verb::Let, 3 | 5) | (Verb::Need, 2 | 4) => Role::Value,
             (_, 2) if self.is_update() => Role::Table,

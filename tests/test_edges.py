@@ -10,6 +10,7 @@ import resource
 import shutil
 import signal
 import socket
+import sqlite3
 import subprocess
 import time
 
@@ -311,6 +312,54 @@ def test_folder_gone_in_the_end(tally, program, room):
             bank.shut()
         out, fault, status = service.end()
         tally.is_same("its end", (out[:13], fault, status), ("closed\norder ", "lynx: store 0: gone\n", 4))
+
+
+def test_order_of_folder_gone(tally, program, room):
+    """The order goes to its file all the same."""
+    order = room.file("order", "order 7:7\n")
+    with Watched(program, room, "--order", order) as service:
+        with lynx.Client(service.port, set_text=PAYMENT, client=1, first=1) as bank:
+            bank.begin("seed", 5)
+            move(room.stores, None)
+            bank.shut()
+        tally.is_same("its end", service.end(), ("closed\n", "lynx: store 0: gone\n", 4))
+    with open(order, encoding="ascii") as file:
+        tally.is_same("the order", file.read(), "order 0:0\n")
+
+
+def test_unentered(tally, program, room):
+    """A folder that leads nowhere is not one whose books are closed."""
+    loop = os.path.join(room.path, "loop")
+    os.symlink(loop, loop)
+    for words in (["run", "--stores", loop, room.set, "/dev/null"], ["serve", room.set, loop, str(free_port())], ["extend", loop, room.set]):
+        tally.is_same(words[0], end_of([program, *words]), ("", "lynx: store 0: store\n", 4))
+
+
+def test_no_second_folder(tally, program, room):
+    """A variable that isn't set in the place of the second folder: no store is made in the root."""
+    told = end_of([program, "serve", room.set, room.stores, str(free_port()), "--copy", ""])
+    tally.is_same("refused", told, ("", "lynx: copy 0: store\n", 4))
+    tally.is_same("stores in the root", [name for name in os.listdir("/") if "server-" in name], [])
+
+
+def test_silent_service(tally, program, room):
+    """A service that hangs: who asks it waits as long as a client does."""
+    with socket.create_server(("127.0.0.1", 0)) as silent:
+        since = time.monotonic()
+        told = end_of([program, "ask", room.set, str(silent.getsockname()[1])], "begin 1 1 seed 5\n")
+        tally.is_same("told", told, ("", "lynx: connection lost\n", 4))
+        tally.holds("after half a minute", 25 < time.monotonic() - since < 60)
+
+
+def test_reader_beside(tally, program, room):
+    """A program that only reads a store keeps it from being opened, and that is what is told."""
+    stored(program, room, WORKED)
+    path = os.path.join(room.stores, "server-0.lynx")
+    with contextlib.closing(sqlite3.connect(path)) as base:
+        base.execute("BEGIN")
+        base.execute("SELECT count(*) FROM entry").fetchall()
+        told = end_of([program, "serve", "--hints", room.set, room.stores, str(free_port())])
+        tally.is_same("told", told, ("", f"lynx: store 0: store\n  {path}: another process has it open\n", 4))
 
 
 @pytest.mark.parametrize("change", ("removed", "moved", "emptied", "rewritten"))

@@ -326,6 +326,13 @@ def test_served(tally, program):
             tally.is_same("its end", service.end(), ("closed\norder 0:0 0:1 0:2\n", "", 0))
 
 
+def scribble(store, page):
+    """Other bytes in a page of a store."""
+    with open(store, "r+b") as file:
+        file.seek(page * 4096)
+        file.write(random.Random(page).randbytes(4096))
+
+
 def hurt(store, statement):
     """Changes rows of a store behind its back."""
     with contextlib.closing(sqlite3.connect(store)) as base, base:
@@ -348,6 +355,8 @@ def test_longest(tally, program):
             for store, how in hurts:
                 if how is None:
                     os.remove(store)
+                elif callable(how):
+                    how(store)
                 else:
                     hurt(store, how)
             before = files(copies)
@@ -372,6 +381,11 @@ def test_longest(tally, program):
         restores("a missing copy", ((second, None),), "restored 0 3 of 3\nrestored 1 0 of 0\n", "", damaged(1))
         restores("the first is missing", ((first, None),),
                  "restored 0 0 of 0\nrestored 1 0 of 2\n", undone(1) + undone(2), "lynx: store 0: store\n")
+        lost = "restored 0 3 of 3\nrestored 1 0 of 0\n"
+        restores("a copy that is cut", ((second, lambda store: os.truncate(store, 12288)),), lost, "", "lynx: store 1: store\n")
+        for page in range(1, os.path.getsize(os.path.join(room.stores, "server-1.lynx")) // 4096):
+            restores(f"page {page} has other bytes", ((second, lambda store, page=page: scribble(store, page)),), lost, "", "lynx: store 1: store\n")
+        os.remove(first)
         os.remove(second)
         shutil.rmtree(new)
         os.mkdir(new)

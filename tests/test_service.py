@@ -10,7 +10,7 @@ import time
 import urllib.request
 
 import pytest
-from serving import PAYMENT, Line, Room, Service, Strain, WatchedService, end_of, free_port, stored, wait_until
+from serving import PAYMENT, Line, Room, Service, Strain, WatchedService, end_of, files, free_port, stored, wait_until
 import lynx
 
 SHUT, BYE = bytes.fromhex("0400000000"), bytes.fromhex("1300000000")
@@ -370,3 +370,11 @@ def test_no_such_file(tally, program, room, word):
         told = end_of([*words[:2], "--hints", *words[2:]])
         tally.is_same("its cause", told, ("", f"lynx: cannot write {name}\n{cause}", 4))
     tally.is_same("nothing is made", os.listdir(room.stores), [])
+    with Service(program, room) as service, lynx.Client(room.stores) as bank:
+        bank.begin("seed", 100)
+        bank.shut()
+        service.end()
+    before = files(room.stores)
+    for name in (room.set, os.path.join(room.stores, "server-0.lynx")):
+        tally.is_same(name, end_of([*words[:2], word, name, room.set, room.stores, words[-1]]), ("", f"lynx: cannot write {name}\n", 4))
+    tally.is_same("a set and a store stay", (files(room.stores), text_in(room.set)), (before, PAYMENT))

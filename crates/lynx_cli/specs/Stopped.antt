@@ -86,6 +86,7 @@ rerun_fault (rerun.Apart fault) = serving_fault (apart_fault fault)
 abbrev pub copy_fault : CopyFault → StoreFault
 copy_fault copy.Unread = store.Store
 copy_fault copy.Damaged = store.Damaged
+copy_fault copy.Broken = store.Store
 copy_fault copy.Store = store.Store
 copy_fault copy.Memory = store.Memory
 

@@ -21,6 +21,7 @@ use std::alloc::Global;
 use std::fs;
 use std::io::{BufRead, BufReader, ErrorKind, Read, Write};
 use std::net::{Net, TcpListener, TcpStream};
+use std::time::Duration;
 
 /// How hints name standard input.
 const STANDARD_INPUT: &str = "standard input";
@@ -213,6 +214,22 @@ fn ask_by<'a, R: Net<Listener = TcpListener, Stream = TcpStream>, S: Read + Writ
     done
 }
 
+/// Seconds for which an answer is waited for, as the clients do: a service that hangs is told like
+/// one that hung up.
+const MAX_WAITING_SECONDS: u64 = 30;
+
+/// A connection to the service that listens at the port.
+fn connected_to<'a, R: Net<Listener = TcpListener, Stream = TcpStream>>(
+    host: &HostRuntime,
+    rt: &R,
+    port: u16,
+    hints: &mut Hints,
+) -> Result<TcpStream, Fault<'a>> {
+    let stream = connected(host, rt, port, hints)?;
+    let _ = stream.set_read_timeout(Some(Duration::from_secs(MAX_WAITING_SECONDS)));
+    Ok(stream)
+}
+
 /// Asks the service at the port what the lines of standard input ask.
 fn ask_at<'a, R: Net<Listener = TcpListener, Stream = TcpStream>, W: Write>(
     host: &HostRuntime,
@@ -221,7 +238,7 @@ fn ask_at<'a, R: Net<Listener = TcpListener, Stream = TcpStream>, W: Write>(
     hints: &mut Hints,
     writer: &mut W,
 ) -> Result<u8, Fault<'a>> {
-    let stream = connected(host, service.rt, port, hints)?;
+    let stream = connected_to(host, service.rt, port, hints)?;
     ask_by(host, service, stream, hints, writer)
 }
 
@@ -301,7 +318,7 @@ pub(crate) fn ask_folder<'a, R: Net<Listener = TcpListener, Stream = TcpStream>,
     if let Some(status) = notice.status {
         compare_sets(host, rt, &set, status, hints)?;
     }
-    let stream = connected(host, rt, notice.port, hints)?;
+    let stream = connected_to(host, rt, notice.port, hints)?;
     if !are_held(host, folder) {
         hints.note_left_over(host.alloc(), folder);
         return Err(Fault::NoService);

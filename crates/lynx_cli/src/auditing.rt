@@ -43,7 +43,7 @@ fn fault_of_copy(fault: CopyFault) -> StoreFault
     ensures { result ≡ copy_fault fault }
 {
     match fault {
-        CopyFault::Unread | CopyFault::Store => StoreFault::Store,
+        CopyFault::Unread | CopyFault::Broken | CopyFault::Store => StoreFault::Store,
         CopyFault::Damaged => StoreFault::Damaged,
         CopyFault::Memory => StoreFault::Memory,
     }

@@ -194,15 +194,15 @@ pub(crate) fn forget_unfinished<'a>(host: &HostRuntime, folder: &str) -> Result<
     remove_in(host, folder, "books.new")
 }
 
-/// Whether the books of the folder are open. Where that can't be seen they are taken as closed. A
-/// file in the place of a folder closes none: whoever opens its stores tells so.
+/// Whether the books of the folder are open. Where that can't be seen, as in a folder that this
+/// user can't enter, whoever opens its stores tells why: each opening looks for that file too.
 pub(crate) fn check_open<'a>(host: &HostRuntime, folder: &str) -> Result<(), Fault<'a>> {
     let Ok(path) = path_in(host.alloc(), folder, CLOSED) else {
         return Err(Fault::Memory);
     };
     match fs::symlink_metadata(host, path.as_str()) {
-        Err(error) if is_absence(error.kind()) => Ok(()),
-        _ => Err(Fault::Closed),
+        Ok(_) => Err(Fault::Closed),
+        Err(_) => Ok(()),
     }
 }
 

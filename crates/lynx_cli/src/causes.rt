@@ -39,7 +39,13 @@ fn cause_of_lock(
     file: &str,
     opened: &fs::File,
 ) -> Result<Option<String>, AllocError> {
-    if os::try_lock_range(opened.as_raw_fd(), RangeLock::Shared, LOCKED, LOCKED_BYTES) == 0 {
+    if os::try_lock_range(
+        opened.as_raw_fd(),
+        RangeLock::Exclusive,
+        LOCKED,
+        LOCKED_BYTES,
+    ) == 0
+    {
         return Ok(None);
     }
     let error = io::Error::from_raw_os_error(os::errno());
@@ -152,7 +158,7 @@ fn cause_at(host: &HostRuntime, alloc: Global, file: &str) -> Result<String, All
         return Ok(cause);
     }
     let words =
-        " opens, and no other process has it open: the disk fails, or its bytes are no database's";
+        " opens, and no other process has it open: the disk fails, its pages are broken, or it has a second name";
     line_of(alloc, file, words)
 }
 

@@ -1,7 +1,6 @@
 //! The folder that is to follow a service.
 use crate::fault::Fault;
-use lynx_names::ServerId;
-use lynx_service::ServeFault;
+use lynx_service::{CopyWord, ServeFault};
 use std::fs;
 use std::os::unix::fs::MetadataExt;
 
@@ -14,14 +13,19 @@ fn is_same_folder(rt: &HostRuntime, folder: &str, other: &str) -> bool {
     }
 }
 
-/// Whether the folder that is to follow, if one is, is another than that of the service: else the
-/// stores of the one would be written as those of the other.
+/// Whether the folder that is to follow, if one is, has a name, and is another than that of the
+/// service: else the stores of the one would be written as those of the other. The stores of a
+/// folder without a name would be those of the root.
 pub(crate) fn check_apart<'a>(
     rt: &HostRuntime,
     folder: &str,
     copy: Option<&str>,
 ) -> Result<(), Fault<'a>> {
     match copy {
+        Some("") => Err(Fault::of_serving(ServeFault::Copy {
+            server: 0,
+            word: CopyWord::Store,
+        })),
         Some(copy) if is_same_folder(rt, folder, copy) => {
             Err(Fault::of_serving(ServeFault::SameFolder))
         }

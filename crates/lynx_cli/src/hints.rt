@@ -66,14 +66,14 @@ fn reading_error<R: Files + AllocGlobal>(rt: &R, name: &str) -> Option<io::Error
     }
 }
 
-/// The error with which a file can't be opened to be written. A pipe isn't opened, which would
-/// wait.
+/// The error with which a file can't be opened, or made, to be written. A pipe isn't opened, which
+/// would wait.
 fn writing_error<R: Files + AllocGlobal>(rt: &R, name: &str) -> Option<io::Error> {
     if is_named_pipe(rt, name) {
         return None;
     }
     let mut options = OpenOptions::new();
-    options.write(true);
+    options.write(true).create(true);
     options.open(rt, name).err()
 }
 

@@ -27,7 +27,7 @@ pub(crate) struct Found {
 }
 
 /// A copy of the store of that server in the folder. None where it isn't there, or is no
-/// database's.
+/// database's, or a page of it can't be read.
 fn copy_of<'a, C, S: Copies<C>>(
     alloc: Global,
     copies: &S,
@@ -44,7 +44,7 @@ fn copy_of<'a, C, S: Copies<C>>(
     };
     match copies.copy(path.as_str()) {
         Ok(copy) => Ok(Some(copy)),
-        Err(CopyFault::Unread | CopyFault::Damaged) => Ok(None),
+        Err(CopyFault::Unread | CopyFault::Damaged | CopyFault::Broken) => Ok(None),
         Err(CopyFault::Store) => Err(Fault::of_store(server, StoreFault::Store)),
         Err(CopyFault::Memory) => Err(Fault::Memory),
     }

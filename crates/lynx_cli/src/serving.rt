@@ -11,7 +11,7 @@ ghost use Rattle.lynx_cli.specs.Stopped.{StopsJudging};
 use crate::copied::check_apart;
 use crate::fault::Fault;
 use crate::hints::{Hints, Named};
-use crate::order_file::OrderFile;
+use crate::order_file::{OrderFile, is_needed};
 use crate::reading::text_of;
 use crate::shown::Shown;
 use crate::texts::{DONE, OFFENDING};
@@ -21,7 +21,7 @@ use lynx_keep::BatchKeeper;
 use lynx_notice::NoticeFile;
 use lynx_order::Explained;
 use lynx_service::{
-    Log, LogFault, LogPlace, Progress, ServeFault, Service, StatusPort, serve_stores,
+    Ended, Log, LogFault, LogPlace, Progress, ServeFault, Service, StatusPort, serve_stores,
 };
 use lynx_set::ChainSet;
 use lynx_sql::Rising;
@@ -104,8 +104,13 @@ fn log_place<'b>(flags: ServeFlags<'b>) -> LogPlace<'b> {
     }
 }
 
-/// The log of a service.
+/// The log of a service. No store and no set takes it.
 fn log_of<'a>(host: &HostRuntime, flags: ServeFlags<'a>) -> Result<Log, Fault<'a>> {
+    if let Some(name) = flags.log_file {
+        if is_needed(host, name) {
+            return Err(Fault::Unwritten(Shown { name }));
+        }
+    }
     match (Log::new(*host, log_place(flags)), flags.log_file) {
         (Ok(log), _) => Ok(log),
         (Err(LogFault::File), Some(name)) => Err(Fault::Unwritten(Shown { name })),
@@ -168,7 +173,7 @@ fn status_of_order(explained: &Explained) -> u8
 }
 
 /// Serves clients over an accepted set, until one of them asks for the end. It gives the status,
-/// and what explains all that was done.
+/// what explains all that was done, and what a store lacks all the same.
 fn serve_accepted<
     R: Host + Net<Listener = TcpListener, Stream = TcpStream>,
     K: BatchKeeper + Send + Drop + 'static,
@@ -183,10 +188,10 @@ fn serve_accepted<
     service: Service<'_>,
     log: &Log,
     writer: &mut W,
-) -> Result<(u8, Explained), ServeFault>
+) -> Result<(u8, Ended), ServeFault>
     requires accepts { Accepts text.now set.now }
     ensures { IfOk result (λ ended. HasServedText K.terms S.store_terms service.entry.folder.now
-        service.entry.is_order_apart text.now ended.1 (W.contents writer.old)
+        service.entry.is_order_apart text.now ended.1.explained (W.contents writer.old)
         (W.contents writer.new) ended.0) }
 {
     let progress = Progress::new(host, log);
@@ -196,10 +201,10 @@ fn serve_accepted<
         set: text,
     };
     let alloc = host.alloc();
-    let explained = serve_stores(
+    let ended = serve_stores(
         rt, alloc, set, stores, service, writer, &progress, &notice, log,
     )?;
-    Ok((status_of_order(&explained), explained))
+    Ok((status_of_order(&ended.explained), ended))
 }
 
 /// Why a service couldn't be, or didn't end well, which is noted.
@@ -254,15 +259,19 @@ fn serve_set<
     let service = service_of(host, place, flags)?;
     let log = log_of(host, flags)?;
     let order = order_file(host, flags)?;
-    match serve_accepted(host, rt, stores, text, set, service, &log, writer) {
-        Ok((status, explained)) => {
+    let fault = match serve_accepted(host, rt, stores, text, set, service, &log, writer) {
+        Ok((status, ended)) => {
             if let Some(order) = order {
-                order.write(host.alloc(), &explained)?;
+                order.write(host.alloc(), &ended.explained)?;
             }
-            Ok(status)
+            match ended.lacks {
+                Some(fault) => fault,
+                None => return Ok(status),
+            }
         }
-        Err(fault) => Err(noted_fault(host, &rt, stores, set, service, fault, hints)),
-    }
+        Err(fault) => fault,
+    };
+    Err(noted_fault(host, &rt, stores, set, service, fault, hints))
 }
 
 /// Serves clients over the set of a file, until one of them asks for the end. An offending set is

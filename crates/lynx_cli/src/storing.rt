@@ -24,13 +24,14 @@ fn uncopied<'a>(store: &'a str, fault: CopyFault) -> Fault<'a>
     ensures unread { fault ≡ CopyFault.Unread → result ≡ Fault.Unread
         (record { name = store.entry }) }
     ensures damaged { fault ≡ CopyFault.Damaged → result ≡ Fault.Store ShowFault.Damaged }
+    ensures broken { fault ≡ CopyFault.Broken → result ≡ Fault.Store ShowFault.Store }
     ensures store { fault ≡ CopyFault.Store → result ≡ Fault.Store ShowFault.Store }
     ensures memory { fault ≡ CopyFault.Memory → result ≡ Fault.Memory }
 {
     match fault {
         CopyFault::Unread => Fault::of_reading(store, InputFault::Read),
         CopyFault::Damaged => Fault::Store(ShowFault::Damaged),
-        CopyFault::Store => Fault::Store(ShowFault::Store),
+        CopyFault::Broken | CopyFault::Store => Fault::Store(ShowFault::Store),
         CopyFault::Memory => Fault::Memory,
     }
 }

@@ -14,7 +14,7 @@ pub use limits::{
 };
 pub use log::{Log, LogFault, LogPlace};
 pub use progress::Progress;
-pub use service::{Service, StatusPort, serve_stores};
+pub use service::{Ended, Service, StatusPort, serve_stores};
 pub use store_files::StoreFiles;
 
 mod accepting;

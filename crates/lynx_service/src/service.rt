@@ -1,5 +1,5 @@
 //! A service, from its stores to its audit.
-ghost use Rattle.std.specs.Prelude.{◌≡◌, List, IfErr, IfOk, OnOk};
+ghost use Rattle.std.specs.Prelude.{◌≡◌, List, IfErr, IfOk, IfSome, OnOk};
 ghost use Rattle.lynx_cluster.specs.Starting.{AreOpened};
 ghost use Rattle.lynx_store_files.specs.Folders.{StandIn};
 ghost use Rattle.lynx_weave.specs.Senders.{AreAllSent};
@@ -232,19 +232,29 @@ fn finish<R: Host, K: BatchKeeper + Send + Drop, S: Stores<K>>(
     }
 }
 
+/// How a service ended: what explains all that its stores hold, and what is wrong with a file of
+/// theirs, or of the folder that follows.
+#[derive(Drop)]
+pub struct Ended {
+    pub explained: Explained,
+    pub lacks: Option<ServeFault>,
+}
+
 /// Looks once more whether all stores are where their names lead, now that nothing more is stored.
 /// The first that isn't is told, or else what is wrong with the folder that follows.
-fn check_kept<R: Host>(
+fn lacking<R: Host>(
     rt: &R,
     files: &StoreFiles,
     log: &Log,
     copied: Result<(), ServeFault>,
-) -> Result<(), ServeFault>
+) -> Option<ServeFault>
     requires { IfErr copied IsPlain }
-    ensures { IfErr result IsPlain }
+    ensures { IfSome result IsPlain }
 {
-    files.check(rt, log)?;
-    copied
+    match (files.check(rt, log), copied) {
+        (Err(fault), _) | (Ok(()), Err(fault)) => Some(fault),
+        (Ok(()), Ok(())) => None,
+    }
 }
 
 /// Serves clients over the stores of a folder, until one of them asks for the end: opens the stores
@@ -253,7 +263,8 @@ fn check_kept<R: Host>(
 /// writes `listening 127.0.0.1:PORT`, and where its status is told `status 127.0.0.1:PORT`; takes
 /// the notice away as soon as a shut was read; and writes in the end `closed` and the line
 /// of the order that explains all that the stores hold, or of a cycle, unless that goes apart. It
-/// gives that order or cycle. docs/FORMATS.md has what clients send and are sent,
+/// gives that order or cycle, and what a store, or one of the folder that follows, lacks all the
+/// same. docs/FORMATS.md has what clients send and are sent,
 /// [`limits`](crate::limits) what a client may cost. The set is not judged.
 ///
 /// Stores that no one run left together are a mismatch, before anybody is served: one that is an
@@ -265,12 +276,11 @@ fn check_kept<R: Host>(
 /// all of it. A store there that isn't of this set, or keeps what its server didn't do, is told
 /// before anybody is served, and left as it is. One that fails later is told in the log, and opened
 /// again a minute later; the service goes on. One that isn't paused and lacks something in the end
-/// is told behind all that is written.
+/// is told ([`Ended::lacks`]).
 ///
 /// Each second it is looked whether the names of the stores still lead to the files that it serves.
-/// Once one doesn't, each begin is answered that its server stopped, and in the end that is told
-/// behind all that is written; so it is of a store of the folder that follows, which follows no
-/// more.
+/// Once one doesn't, each begin is answered that its server stopped, and in the end that is told;
+/// so it is of a store of the folder that follows, which follows no more.
 ///
 /// The close takes about as long, and as much memory, as opening the stores did; the answers of a
 /// session, and what its looks found, are kept until then.
@@ -289,9 +299,11 @@ pub fn serve_stores<
     progress: &Progress<'_>,
     notice: &NoticeFile<'_>,
     log: &Log,
-) -> Result<Explained, ServeFault>
-    ensures served { IfOk result (HasServed K.terms S.store_terms service.entry.folder.now
-        service.entry.is_order_apart set.now (W.contents writer.old) (W.contents writer.new)) }
+) -> Result<Ended, ServeFault>
+    ensures served { IfOk result (λ ended. HasServed K.terms S.store_terms service.entry.folder.now
+        service.entry.is_order_apart set.now (W.contents writer.old) (W.contents writer.new)
+        ended.explained) }
+    ensures lacks { IfOk result (λ ended. IfSome ended.lacks IsPlain) }
     ensures fails { IfErr result (FailsToServe K.terms S.store_terms service.entry.folder.now
         set.now (W.contents writer.old) (W.contents writer.new)) }
 {
@@ -325,8 +337,8 @@ pub fn serve_stores<
         Ok(closed) => {
             log.audited(true, took);
             let explained = end(alloc, stores, closed, service.is_order_apart, writer)?;
-            check_kept(&rt, &files, log, copied)?;
-            Ok(explained)
+            let lacks = lacking(&rt, &files, log, copied);
+            Ok(Ended { explained, lacks })
         }
         Err(fault) => {
             log.audited(false, took);

@@ -11,7 +11,7 @@ use crate::heads::{FILE_HEAD, is_database};
 use crate::presence::log_path;
 use lynx_store::StoreFault;
 use os::RangeLock;
-use sqlite::{Connection, FileStore, Files, Options};
+use sqlite::{Connection, Error, ErrorCode, FileStore, Files, Options};
 use sqlite_disk::{Disk, Memory};
 use std::alloc::Global;
 use std::fs::{File, OpenOptions};
@@ -20,7 +20,6 @@ use std::os::fd::AsRawFd;
 use std::os::unix::fs::MetadataExt;
 use std::path::PathBuf;
 use std::{fs, io};
-use thiserror::Error;
 
 /// The database of a store, in memory.
 pub type StoreCopy = Connection<FileStore<Memory>>;
@@ -41,11 +40,12 @@ pub trait Copies<C> {
     fn copy(&self, path: &str) -> Result<C, CopyFault>
         ensures copied { IfOk result (copied_from path.now) }
         ensures unread { IsErrOf result CopyFault.Unread → uncopied path.now }
-        ensures damaged { IsErrOf result CopyFault.Damaged → uncopied path.now };
+        ensures damaged { IsErrOf result CopyFault.Damaged → uncopied path.now }
+        ensures broken { IsErrOf result CopyFault.Broken → uncopied path.now };
 }
 
 /// Why a store was not copied.
-#[derive(Clone, Copy, Debug, PartialEq, Eq, Error)]
+#[derive(Clone, Copy, Debug, PartialEq, Eq, thiserror::Error)]
 pub enum CopyFault {
     /// There is no regular file, or it can't be read.
     #[error("cannot read")]
@@ -53,8 +53,10 @@ pub enum CopyFault {
     /// The file is no database's.
     #[error("no database")]
     Damaged,
-    /// Somebody else has the store open, the file or its log has a second name, or the database
-    /// failed.
+    /// The file is a database's, and a page of it can't be read: it is cut, or has other bytes.
+    #[error("a broken database")]
+    Broken,
+    /// Somebody else has the store open, or the file or its log has a second name.
     #[error("the store failed")]
     Store,
     #[error("out of memory")]
@@ -103,6 +105,14 @@ fn file_of(alloc: Global, bytes: &[u8]) -> Result<Memory, CopyFault>
     }
 }
 
+/// Why a database in memory can't be opened: want of memory, or else what it is.
+fn fault_of_database(error: &Error) -> CopyFault {
+    match error {
+        Error::SqliteFailure(ErrorCode::OutOfMemory) => CopyFault::Memory,
+        _ => CopyFault::Broken,
+    }
+}
+
 /// The database that a file and its log of these bytes are.
 fn copy_of(alloc: Global, file: &[u8], log: &[u8]) -> Result<StoreCopy, CopyFault>
     ensures { IfOk result (λ copy. HasCleanDisk (file_state copy)
@@ -115,7 +125,7 @@ fn copy_of(alloc: Global, file: &[u8], log: &[u8]) -> Result<StoreCopy, CopyFaul
     // The number is for the salts of what would be written.
     match Connection::open_files(alloc, files, Options::new(1)) {
         Ok(copy) => Ok(copy),
-        Err(_) => Err(CopyFault::Store),
+        Err((error, _)) => Err(fault_of_database(&error)),
     }
 }
 

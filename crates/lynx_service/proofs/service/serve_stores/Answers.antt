@@ -51,11 +51,6 @@ returns-in_err-explained-in-Ok-clause-fails g c =
     passed_on (FailsToServe g.K.Keeper.terms g.S.Stores.store_terms c.args.service.folder.now c.args.set.now (g.W.Write.contents c.args.writer.now) (g.W.Write.contents c.end.new.writer))
     c.from_residual-in_err-explained-in-Ok.result c.in_err-explained-in-Ok.field-0.0 c.from_residual-in_err-explained-in-Ok.ensures.1 (inr (inr c.in_err-explained-in-Ok.ensures.plain))
 
-pub returns-in_err-check_kept-in-Ok-clause-fails : goal.returns-in_err-check_kept-in-Ok-clause-fails
-returns-in_err-check_kept-in-Ok-clause-fails g c =
-    passed_on (FailsToServe g.K.Keeper.terms g.S.Stores.store_terms c.args.service.folder.now c.args.set.now (g.W.Write.contents c.args.writer.now) (g.W.Write.contents c.end.new.writer))
-    c.from_residual-in_err-check_kept-in-Ok.result c.in_err-check_kept-in-Ok.field-0.0 c.from_residual-in_err-check_kept-in-Ok.ensures.1 (inr (inr c.in_err-check_kept-in-Ok.ensures))
-
 pub returns-clause-fails : goal.returns-clause-fails
 returns-clause-fails g c =
     let all = c.in_ok-opened.ensures in
